@@ -1,0 +1,6 @@
+-- A choice by a test.
+use mathlib.Core.Bool.{Bool, true, false}
+
+abbrev pub if {ℓ} : {A : Type ℓ} → Bool → A → A → A
+if true a b = a
+if false a b = b

@@ -1,0 +1,49 @@
+-- Refusals: their numbers, and the first that applies. Document 01, "Turned back for the input", "Turned back for the state", and
+-- "Order: -4101, -4102, input list, -4104, -1, -4110, -4105, each where it applies".
+use mathlib.Core.Bool.{Bool, true, false, not, _||_}
+use mathlib.Core.List.{List, [], _∷_}
+use Prim.Native.Nat.{ℕ, _-_, _%_, _^_}
+use lib.Dec.{ltb, eqb}
+use Rattle.cell.specs.Choice.{if}
+use Rattle.cell.specs.declared.Refusal.{Refusal}
+use Rattle.cell.specs.declared.Refusal.the-variants.{MemoryLength, ByteOrder, Header, FileLength, Unaligned, Outside, ShortOutput, ItemCount, Kind, PlainOperand, Target, Base}
+use Rattle.cell.specs.declared.Judged.{Judged}
+use Rattle.cell.specs.declared.Judged.the-variants.{Passed, Refused}
+
+-- the number of each refusal, as a cell in two's complement
+abbrev pub refusalNumber : Refusal → ℕ
+refusalNumber MemoryLength = 2 ^ 32 - 4101
+refusalNumber ByteOrder = 2 ^ 32 - 4102
+refusalNumber Header = 2 ^ 32 - 2
+refusalNumber FileLength = 2 ^ 32 - 4103
+refusalNumber Unaligned = 2 ^ 32 - 4104
+refusalNumber Outside = 2 ^ 32 - 1
+refusalNumber ShortOutput = 2 ^ 32 - 4105
+refusalNumber ItemCount = 2 ^ 32 - 4106
+refusalNumber Kind = 2 ^ 32 - 4107
+refusalNumber PlainOperand = 2 ^ 32 - 4108
+refusalNumber Target = 2 ^ 32 - 4109
+refusalNumber Base = 2 ^ 32 - 4110
+
+-- a refusal, with whether it applies
+pub record Ground : Type 0 where
+  pub applies : Bool
+  pub refusal : Refusal
+
+-- the first that applies
+abbrev pub judge : List Ground → Judged
+judge [] = Passed
+judge (g ∷ gs) = if (g .applies) (Refused (g .refusal)) (judge gs)
+
+-- -4101: "MEMORY is the length of the lent memory: 1,024 to 16,777,216 bytes, a multiple of 4"
+abbrev pub memoryLength : ℕ → Ground
+memoryLength len =
+    record { applies = ltb len 1024 || (ltb 16777216 len || not (eqb (len % 4) 0)); refusal = MemoryLength }
+
+-- -4102: "byte order argument above 1"
+abbrev pub byteOrder : ℕ → Ground
+byteOrder order = record { applies = ltb 1 order; refusal = ByteOrder }
+
+-- what every call on a lent memory judges first
+unfoldable pub judgeMachine : ℕ → ℕ → Judged
+judgeMachine len order = judge (memoryLength len ∷ byteOrder order ∷ [])

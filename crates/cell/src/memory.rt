@@ -1,0 +1,55 @@
+// Cells in lent memory. A cell is loaded and stored least byte first, and its value is turned where the order is 1.
+ghost use mathlib.Core.Path.{_≡_};
+ghost use Prim.Native.Nat.{_+_, _≤_};
+ghost use lib.ListN.{length, set};
+ghost use Rattle.cell.specs.Memory as mem;
+
+fn join(a: u8, b: u8, c: u8, d: u8) -> u32
+    ensures { λ r. ⌜ r ≡ mem.joined 0 a b c d ⌝ }
+{
+    (a as u32) + (b as u32) * 256 + (c as u32) * 65536 + (d as u32) * 16777216
+}
+
+// The bytes of x in the other order, where the order is not 0.
+fn turn(order: u8, x: u32) -> u32
+    ensures { λ r. ⌜ r ≡ mem.joined order (mem.byte0 x) (mem.byte1 x) (mem.byte2 x) (mem.byte3 x) ⌝ }
+{
+    if order == 0 {
+        x
+    } else {
+        x % 256 * 16777216 + x / 256 % 256 * 65536 + x / 65536 % 256 * 256 + x / 16777216
+    }
+}
+
+fn load_least(memory: &[u8], at: usize) -> u32
+    requires { ⌜ at + 4 ≤ length (now memory) ⌝ }
+    ensures { λ r. ⌜ r ≡ mem.cellAt 0 (now (memory .entry)) at ⌝ }
+{
+    join(memory[at], memory[at + 1], memory[at + 2], memory[at + 3])
+}
+
+// The cell at a place inside memory.
+pub fn load(order: u8, memory: &[u8], at: usize) -> u32
+    requires { ⌜ at + 4 ≤ length (now memory) ⌝ }
+    ensures { λ r. ⌜ r ≡ mem.cellAt order (now (memory .entry)) at ⌝ }
+{
+    turn(order, load_least(memory, at))
+}
+
+fn store_least(memory: &mut [u8], at: usize, x: u32)
+    requires { ⌜ at + 4 ≤ length (now memory) ⌝ }
+    ensures { λ r. ⌜ now (memory .exit) ≡ mem.storeCell 0 (now (memory .entry)) at x ⌝ }
+{
+    memory[at] = (x % 256) as u8;
+    memory[at + 1] = (x / 256 % 256) as u8;
+    memory[at + 2] = (x / 65536 % 256) as u8;
+    memory[at + 3] = (x / 16777216) as u8;
+}
+
+// Memory with x at a place inside it.
+pub fn store(order: u8, memory: &mut [u8], at: usize, x: u32)
+    requires { ⌜ at + 4 ≤ length (now memory) ⌝ }
+    ensures { λ r. ⌜ now (memory .exit) ≡ mem.storeCell order (now (memory .entry)) at x ⌝ }
+{
+    store_least(memory, at, turn(order, x))
+}

@@ -1,0 +1,57 @@
+// The check of a place, and the fetch.
+ghost use mathlib.Core.Path.{_≡_};
+ghost use Prim.Native.Nat.{_%_};
+ghost use lib.ListN.{length};
+ghost use Rattle.cell.specs.Place as place;
+use crate::Address;
+use crate::Checked;
+use crate::Fault;
+use crate::Fetched;
+use crate::memory::load;
+
+pub fn check_byte(length: usize, address: Address) -> Checked
+    ensures { λ r. ⌜ r ≡ place.checkByte length (address .0) ⌝ }
+{
+    if (address.0 as usize) < length {
+        Checked::Good
+    } else {
+        Checked::Bad(Fault::Range(address))
+    }
+}
+
+pub fn check_cell(length: usize, address: Address) -> Checked
+    ensures { λ r. ⌜ r ≡ place.checkCell length (address .0) ⌝ }
+{
+    if (address.0 as usize) < length {
+        if address.0 % 4 == 0 {
+            Checked::Good
+        } else {
+            Checked::Bad(Fault::Alignment(address))
+        }
+    } else {
+        Checked::Bad(Fault::Range(address))
+    }
+}
+
+// The cell at an address, or the fault of its place.
+pub fn fetch_cell(order: u8, memory: &[u8], address: Address) -> Fetched
+    requires { ⌜ length (now memory) % 4 ≡ 0 ⌝ }
+    ensures { λ r. ⌜ r ≡ place.fetchCell order (now (memory .entry)) (address .0) ⌝ }
+{
+    match check_cell(memory.len(), address) {
+        Checked::Good => Fetched::Cell(load(order, memory, address.0 as usize)),
+        Checked::Bad(f) => Fetched::Failed(f),
+    }
+}
+
+pub fn fault_code(f: Fault) -> u32
+    ensures { λ r. ⌜ r ≡ place.faultCode f ⌝ }
+{
+    match f {
+        Fault::Range(_) => 0xFFFFFFF7,
+        Fault::Alignment(_) => 0xFFFFFFE9,
+        Fault::Divisor => 0xFFFFFFF6,
+        Fault::Illegal => 0xFFFFFF00,
+        Fault::Library => 0xFFFFFEFF,
+    }
+}
