@@ -108,3 +108,7 @@ pub store-bytewise : (order : ℕ) (m : List ℕ) (a x : ℕ) → Bytewise m →
 unfolding storeCell
 store-bytewise zero m a x low = put-bytewise m a (byte0 x) (byte1 x) (byte2 x) (byte3 x) low (omega arith) (omega arith) (omega arith) (omega arith)
 store-bytewise (suc order) m a x low = put-bytewise m a (byte3 x) (byte2 x) (byte1 x) (byte0 x) low (omega arith) (omega arith) (omega arith) (omega arith)
+
+pub alike-narrow : (lo hi hi2 : ℕ) (m m2 : List ℕ) → hi2 ≤ hi → Alike lo hi m m2 → Alike lo hi2 m m2
+unfolding Alike
+alike-narrow lo hi hi2 m m2 h f j u v = f j u (omega arith)

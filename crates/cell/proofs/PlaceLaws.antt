@@ -6,7 +6,7 @@ use native.Mathlib.Omega.{arith}
 use lib.Dec.{ltb, eqb}
 use borrow.Author.Tests.{ltb-true, eqb-true}
 use Rattle.cell.specs.Choice.{if}
-use Rattle.cell.specs.Place.{checkCell, address}
+use Rattle.cell.specs.Place.{checkByte, checkCell, address}
 use Rattle.cell.specs.declared.Checked.{Checked}
 use Rattle.cell.specs.declared.Checked.the-variants.{Good, Bad}
 use Rattle.cell.specs.declared.Fault.the-variants.{Range, Alignment}
@@ -28,3 +28,11 @@ good-place len a = go (ltb a len) (eqb (a % 4) 0) refl refl
 -- all four bytes of a cell at a good place are in memory
 pub room : (len a : ℕ) → len % 4 ≡ 0 → checkCell len a ≡ Good → a + 4 ≤ len
 room len a w e = let g = good-place len a e in omega (arith, g .inside, g .aligned)
+
+-- a good place of a byte is inside memory
+pub good-byte : (len a : ℕ) → checkByte len a ≡ Good → a < len
+good-byte len a = go (ltb a len) refl
+  where
+    go : (s : Bool) → ltb a len ≡ s → if s Good (Bad (Range (address a))) ≡ Good → a < len
+    go true p e = ltb-true a len p
+    go false p e = absurd (let z : _≡_ {A = ℕ} 0 1 = cc in omega arith)

@@ -1,0 +1,3 @@
+-- What each instruction asks for.
+pub mod Plain
+pub mod Taking

@@ -1,0 +1,94 @@
+-- The instructions that take an operand from the instruction stream, each in two forms: the operand in the cell at EP, or in what is left of A.
+-- For a branch the operand is the address it leads to; for a literal its value. The operand is given as the answer of a fetch.
+use mathlib.Core.Bool.{Bool, true, false, not, _&&_, _||_}
+use mathlib.Core.List.{List, [], _∷_}
+use Prim.Native.Nat.{ℕ, _+_, _*_, _%_, _^_}
+use lib.Dec.{eqb}
+use Rattle.cell.specs.Choice.{if}
+use Rattle.cell.specs.Number.{sum, difference, less}
+use Rattle.cell.specs.declared.Fetched.{Fetched}
+use Rattle.cell.specs.declared.Fetched.the-variants.{Cell, Failed}
+use Rattle.machine.specs.Places.{fetchOf}
+use Rattle.machine.specs.Effects.{cellStore, goOn, jump, Effect, act, raise, fetched}
+use Rattle.machine.specs.Commits.{Stepped, stepped}
+use Rattle.machine.specs.declared.Machine.{Machine}
+use Rattle.machine.specs.declared.Registers.{Registers}
+use Rattle.machine.specs.declared.Step.{Step}
+use Rattle.machine.specs.declared.Outcome.{Outcome}
+use Rattle.machine.specs.declared.Outcome.the-variants.{Went, Next, Raise, Halt, Throw}
+use Rattle.machine.specs.declared.Access.the-variants.{Stream, ReturnWrite}
+use Rattle.instruction.specs.Plain.{action, pushes, data1, return1, return2}
+use Rattle.instruction.specs.declared.Form.{Form}
+use Rattle.instruction.specs.declared.Form.the-variants.{InCell, Immediate}
+
+pub data Taking : Type 0 where
+  branch questionBranch call loop plusLoop literal : Taking
+
+-- (+LOOP) "ends exactly if old < limit ≤ new or new < limit ≤ old, as signed numbers"
+abbrev pub crosses : ℕ → ℕ → ℕ → Bool
+crosses old new limit = (less old limit && not (less new limit)) || (less new limit && not (less old limit))
+
+unfoldable pub takingOf : Machine → Taking → List ℕ → ℕ → ℕ → Fetched → ℕ → Effect
+-- 42h BRANCH ( -- )
+takingOf machine branch m sp rp operand after = fetched operand (λ to. action sp rp [] (jump to))
+-- 44h ?BRANCH ( flag -- ): taken where the flag is 0
+takingOf machine questionBranch m sp rp operand after =
+    data1 machine m sp
+    (λ x. if (eqb x 0) (fetched operand (λ to. action (sum sp 4) rp [] (jump to))) (action (sum sp 4) rp [] goOn))
+-- 48h CALL ( -- ) R: ( -- a-addr )
+takingOf machine call m sp rp operand after =
+    fetched operand (λ to. action sp (difference rp 4) (cellStore ReturnWrite (difference rp 4) after ∷ []) (jump to))
+-- 4Ch (LOOP) R: ( n1 n2 -- | n1 n3 ): "adds 1 to the index and ends when it equals the limit"
+takingOf machine loop m sp rp operand after =
+    return2 machine m rp
+    (λ limit index.
+    if (eqb (sum index 1) limit) (action sp (sum rp 8) [] goOn)
+    (fetched operand (λ to. action sp rp (cellStore ReturnWrite rp (sum index 1) ∷ []) (jump to))))
+-- 4Eh (+LOOP) ( n -- ) R: ( n2 n3 -- | n2 n4 )
+takingOf machine plusLoop m sp rp operand after =
+    data1 machine m sp
+    (λ n.
+    return2 machine m rp
+    (λ limit index.
+    if (crosses index (sum index n) limit) (action (sum sp 4) (sum rp 8) [] goOn)
+    (fetched operand (λ to. action (sum sp 4) rp (cellStore ReturnWrite rp (sum index n) ∷ []) (jump to)))))
+-- 52h (LITERAL) ( -- x )
+takingOf machine literal m sp rp operand after = fetched operand (λ x. pushes sp rp x)
+
+-- the operand in the immediate form: A for a literal, EP + 4 A for a branch
+abbrev pub immediateOf : Taking → ℕ → ℕ → ℕ
+immediateOf branch ep a = (ep + 4 * a) % 2 ^ 32
+immediateOf questionBranch ep a = (ep + 4 * a) % 2 ^ 32
+immediateOf call ep a = (ep + 4 * a) % 2 ^ 32
+immediateOf loop ep a = (ep + 4 * a) % 2 ^ 32
+immediateOf plusLoop ep a = (ep + 4 * a) % 2 ^ 32
+immediateOf literal ep a = a
+
+abbrev pub operandOf : Machine → Form → Taking → List ℕ → ℕ → ℕ → Fetched
+operandOf machine InCell t m ep a = fetchOf machine Stream m ep
+operandOf machine Immediate t m ep a = Cell (immediateOf t ep a)
+
+-- the address that a call leaves
+abbrev pub afterOf : Form → ℕ → ℕ
+afterOf InCell ep = sum ep 4
+afterOf Immediate ep = ep
+
+-- at the registers of a cycle, A shifted
+abbrev pub takingAt : Machine → Form → Taking → List ℕ → Registers → Effect
+takingAt machine form t m r =
+    takingOf machine t m (r .sp) (r .rp) (operandOf machine form t m (r .ep) (r .a)) (afterOf form (r .ep))
+
+-- where nothing was taken: past the operand cell; or NEXT, since the rest of A was the operand
+abbrev pub passed : Form → Registers → Step
+passed InCell r = record { registers = record { ep = sum (r .ep) 4; a = r .a; sp = r .sp; rp = r .rp }; outcome = Went }
+passed Immediate r = record { registers = r; outcome = Next }
+
+abbrev pub onward : Form → Step → Outcome → Step
+onward form s Went = passed form (s .registers)
+onward form s Next = s
+onward form s (Raise f) = s
+onward form s (Halt x) = s
+onward form s Throw = s
+
+abbrev pub onwardOf : Form → Step → Step
+onwardOf form s = onward form s (s .outcome)

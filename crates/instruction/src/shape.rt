@@ -1,0 +1,2 @@
+// Parts that many effects share.
+ghost use mathlib.Core.Path.{_≡_};

@@ -1,0 +1,55 @@
+-- The commit of an effect of the code, for any stores: a fault in the reading, a bad place, or all is carried out.
+use mathlib.Core.Path.{_≡_, refl}
+use mathlib.Core.List.{List}
+use Prim.Native.Nat.{ℕ, _+_, _%_, _<_, _≤_}
+use native.Mathlib.Omega.{arith}
+use lib.ListN.{length}
+use Rattle.cell.specs.declared.Fault.{Fault}
+use Rattle.cell.specs.declared.Checked.{Checked}
+use Rattle.cell.specs.declared.Checked.the-variants.{Good, Bad}
+use Rattle.cell.proofs.PlaceLaws.{room, good-byte}
+use Rattle.machine.specs.Places.{oneByte, oneCell, placeOf}
+use Rattle.machine.specs.declared.Access.{Access}
+use Rattle.machine.specs.Effects.{Store, effectOf}
+use Rattle.machine.specs.Commits.{placesOf, storedOf, stepped, raisedOf, settledOf, faultOf, commitOf, raised}
+use Rattle.machine.specs.declared.Machine.{Machine}
+use Rattle.machine.specs.declared.Registers.{Registers}
+use Rattle.machine.specs.declared.Then.{Then}
+use Rattle.machine.specs.declared.Then.the-variants.{GoOn, Jump, Halt, Throw, Raise}
+
+module _ (machine : Machine) (m : List ℕ) (r : Registers) (sp rp : ℕ) (ss : List Store) where
+  pub commit-raising : (then : Then) (f : Fault) → faultOf then ≡ Bad f → commitOf machine m r (effectOf sp rp ss then) ≡ raised m r f
+  unfolding commitOf
+  commit-raising GoOn f e = cc
+  commit-raising (Jump a) f e = cc
+  commit-raising (Halt x) f e = cc
+  commit-raising Throw f e = cc
+  commit-raising (Raise g) f e = cc
+
+  pub commit-bad : (then : Then) (f : Fault) → faultOf then ≡ Good → placesOf machine (length m) ss ≡ Bad f
+      → commitOf machine m r (effectOf sp rp ss then) ≡ raised m r f
+  unfolding commitOf
+  commit-bad GoOn f e p = rw p
+  commit-bad (Jump a) f e p = rw p
+  commit-bad (Halt x) f e p = rw p
+  commit-bad Throw f e p = rw p
+  commit-bad (Raise g) f e p = cc
+
+  pub commit-good : (then : Then) → faultOf then ≡ Good → placesOf machine (length m) ss ≡ Good
+      → commitOf machine m r (effectOf sp rp ss then)
+      ≡ stepped (storedOf machine m ss) (settledOf (record { ep = r .ep; a = r .a; sp = sp; rp = rp }) then)
+  unfolding commitOf
+  commit-good GoOn e p = rw p
+  commit-good (Jump a) e p = rw p
+  commit-good (Halt x) e p = rw p
+  commit-good Throw e p = rw p
+  commit-good (Raise g) e p = cc
+
+-- all four bytes of a cell at a good place are in memory
+pub room-place : (machine : Machine) (access : Access) (len a : ℕ) → len % 4 ≡ 0 → placeOf machine oneCell access len a ≡ Good → a + 4 ≤ len
+unfolding placeOf
+room-place machine access len a w e = room len a w e
+
+pub room-byte : (machine : Machine) (access : Access) (len a : ℕ) → placeOf machine oneByte access len a ≡ Good → a < len
+unfolding placeOf
+room-byte machine access len a e = good-byte len a e

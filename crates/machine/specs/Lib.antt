@@ -1,0 +1,5 @@
+-- What crate `machine` means.
+pub mod Places
+pub mod Effects
+pub mod Commits
+pub mod Throws

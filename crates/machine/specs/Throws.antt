@@ -1,0 +1,118 @@
+-- NEXT, the throw and the stops. Document 01, The processor: "Throw: -ADDRESS is set (-9 and -23 only); the code is pushed; 'BAD takes EP; EP takes
+-- 'THROW; NEXT." and the sentences after it.
+use mathlib.Core.Bool.{Bool, true, false}
+use mathlib.Core.List.{List}
+use Prim.Native.Nat.{ℕ, _-_, _%_, _^_}
+use lib.Dec.{eqb}
+use lib.ListN.{length}
+use Rattle.cell.specs.Choice.{if}
+use Rattle.cell.specs.Memory.{storeCell, cellAt}
+use Rattle.cell.specs.Number.{sum, difference}
+use Rattle.cell.specs.Place.{faultCode}
+use Rattle.cell.specs.declared.Fault.{Fault}
+use Rattle.cell.specs.declared.Fault.the-variants.{Range, Alignment, Divisor, Illegal, Library}
+use Rattle.cell.specs.declared.Checked.{Checked}
+use Rattle.cell.specs.declared.Checked.the-variants.{Good, Bad}
+use Rattle.cell.specs.declared.Fetched.{Fetched}
+use Rattle.cell.specs.declared.Fetched.the-variants.{Cell, Failed}
+use Rattle.machine.specs.Places.{oneCell, placeOf, fetchOf}
+use Rattle.machine.specs.Commits.{Stepped, stepped}
+use Rattle.machine.specs.declared.Machine.{Machine}
+use Rattle.machine.specs.declared.Registers.{Registers}
+use Rattle.machine.specs.declared.Access.the-variants.{Stream, Push}
+use Rattle.machine.specs.declared.Step.{Step}
+use Rattle.machine.specs.declared.Outcome.{Outcome}
+use Rattle.machine.specs.declared.Outcome.the-variants as outcome
+use Rattle.machine.specs.declared.Ended.{Ended}
+use Rattle.machine.specs.declared.Ended.the-variants.{Went, Threw, Stopped}
+use Rattle.machine.specs.declared.Turn.{Turn}
+
+-- memory, registers and how the cycle ended
+pub record Turned : Type 0 where
+  pub memory : List ℕ
+  pub turn : Turn
+
+abbrev pub turned : List ℕ → Registers → Ended → Turned
+turned m r e = record { memory = m; turn = record { registers = r; ended = e } }
+
+abbrev pub turnedTo : List ℕ → Turn → Turned
+turnedTo m t = record { memory = m; turn = t }
+
+-- the machine's own reasons
+abbrev pub badStack : ℕ
+badStack = 2 ^ 32 - 258
+
+abbrev pub badHandler : ℕ
+badHandler = 2 ^ 32 - 259
+
+-- the cells at 0h, 8h and Ch: 'THROW, 'BAD, -ADDRESS
+abbrev pub handlerCell : ℕ
+handlerCell = 0
+
+abbrev pub badCell : ℕ
+badCell = 8
+
+abbrev pub addressCell : ℕ
+addressCell = 12
+
+-- A is the cell at h, EP the address after it
+abbrev pub entered : ℕ → ℕ → Registers → Registers
+entered h x r = record { ep = sum h 4; a = x; sp = r .sp; rp = r .rp }
+
+-- 'BAD has taken EP; EP takes 'THROW and NEXT follows. "If 'THROW is then unaligned or out of range it stops with -259 .. EP and A kept"
+abbrev pub handed : List ℕ → Registers → Ended → ℕ → Fetched → Turned
+handed m r e h (Cell x) = turned m (entered h x r) e
+handed m r e h (Failed f) = turned m r (Stopped badHandler)
+
+abbrev pub toHandler : Machine → List ℕ → Registers → Ended → ℕ → Turned
+toHandler machine m r e h = handed m r e h (fetchOf machine Stream m h)
+
+-- 'BAD takes EP, then the handler
+unfoldable pub handlerOf : Machine → List ℕ → Registers → Ended → Turned
+handlerOf machine m r e =
+    toHandler machine (storeCell (machine .order) m badCell (r .ep)) r e
+    (cellAt (machine .order) (storeCell (machine .order) m badCell (r .ep)) handlerCell)
+
+-- "-ADDRESS is set (-9 and -23 only)"
+abbrev pub noted : Machine → List ℕ → Fault → List ℕ
+noted machine m (Range a) = storeCell (machine .order) m addressCell (a .0)
+noted machine m (Alignment a) = storeCell (machine .order) m addressCell (a .0)
+noted machine m Divisor = m
+noted machine m Illegal = m
+noted machine m Library = m
+
+-- the code at a place that was judged, then the rest of the throw. "nothing is written and the machine stops with -258"
+abbrev pub pushed : Machine → List ℕ → Registers → Fault → ℕ → Checked → Turned
+pushed machine m r f sp (Bad g) = turned m r (Stopped badStack)
+pushed machine m r f sp Good =
+    handlerOf machine (storeCell (machine .order) (noted machine m f) sp (faultCode f))
+    (record { ep = r .ep; a = r .a; sp = sp; rp = r .rp })
+    (Threw f)
+
+unfoldable pub throwOf : Machine → List ℕ → Registers → Fault → Turned
+throwOf machine m r f =
+    pushed machine m r f (difference (r .sp) 4) (placeOf machine oneCell Push (length m) (difference (r .sp) 4))
+
+-- "THROW itself (54h) pushes nothing. If SP is unaligned (54h too) .. the machine stops with -258"
+unfoldable pub throwingOf : Machine → List ℕ → Registers → Turned
+throwingOf machine m r = if (eqb (r .sp % 4) 0) (handlerOf machine m r Went) (turned m r (Stopped badStack))
+
+-- "NEXT: A is the cell at EP, EP gains 4"
+abbrev pub nexted : Machine → List ℕ → Registers → Fetched → Turned
+nexted machine m r (Cell x) = turned m (entered (r .ep) x r) Went
+nexted machine m r (Failed f) = throwOf machine m r f
+
+unfoldable pub nextOf : Machine → List ℕ → Registers → Turned
+nextOf machine m r = nexted machine m r (fetchOf machine Stream m (r .ep))
+
+-- the rest of a cycle, by how the instruction left the machine. "Where an instruction ends in NEXT, that fetch is a second act: its failure is
+-- judged from the state after the first act"
+abbrev pub finished : Machine → List ℕ → Registers → Outcome → Turned
+finished machine m r outcome.Went = turned m r Went
+finished machine m r outcome.Next = nextOf machine m r
+finished machine m r (outcome.Raise f) = throwOf machine m r f
+finished machine m r (outcome.Halt x) = turned m r (Stopped x)
+finished machine m r outcome.Throw = throwingOf machine m r
+
+unfoldable pub finishOf : Machine → Stepped → Turned
+finishOf machine s = finished machine (s .memory) (s .step .registers) (s .step .outcome)

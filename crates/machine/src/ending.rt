@@ -1,0 +1,191 @@
+// NEXT, the throw, the stops.
+ghost use mathlib.Core.Path.{_≡_};
+ghost use Prim.Native.Nat.{_≤_};
+ghost use lib.ListN.{length};
+ghost use Rattle.cell.specs.Memory as mem;
+ghost use Rattle.machine.specs.Places as places;
+ghost use Rattle.machine.specs.Commits as commits;
+ghost use Rattle.machine.specs.Throws as throws;
+use crate::Access;
+use crate::Ended;
+use crate::Machine;
+use crate::Outcome;
+use crate::Registers;
+use crate::Step;
+use crate::Turn;
+use crate::places::check_place;
+use crate::places::fetch;
+use cell::Address;
+use cell::Checked;
+use cell::Fault;
+use cell::Fetched;
+use cell::memory::load;
+use cell::memory::store;
+use cell::number::add;
+use cell::number::subtract;
+use cell::place::fault_code;
+
+// The registers once A is the cell at h.
+fn enter(h: u32, x: u32, r: Registers) -> Registers
+    ensures { λ s. ⌜ s ≡ throws.entered h x r ⌝ }
+{
+    Registers {
+        ep: add(h, 4),
+        a: x,
+        sp: r.sp,
+        rp: r.rp,
+    }
+}
+
+// EP takes 'THROW and NEXT follows, or the machine stops with -259.
+fn to_handler(machine: Machine, memory: &[u8], r: Registers, ended: Ended, h: u32) -> Turn
+    requires { ⌜ places.Whole (now memory) ⌝ }
+    ensures { λ t. ⌜ throws.turnedTo (now (memory .entry)) t ≡ throws.toHandler machine (now (memory .entry)) r ended h ⌝ }
+{
+    let got = fetch(machine, Access::Stream, memory, Address(h));
+    let Fetched::Cell(x) = got else {
+        return Turn {
+            registers: r,
+            ended: Ended::Stopped(0xFFFFFEFD),
+        };
+    };
+    Turn {
+        registers: enter(h, x, r),
+        ended: ended,
+    }
+}
+
+// 'BAD takes EP, then the handler.
+pub fn handle(machine: Machine, memory: &mut [u8], r: Registers, ended: Ended) -> Turn
+    requires { ⌜ places.Whole (now memory) ⌝ }
+    requires { ⌜ 16 ≤ length (now memory) ⌝ }
+    ensures { λ t. ⌜ throws.turnedTo (now (memory .exit)) t ≡ throws.handlerOf machine (now (memory .entry)) r ended ⌝ }
+{
+    store(machine.order, memory, 8, r.ep);
+    let h = load(machine.order, memory, 0);
+    to_handler(machine, memory, r, ended, h)
+}
+
+// -ADDRESS is set by -9 and -23 alone.
+fn note(machine: Machine, memory: &mut [u8], f: Fault)
+    requires { ⌜ 16 ≤ length (now memory) ⌝ }
+    ensures { λ u. ⌜ now (memory .exit) ≡ throws.noted machine (now (memory .entry)) f ⌝ }
+{
+    match f {
+        Fault::Range(a) => store(machine.order, memory, 12, a.0),
+        Fault::Alignment(a) => store(machine.order, memory, 12, a.0),
+        Fault::Divisor => (),
+        Fault::Illegal => (),
+        Fault::Library => (),
+    }
+}
+
+pub fn throw(machine: Machine, memory: &mut [u8], r: Registers, f: Fault) -> Turn
+    requires { ⌜ places.Whole (now memory) ⌝ }
+    requires { ⌜ 16 ≤ length (now memory) ⌝ }
+    ensures { λ t. ⌜ throws.turnedTo (now (memory .exit)) t ≡ throws.throwOf machine (now (memory .entry)) r f ⌝ }
+{
+    let sp = subtract(r.sp, 4);
+    let place = check_place(machine, Access::Push, memory.len(), Address(sp));
+    let Checked::Good = place else {
+        return Turn {
+            registers: r,
+            ended: Ended::Stopped(0xFFFFFEFE),
+        };
+    };
+    note(machine, memory, f);
+    store(machine.order, memory, sp as usize, fault_code(f));
+    handle(
+        machine,
+        memory,
+        Registers {
+            ep: r.ep,
+            a: r.a,
+            sp: sp,
+            rp: r.rp,
+        },
+        Ended::Threw(f),
+    )
+}
+
+// THROW, 54h.
+fn throw_given(machine: Machine, memory: &mut [u8], r: Registers) -> Turn
+    requires { ⌜ places.Whole (now memory) ⌝ }
+    requires { ⌜ 16 ≤ length (now memory) ⌝ }
+    ensures { λ t. ⌜ throws.turnedTo (now (memory .exit)) t ≡ throws.throwingOf machine (now (memory .entry)) r ⌝ }
+{
+    if r.sp % 4 == 0 {
+        return handle(machine, memory, r, Ended::Went);
+    }
+    Turn {
+        registers: r,
+        ended: Ended::Stopped(0xFFFFFEFE),
+    }
+}
+
+pub fn next(machine: Machine, memory: &mut [u8], r: Registers) -> Turn
+    requires { ⌜ places.Whole (now memory) ⌝ }
+    requires { ⌜ 16 ≤ length (now memory) ⌝ }
+    ensures { λ t. ⌜ throws.turnedTo (now (memory .exit)) t ≡ throws.nextOf machine (now (memory .entry)) r ⌝ }
+{
+    let got = fetch(machine, Access::Stream, memory, Address(r.ep));
+    match got {
+        Fetched::Cell(x) => Turn {
+            registers: enter(r.ep, x, r),
+            ended: Ended::Went,
+        },
+        Fetched::Failed(f) => throw(
+            machine,
+            memory,
+            Registers {
+                ep: r.ep,
+                a: r.a,
+                sp: r.sp,
+                rp: r.rp,
+            },
+            f,
+        ),
+    }
+}
+
+// The rest of a cycle.
+pub fn finish(machine: Machine, memory: &mut [u8], s: Step) -> Turn
+    requires { ⌜ places.Whole (now memory) ⌝ }
+    requires { ⌜ 16 ≤ length (now memory) ⌝ }
+    ensures { λ t. ⌜ throws.turnedTo (now (memory .exit)) t ≡ throws.finishOf machine (commits.stepped (now (memory .entry)) s) ⌝ }
+{
+    let outcome = s.outcome;
+    let r = s.registers;
+    match outcome {
+        Outcome::Went => Turn {
+            registers: r,
+            ended: Ended::Went,
+        },
+        Outcome::Next => next(machine, memory, r),
+        Outcome::Raise(f) => throw(
+            machine,
+            memory,
+            Registers {
+                ep: r.ep,
+                a: r.a,
+                sp: r.sp,
+                rp: r.rp,
+            },
+            f,
+        ),
+        Outcome::Halt(x) => Turn {
+            registers: r,
+            ended: Ended::Stopped(x),
+        },
+        Outcome::Throw => throw_given(
+            machine,
+            memory,
+            Registers {
+                ep: r.ep,
+                a: r.a,
+                sp: r.sp,
+                rp: r.rp,
+            },
+        ),
+    }
+}

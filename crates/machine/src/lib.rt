@@ -1,0 +1,127 @@
+// The machine below its instructions: places and their accesses, what an instruction asks for, its commit, the throw and NEXT.
+
+pub mod commit;
+pub mod ending;
+pub mod places;
+pub mod roll;
+
+use cell::Address;
+use cell::Fault;
+
+// What goes with every call and is no register.
+pub struct Machine {
+    pub order: u8,
+}
+
+// EP, A, SP, RP: cells of any value. They become addresses where memory is touched.
+pub struct Registers {
+    pub ep: u32,
+    pub a: u32,
+    pub sp: u32,
+    pub rp: u32,
+}
+
+// What a cell is touched for.
+pub enum Access {
+    DataRead,
+    DataWrite,
+    ReturnRead,
+    ReturnWrite,
+    NamedRead,
+    NamedWrite,
+    // the operand cell at EP, and NEXT
+    Stream,
+    // the code that a throw pushes
+    Push,
+}
+
+// A cell to be written.
+pub struct Write {
+    pub access: Access,
+    pub at: Address,
+    pub value: u32,
+}
+
+// What follows an instruction's writes.
+pub enum Then {
+    GoOn,
+    Jump(Address),
+    Halt(u32),
+    Throw,
+    Raise(Fault),
+}
+
+// What an instruction asks for, by the number of cells that it writes: the new stack pointers, the writes in order, and what follows.
+pub struct NoStore {
+    pub sp: u32,
+    pub rp: u32,
+    pub then: Then,
+}
+
+pub struct OneStore {
+    pub sp: u32,
+    pub rp: u32,
+    pub write: Write,
+    pub then: Then,
+}
+
+// One write where `writes` says so, else none.
+pub struct MaybeStore {
+    pub sp: u32,
+    pub rp: u32,
+    pub writes: bool,
+    pub write: Write,
+    pub then: Then,
+}
+
+pub struct TwoStores {
+    pub sp: u32,
+    pub rp: u32,
+    pub first: Write,
+    pub second: Write,
+    pub then: Then,
+}
+
+pub struct ThreeStores {
+    pub sp: u32,
+    pub rp: u32,
+    pub first: Write,
+    pub second: Write,
+    pub third: Write,
+    pub then: Then,
+}
+
+// The low byte of `value`, at a byte's address.
+pub struct ByteStore {
+    pub sp: u32,
+    pub rp: u32,
+    pub at: Address,
+    pub value: u32,
+    pub then: Then,
+}
+
+// How an instruction left the machine, before NEXT, a throw or a stop is carried out.
+pub enum Outcome {
+    Went,
+    Next,
+    Raise(Fault),
+    Halt(u32),
+    Throw,
+}
+
+pub struct Step {
+    pub registers: Registers,
+    pub outcome: Outcome,
+}
+
+// How a cycle ended.
+pub enum Ended {
+    Went,
+    Threw(Fault),
+    Stopped(u32),
+}
+
+pub struct Turn {
+    pub registers: Registers,
+    pub ended: Ended,
+}
