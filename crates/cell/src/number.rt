@@ -44,6 +44,18 @@ pub fn magnitude(a: u32) -> u32
     if 0x80000000 <= a { negate(a) } else { a }
 }
 
+pub fn greater_of(a: u32, b: u32) -> u32
+    ensures { λ r. ⌜ r ≡ number.greater a b ⌝ }
+{
+    if is_less(a, b) { b } else { a }
+}
+
+pub fn lesser_of(a: u32, b: u32) -> u32
+    ensures { λ r. ⌜ r ≡ number.lesser a b ⌝ }
+{
+    if is_less(b, a) { b } else { a }
+}
+
 pub fn flag(t: bool) -> u32
     ensures { λ r. ⌜ r ≡ number.flag t ⌝ }
 {

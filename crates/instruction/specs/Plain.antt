@@ -23,9 +23,11 @@ use Rattle.machine.specs.Effects.{Store, cellStore, Control, goOn, jump, halt, 
 use Rattle.machine.specs.Throws.{badStack}
 use Rattle.machine.specs.declared.Machine.{Machine}
 use Rattle.machine.specs.declared.Registers.{Registers}
+use Rattle.machine.specs.declared.Then.{Then}
+use Rattle.machine.specs.declared.Then.the-variants as then
 use Rattle.machine.specs.declared.Access.the-variants.{DataRead, DataWrite, ReturnRead, ReturnWrite, NamedRead, NamedWrite}
 use Rattle.instruction.specs.declared.Instruction.{Instruction}
-use Rattle.instruction.specs.declared.Instruction.the-variants.{Next, Dup, Drop, Swap, Over, Rot, MinusRot, Tuck, Nip, Pick, Roll, QuestionDup, ToR, RFrom, RFetch, Less, Greater, Equal, NotEqual, ZeroLess, ZeroGreater, ZeroEqual, ZeroNotEqual, ULess, UGreater, Zero, One, MinusOne, CellSize, MinusCell, Plus, Minus, SwapMinus, OnePlus, OneMinus, CellPlus, CellMinus, Star, Slash, Mod, SlashMod, USlashMod, SSlashRem, TwoSlash, Cells, Abs, Negate, Max, Min, Invert, And, Or, Xor, LShift, RShift, OneLShift, OneRShift, Fetch, Store, CFetch, CStore, PlusStore, SpFetch, SpStore, RpFetch, RpStore, Branch, BranchI, QuestionBranch, QuestionBranchI, Execute, FetchExecute, Call, CallI, Exit, Do, Loop, LoopI, PlusLoop, PlusLoopI, Unloop, J, Literal, LiteralI, Throw, Halt, Lib, Illegal}
+use Rattle.instruction.specs.declared.Instruction.the-variants.{Next, Dup, Drop, Swap, Over, Rot, MinusRot, Tuck, Nip, Pick, Roll, QuestionDup, ToR, RFrom, RFetch, Less, Greater, Equal, NotEqual, ZeroLess, ZeroGreater, ZeroEqual, ZeroNotEqual, ULess, UGreater, Zero, One, MinusOne, CellSize, MinusCell, Plus, Minus, SwapMinus, OnePlus, OneMinus, CellPlus, CellMinus, Star, Slash, Mod, SlashMod, USlashMod, SSlashRem, TwoSlash, Cells, Abs, Negate, Max, Min, Invert, And, Or, Xor, LShift, RShift, OneLShift, OneRShift, FetchCell, StoreCell, CFetch, CStore, PlusStore, SpFetch, SpStore, RpFetch, RpStore, Branch, BranchI, QuestionBranch, QuestionBranchI, Execute, FetchExecute, Call, CallI, Exit, Do, Loop, LoopI, PlusLoop, PlusLoopI, Unloop, J, Literal, LiteralI, Throw, Halt, Lib, Illegal}
 
 -- what an instruction asks for: SP, RP, the stores, what follows
 abbrev pub action : ℕ → ℕ → List Store → Control → Effect
@@ -210,9 +212,9 @@ plainOf machine OneLShift m ep sp rp = data1 machine m sp (λ x. replaces sp rp 
 -- 38h 1RSHIFT ( x1 -- x2 )
 plainOf machine OneRShift m ep sp rp = data1 machine m sp (λ x. replaces sp rp (shiftedRight x 1))
 -- 39h @ ( a-addr -- x )
-plainOf machine Fetch m ep sp rp = data1 machine m sp (λ a. fetched (fetchOf machine NamedRead m a) (λ x. replaces sp rp x))
+plainOf machine FetchCell m ep sp rp = data1 machine m sp (λ a. fetched (fetchOf machine NamedRead m a) (λ x. replaces sp rp x))
 -- 3Ah ! ( x a-addr -- )
-plainOf machine Store m ep sp rp = data2 machine m sp (λ x a. action (sum sp 8) rp (cellStore NamedWrite a x ∷ []) goOn)
+plainOf machine StoreCell m ep sp rp = data2 machine m sp (λ x a. action (sum sp 8) rp (cellStore NamedWrite a x ∷ []) goOn)
 -- 3Bh C@ ( c-addr -- char )
 plainOf machine CFetch m ep sp rp =
     data1 machine m sp (λ a. fetched (fetchByteOf machine NamedRead m (byteAddress (machine .order) a)) (λ x. replaces sp rp x))
@@ -284,7 +286,18 @@ plainOf machine LiteralI m ep sp rp = raise fault.Illegal
 abbrev pub plainAt : Machine → Instruction → List ℕ → Registers → Effect
 plainAt machine i m r = plainOf machine i m (r .ep) (r .sp) (r .rp)
 
+-- the stack pointers alone
+abbrev pub moved : ℕ → ℕ → Effect
+moved sp rp = action sp rp [] goOn
+
+abbrev pub deepAddress : ℕ → ℕ → ℕ
+deepAddress sp u = sp + 4 + 4 * u
+
 -- the fault that the code raises for a fetch that failed
 abbrev pub failed : Fetched → Effect
 failed (fetch.Cell x) = raise fault.Illegal
 failed (fetch.Failed f) = raise f
+
+abbrev pub failure : Fetched → Then
+failure (fetch.Cell x) = then.Raise fault.Illegal
+failure (fetch.Failed f) = then.Raise f

@@ -55,18 +55,23 @@ takingOf machine plusLoop m sp rp operand after =
 -- 52h (LITERAL) ( -- x )
 takingOf machine literal m sp rp operand after = fetched operand (λ x. pushes sp rp x)
 
--- the operand in the immediate form: A for a literal, EP + 4 A for a branch
-abbrev pub immediateOf : Taking → ℕ → ℕ → ℕ
-immediateOf branch ep a = (ep + 4 * a) % 2 ^ 32
-immediateOf questionBranch ep a = (ep + 4 * a) % 2 ^ 32
-immediateOf call ep a = (ep + 4 * a) % 2 ^ 32
-immediateOf loop ep a = (ep + 4 * a) % 2 ^ 32
-immediateOf plusLoop ep a = (ep + 4 * a) % 2 ^ 32
-immediateOf literal ep a = a
+-- where a branch leads: the cell at EP, or EP + 4 A
+abbrev pub branchOperand : Machine → Form → List ℕ → ℕ → ℕ → Fetched
+branchOperand machine InCell m ep a = fetchOf machine Stream m ep
+branchOperand machine Immediate m ep a = Cell ((ep + 4 * a) % 2 ^ 32)
+
+-- a literal's value: the cell at EP, or A
+abbrev pub literalOperand : Machine → Form → List ℕ → ℕ → ℕ → Fetched
+literalOperand machine InCell m ep a = fetchOf machine Stream m ep
+literalOperand machine Immediate m ep a = Cell a
 
 abbrev pub operandOf : Machine → Form → Taking → List ℕ → ℕ → ℕ → Fetched
-operandOf machine InCell t m ep a = fetchOf machine Stream m ep
-operandOf machine Immediate t m ep a = Cell (immediateOf t ep a)
+operandOf machine form branch m ep a = branchOperand machine form m ep a
+operandOf machine form questionBranch m ep a = branchOperand machine form m ep a
+operandOf machine form call m ep a = branchOperand machine form m ep a
+operandOf machine form loop m ep a = branchOperand machine form m ep a
+operandOf machine form plusLoop m ep a = branchOperand machine form m ep a
+operandOf machine form literal m ep a = literalOperand machine form m ep a
 
 -- the address that a call leaves
 abbrev pub afterOf : Form → ℕ → ℕ

@@ -7,6 +7,7 @@ pub mod literals;
 pub mod logic;
 pub mod memory;
 pub mod registers;
+pub mod rolling;
 pub mod shape;
 pub mod stack;
 
@@ -127,9 +128,9 @@ pub enum Instruction {
     // 38h 1RSHIFT
     OneRShift,
     // 39h @
-    Fetch,
+    FetchCell,
     // 3Ah !
-    Store,
+    StoreCell,
     // 3Bh C@
     CFetch,
     // 3Ch C!

@@ -1,2 +1,309 @@
 // Parts that many effects share.
 ghost use mathlib.Core.Path.{_≡_};
+ghost use Rattle.machine.specs.Places as places;
+ghost use Rattle.machine.specs.Effects as effects;
+ghost use Rattle.instruction.specs.Plain as plain;
+ghost use Rattle.instruction.specs.Taking as taking;
+use crate::Form;
+use cell::Address;
+use cell::Fault;
+use cell::Fetched;
+use cell::Quotient;
+use cell::number::add;
+use cell::number::is_less;
+use cell::number::subtract;
+use machine::Access;
+use machine::ByteStore;
+use machine::Machine;
+use machine::MaybeStore;
+use machine::NoStore;
+use machine::OneStore;
+use machine::Outcome;
+use machine::Registers;
+use machine::Step;
+use machine::Then;
+use machine::ThreeStores;
+use machine::TwoStores;
+use machine::Write;
+use machine::places::fetch;
+
+// The top item of the data stack replaced.
+pub fn replace(r: Registers, x: u32) -> OneStore
+    ensures { λ e. ⌜ effects.oneStore e ≡ plain.replaces (r .sp) (r .rp) x ⌝ }
+{
+    OneStore {
+        sp: r.sp,
+        rp: r.rp,
+        write: Write {
+            access: Access::DataWrite,
+            at: Address(r.sp),
+            value: x,
+        },
+        then: Then::GoOn,
+    }
+}
+
+// The top two items replaced by one.
+pub fn reduce(r: Registers, x: u32) -> OneStore
+    ensures { λ e. ⌜ effects.oneStore e ≡ plain.reduces (r .sp) (r .rp) x ⌝ }
+{
+    let sp = add(r.sp, 4);
+    OneStore {
+        sp: sp,
+        rp: r.rp,
+        write: Write {
+            access: Access::DataWrite,
+            at: Address(sp),
+            value: x,
+        },
+        then: Then::GoOn,
+    }
+}
+
+// One more item.
+pub fn push(r: Registers, x: u32) -> OneStore
+    ensures { λ e. ⌜ effects.oneStore e ≡ plain.pushes (r .sp) (r .rp) x ⌝ }
+{
+    let sp = subtract(r.sp, 4);
+    OneStore {
+        sp: sp,
+        rp: r.rp,
+        write: Write {
+            access: Access::DataWrite,
+            at: Address(sp),
+            value: x,
+        },
+        then: Then::GoOn,
+    }
+}
+
+// Both results of a division, the remainder below the quotient.
+pub fn replace_both(r: Registers, q: Quotient) -> TwoStores
+    ensures { λ e. ⌜ effects.twoStores e ≡ plain.dividedBoth (r .sp) (r .rp) q ⌝ }
+{
+    TwoStores {
+        sp: r.sp,
+        rp: r.rp,
+        first: Write {
+            access: Access::DataWrite,
+            at: Address(add(r.sp, 4)),
+            value: q.remainder,
+        },
+        second: Write {
+            access: Access::DataWrite,
+            at: Address(r.sp),
+            value: q.quotient,
+        },
+        then: Then::GoOn,
+    }
+}
+
+// The stack pointers alone.
+pub fn maybe_not(sp: u32, rp: u32) -> MaybeStore
+    ensures { λ e. ⌜ effects.maybeStore e ≡ plain.moved sp rp ⌝ }
+{
+    MaybeStore {
+        sp: sp,
+        rp: rp,
+        writes: false,
+        write: Write {
+            access: Access::DataWrite,
+            at: Address(0),
+            value: 0,
+        },
+        then: Then::GoOn,
+    }
+}
+
+// A fetch that failed, as what follows.
+pub fn failure(got: Fetched) -> Then
+    ensures { λ t. ⌜ t ≡ plain.failure got ⌝ }
+{
+    match got {
+        Fetched::Cell(_) => Then::Raise(Fault::Illegal),
+        Fetched::Failed(f) => Then::Raise(f),
+    }
+}
+
+pub fn fail_none(got: Fetched) -> NoStore
+    ensures { λ e. ⌜ effects.noStore e ≡ plain.failed got ⌝ }
+{
+    NoStore {
+        sp: 0,
+        rp: 0,
+        then: failure(got),
+    }
+}
+
+pub fn fail_one(got: Fetched) -> OneStore
+    ensures { λ e. ⌜ effects.oneStore e ≡ plain.failed got ⌝ }
+{
+    OneStore {
+        sp: 0,
+        rp: 0,
+        write: Write {
+            access: Access::DataWrite,
+            at: Address(0),
+            value: 0,
+        },
+        then: failure(got),
+    }
+}
+
+pub fn fail_maybe(got: Fetched) -> MaybeStore
+    ensures { λ e. ⌜ effects.maybeStore e ≡ plain.failed got ⌝ }
+{
+    MaybeStore {
+        sp: 0,
+        rp: 0,
+        writes: false,
+        write: Write {
+            access: Access::DataWrite,
+            at: Address(0),
+            value: 0,
+        },
+        then: failure(got),
+    }
+}
+
+pub fn fail_two(got: Fetched) -> TwoStores
+    ensures { λ e. ⌜ effects.twoStores e ≡ plain.failed got ⌝ }
+{
+    TwoStores {
+        sp: 0,
+        rp: 0,
+        first: Write {
+            access: Access::DataWrite,
+            at: Address(0),
+            value: 0,
+        },
+        second: Write {
+            access: Access::DataWrite,
+            at: Address(0),
+            value: 0,
+        },
+        then: failure(got),
+    }
+}
+
+pub fn fail_three(got: Fetched) -> ThreeStores
+    ensures { λ e. ⌜ effects.threeStores e ≡ plain.failed got ⌝ }
+{
+    ThreeStores {
+        sp: 0,
+        rp: 0,
+        first: Write {
+            access: Access::DataWrite,
+            at: Address(0),
+            value: 0,
+        },
+        second: Write {
+            access: Access::DataWrite,
+            at: Address(0),
+            value: 0,
+        },
+        third: Write {
+            access: Access::DataWrite,
+            at: Address(0),
+            value: 0,
+        },
+        then: failure(got),
+    }
+}
+
+pub fn fail_byte(got: Fetched) -> ByteStore
+    ensures { λ e. ⌜ effects.byteStore e ≡ plain.failed got ⌝ }
+{
+    ByteStore {
+        sp: 0,
+        rp: 0,
+        at: Address(0),
+        value: 0,
+        then: failure(got),
+    }
+}
+
+// The item u below the top one, at its exact address.
+pub fn fetch_deep(machine: Machine, memory: &[u8], sp: u32, u: u32) -> Fetched
+    requires { ⌜ places.Whole (now memory) ⌝ }
+    ensures { λ f. ⌜ f ≡ plain.fetchDeep machine (now (memory .entry)) (plain.deepAddress sp u) ⌝ }
+{
+    let a = sp as u64 + 4 + 4 * (u as u64);
+    if a < 0x1_0000_0000 {
+        fetch(machine, Access::DataRead, memory, Address(a as u32))
+    } else {
+        Fetched::Failed(Fault::Range(Address((a % 0x1_0000_0000) as u32)))
+    }
+}
+
+// The address that a branch leads to.
+pub fn branch_operand(machine: Machine, memory: &[u8], r: Registers, form: Form) -> Fetched
+    requires { ⌜ places.Whole (now memory) ⌝ }
+    ensures { λ f. ⌜ f ≡ taking.branchOperand machine form (now (memory .entry)) (r .ep) (r .a) ⌝ }
+{
+    match form {
+        Form::InCell => fetch(machine, Access::Stream, memory, Address(r.ep)),
+        Form::Immediate => Fetched::Cell(add(r.ep, r.a % 0x40000000 * 4)),
+    }
+}
+
+// The value of a literal.
+pub fn literal_operand(machine: Machine, memory: &[u8], r: Registers, form: Form) -> Fetched
+    requires { ⌜ places.Whole (now memory) ⌝ }
+    ensures { λ f. ⌜ f ≡ taking.literalOperand machine form (now (memory .entry)) (r .ep) (r .a) ⌝ }
+{
+    match form {
+        Form::InCell => fetch(machine, Access::Stream, memory, Address(r.ep)),
+        Form::Immediate => Fetched::Cell(r.a),
+    }
+}
+
+// The address that a call leaves.
+pub fn return_address(r: Registers, form: Form) -> u32
+    ensures { λ a. ⌜ a ≡ taking.afterOf form (r .ep) ⌝ }
+{
+    match form {
+        Form::InCell => add(r.ep, 4),
+        Form::Immediate => r.ep,
+    }
+}
+
+// Whether (+LOOP) passes the limit.
+pub fn is_crossed(old: u32, new: u32, limit: u32) -> bool
+    ensures { λ t. ⌜ t ≡ taking.crosses old new limit ⌝ }
+{
+    if is_less(old, limit) {
+        !is_less(new, limit)
+    } else {
+        is_less(new, limit)
+    }
+}
+
+// Where nothing was taken: past the operand cell, or NEXT.
+pub fn onward(form: Form, s: Step) -> Step
+    ensures { λ t. ⌜ t ≡ taking.onwardOf form s ⌝ }
+{
+    let outcome = s.outcome;
+    let r = s.registers;
+    match outcome {
+        Outcome::Went => match form {
+            Form::InCell => Step {
+                registers: Registers {
+                    ep: add(r.ep, 4),
+                    a: r.a,
+                    sp: r.sp,
+                    rp: r.rp,
+                },
+                outcome: Outcome::Went,
+            },
+            Form::Immediate => Step {
+                registers: r,
+                outcome: Outcome::Next,
+            },
+        },
+        Outcome::Next => s,
+        Outcome::Raise(_) => s,
+        Outcome::Halt(_) => s,
+        Outcome::Throw => s,
+    }
+}

@@ -37,7 +37,7 @@ module _ (machine : Machine) (m : List ℕ) (r : Registers) (sp rp : ℕ) (ss : 
 
   pub commit-good : (then : Then) → faultOf then ≡ Good → placesOf machine (length m) ss ≡ Good
       → commitOf machine m r (effectOf sp rp ss then)
-      ≡ stepped (storedOf machine m ss) (settledOf (record { ep = r .ep; a = r .a; sp = sp; rp = rp }) then)
+      ≡ stepped (storedOf machine m ss) (settledOf (r .ep) (r .a) sp rp then)
   unfolding commitOf
   commit-good GoOn e p = rw p
   commit-good (Jump a) e p = rw p

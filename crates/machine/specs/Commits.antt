@@ -77,12 +77,23 @@ abbrev pub raisedOf : Registers → Checked → Step
 raisedOf r Good = record { registers = r; outcome = Went }
 raisedOf r (Bad f) = record { registers = r; outcome = Raise f }
 
-abbrev pub settledOf : Registers → Then → Step
-settledOf r then.GoOn = controlled goOn r
-settledOf r (then.Jump a) = controlled (jump (a .0)) r
-settledOf r (then.Halt x) = controlled (halt x) r
-settledOf r then.Throw = controlled throwing r
-settledOf r (then.Raise f) = raisedOf r (Bad f)
+abbrev pub outcomeOf : Then → Outcome
+outcomeOf then.GoOn = Went
+outcomeOf (then.Jump a) = Next
+outcomeOf (then.Halt x) = Halt x
+outcomeOf then.Throw = Throw
+outcomeOf (then.Raise f) = Raise f
+
+abbrev pub epOf : Then → ℕ → ℕ
+epOf then.GoOn ep = ep
+epOf (then.Jump a) ep = a .0
+epOf (then.Halt x) ep = ep
+epOf then.Throw ep = ep
+epOf (then.Raise f) ep = ep
+
+abbrev pub settledOf : ℕ → ℕ → ℕ → ℕ → Then → Step
+settledOf ep a sp rp then =
+    record { registers = record { ep = epOf then ep; a = a; sp = sp; rp = rp }; outcome = outcomeOf then }
 
 unfoldable pub commitOf : Machine → List ℕ → Registers → Effect → Stepped
 commitOf machine m r (raise f) = raised m r f

@@ -44,46 +44,63 @@ pub fn raise(r: Registers, place: Checked) -> Step
 {
     match place {
         Checked::Good => Step {
-            registers: r,
+            registers: Registers {
+                ep: r.ep,
+                a: r.a,
+                sp: r.sp,
+                rp: r.rp,
+            },
             outcome: Outcome::Went,
         },
         Checked::Bad(f) => Step {
-            registers: r,
+            registers: Registers {
+                ep: r.ep,
+                a: r.a,
+                sp: r.sp,
+                rp: r.rp,
+            },
             outcome: Outcome::Raise(f),
         },
     }
 }
 
-// What follows the writes.
-pub fn settle(r: Registers, then: Then) -> Step
-    ensures { λ s. ⌜ s ≡ commits.settledOf r then ⌝ }
+// How the machine is left by what follows.
+fn outcome_of(then: Then) -> Outcome
+    ensures { λ o. ⌜ o ≡ commits.outcomeOf then ⌝ }
 {
     match then {
-        Then::GoOn => Step {
-            registers: r,
-            outcome: Outcome::Went,
+        Then::GoOn => Outcome::Went,
+        Then::Jump(_) => Outcome::Next,
+        Then::Halt(x) => Outcome::Halt(x),
+        Then::Throw => Outcome::Throw,
+        Then::Raise(f) => Outcome::Raise(f),
+    }
+}
+
+fn ep_of(then: Then, ep: u32) -> u32
+    ensures { λ a. ⌜ a ≡ commits.epOf then ep ⌝ }
+{
+    match then {
+        Then::GoOn => ep,
+        Then::Jump(to) => to.0,
+        Then::Halt(_) => ep,
+        Then::Throw => ep,
+        Then::Raise(_) => ep,
+    }
+}
+
+// What follows the writes.
+pub fn settle(ep: u32, a: u32, sp: u32, rp: u32, then: Then) -> Step
+    ensures { λ s. ⌜ s ≡ commits.settledOf ep a sp rp then ⌝ }
+{
+    Step {
+        registers: Registers {
+            ep: ep_of(then, ep),
+            a: a,
+            sp: sp,
+            rp: rp,
         },
-        Then::Jump(to) => Step {
-            registers: Registers {
-                ep: to.0,
-                a: r.a,
-                sp: r.sp,
-                rp: r.rp,
-            },
-            outcome: Outcome::Next,
-        },
-        Then::Halt(x) => Step {
-            registers: r,
-            outcome: Outcome::Halt(x),
-        },
-        Then::Throw => Step {
-            registers: r,
-            outcome: Outcome::Throw,
-        },
-        Then::Raise(f) => Step {
-            registers: r,
-            outcome: Outcome::Raise(f),
-        },
+        outcome: outcome_of(then),
     }
 }
 
@@ -110,17 +127,17 @@ pub fn commit_none(machine: Machine, memory: &[u8], r: Registers, e: NoStore) ->
     let then = e.then;
     let reading = fault_of(then);
     let Checked::Good = reading else {
-        return raise(r, reading);
+        return raise(
+            Registers {
+                ep: r.ep,
+                a: r.a,
+                sp: r.sp,
+                rp: r.rp,
+            },
+            reading,
+        );
     };
-    settle(
-        Registers {
-            ep: r.ep,
-            a: r.a,
-            sp: e.sp,
-            rp: e.rp,
-        },
-        then,
-    )
+    settle(r.ep, r.a, e.sp, e.rp, then)
 }
 
 pub fn commit_one(machine: Machine, memory: &mut [u8], r: Registers, e: OneStore) -> Step
@@ -131,22 +148,30 @@ pub fn commit_one(machine: Machine, memory: &mut [u8], r: Registers, e: OneStore
     let write = e.write;
     let reading = fault_of(then);
     let Checked::Good = reading else {
-        return raise(r, reading);
+        return raise(
+            Registers {
+                ep: r.ep,
+                a: r.a,
+                sp: r.sp,
+                rp: r.rp,
+            },
+            reading,
+        );
     };
     let place = check_write(machine, memory.len(), write);
     let Checked::Good = place else {
-        return raise(r, place);
+        return raise(
+            Registers {
+                ep: r.ep,
+                a: r.a,
+                sp: r.sp,
+                rp: r.rp,
+            },
+            place,
+        );
     };
     put(machine, memory, write);
-    settle(
-        Registers {
-            ep: r.ep,
-            a: r.a,
-            sp: e.sp,
-            rp: e.rp,
-        },
-        then,
-    )
+    settle(r.ep, r.a, e.sp, e.rp, then)
 }
 
 pub fn commit_maybe(machine: Machine, memory: &mut [u8], r: Registers, e: MaybeStore) -> Step
@@ -190,27 +215,43 @@ pub fn commit_two(machine: Machine, memory: &mut [u8], r: Registers, e: TwoStore
     let second = e.second;
     let reading = fault_of(then);
     let Checked::Good = reading else {
-        return raise(r, reading);
+        return raise(
+            Registers {
+                ep: r.ep,
+                a: r.a,
+                sp: r.sp,
+                rp: r.rp,
+            },
+            reading,
+        );
     };
     let place = check_write(machine, memory.len(), first);
     let Checked::Good = place else {
-        return raise(r, place);
+        return raise(
+            Registers {
+                ep: r.ep,
+                a: r.a,
+                sp: r.sp,
+                rp: r.rp,
+            },
+            place,
+        );
     };
     let place2 = check_write(machine, memory.len(), second);
     let Checked::Good = place2 else {
-        return raise(r, place2);
+        return raise(
+            Registers {
+                ep: r.ep,
+                a: r.a,
+                sp: r.sp,
+                rp: r.rp,
+            },
+            place2,
+        );
     };
     put(machine, memory, first);
     put(machine, memory, second);
-    settle(
-        Registers {
-            ep: r.ep,
-            a: r.a,
-            sp: e.sp,
-            rp: e.rp,
-        },
-        then,
-    )
+    settle(r.ep, r.a, e.sp, e.rp, then)
 }
 
 pub fn commit_three(machine: Machine, memory: &mut [u8], r: Registers, e: ThreeStores) -> Step
@@ -223,32 +264,56 @@ pub fn commit_three(machine: Machine, memory: &mut [u8], r: Registers, e: ThreeS
     let third = e.third;
     let reading = fault_of(then);
     let Checked::Good = reading else {
-        return raise(r, reading);
+        return raise(
+            Registers {
+                ep: r.ep,
+                a: r.a,
+                sp: r.sp,
+                rp: r.rp,
+            },
+            reading,
+        );
     };
     let place = check_write(machine, memory.len(), first);
     let Checked::Good = place else {
-        return raise(r, place);
+        return raise(
+            Registers {
+                ep: r.ep,
+                a: r.a,
+                sp: r.sp,
+                rp: r.rp,
+            },
+            place,
+        );
     };
     let place2 = check_write(machine, memory.len(), second);
     let Checked::Good = place2 else {
-        return raise(r, place2);
+        return raise(
+            Registers {
+                ep: r.ep,
+                a: r.a,
+                sp: r.sp,
+                rp: r.rp,
+            },
+            place2,
+        );
     };
     let place3 = check_write(machine, memory.len(), third);
     let Checked::Good = place3 else {
-        return raise(r, place3);
+        return raise(
+            Registers {
+                ep: r.ep,
+                a: r.a,
+                sp: r.sp,
+                rp: r.rp,
+            },
+            place3,
+        );
     };
     put(machine, memory, first);
     put(machine, memory, second);
     put(machine, memory, third);
-    settle(
-        Registers {
-            ep: r.ep,
-            a: r.a,
-            sp: e.sp,
-            rp: e.rp,
-        },
-        then,
-    )
+    settle(r.ep, r.a, e.sp, e.rp, then)
 }
 
 pub fn commit_byte(machine: Machine, memory: &mut [u8], r: Registers, e: ByteStore) -> Step
@@ -257,22 +322,30 @@ pub fn commit_byte(machine: Machine, memory: &mut [u8], r: Registers, e: ByteSto
     let then = e.then;
     let reading = fault_of(then);
     let Checked::Good = reading else {
-        return raise(r, reading);
+        return raise(
+            Registers {
+                ep: r.ep,
+                a: r.a,
+                sp: r.sp,
+                rp: r.rp,
+            },
+            reading,
+        );
     };
     let to = e.at;
     let place = check_byte_place(machine, Access::NamedWrite, memory.len(), to);
     let Checked::Good = place else {
-        return raise(r, place);
+        return raise(
+            Registers {
+                ep: r.ep,
+                a: r.a,
+                sp: r.sp,
+                rp: r.rp,
+            },
+            place,
+        );
     };
     let at = to.0 as usize;
     memory[at] = (e.value % 256) as u8;
-    settle(
-        Registers {
-            ep: r.ep,
-            a: r.a,
-            sp: e.sp,
-            rp: e.rp,
-        },
-        then,
-    )
+    settle(r.ep, r.a, e.sp, e.rp, then)
 }

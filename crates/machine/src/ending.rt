@@ -89,7 +89,12 @@ pub fn throw(machine: Machine, memory: &mut [u8], r: Registers, f: Fault) -> Tur
     let place = check_place(machine, Access::Push, memory.len(), Address(sp));
     let Checked::Good = place else {
         return Turn {
-            registers: r,
+            registers: Registers {
+                ep: r.ep,
+                a: r.a,
+                sp: r.sp,
+                rp: r.rp,
+            },
             ended: Ended::Stopped(0xFFFFFEFE),
         };
     };
@@ -158,10 +163,24 @@ pub fn finish(machine: Machine, memory: &mut [u8], s: Step) -> Turn
     let r = s.registers;
     match outcome {
         Outcome::Went => Turn {
-            registers: r,
+            registers: Registers {
+                ep: r.ep,
+                a: r.a,
+                sp: r.sp,
+                rp: r.rp,
+            },
             ended: Ended::Went,
         },
-        Outcome::Next => next(machine, memory, r),
+        Outcome::Next => next(
+            machine,
+            memory,
+            Registers {
+                ep: r.ep,
+                a: r.a,
+                sp: r.sp,
+                rp: r.rp,
+            },
+        ),
         Outcome::Raise(f) => throw(
             machine,
             memory,
@@ -174,7 +193,12 @@ pub fn finish(machine: Machine, memory: &mut [u8], s: Step) -> Turn
             f,
         ),
         Outcome::Halt(x) => Turn {
-            registers: r,
+            registers: Registers {
+                ep: r.ep,
+                a: r.a,
+                sp: r.sp,
+                rp: r.rp,
+            },
             ended: Ended::Stopped(x),
         },
         Outcome::Throw => throw_given(

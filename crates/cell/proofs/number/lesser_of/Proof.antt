@@ -1,0 +1,16 @@
+use borrow.Author.Needs.{needs}
+use Rattle.cell.proofs.number.lesser_of.Statement.{statement}
+use Rattle.cell.proofs.number.lesser_of.Tie as tie
+use mathlib.Core.Path.{sym, _∙_}
+
+is-less-requires : tie.Need-is-less-requires
+is-less-requires c κs = search needs
+
+returns : tie.Need-returns
+returns c = rw (sym (c .before .is-less .ensures) ∙ c .if1 .taken)
+
+returns-2 : tie.Need-returns-2
+returns-2 c = rw (sym (c .before .is-less .ensures) ∙ c .if1 .left)
+
+pub lesser-of-spec : {M : Type 1} → statement M
+lesser-of-spec = tie.close (tie.spec is-less-requires returns returns-2)

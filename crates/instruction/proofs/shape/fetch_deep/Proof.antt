@@ -1,0 +1,33 @@
+-- `fetch_deep` meets its contract, by the exact address.
+use borrow.Author.Needs.{needs}
+use Rattle.instruction.proofs.shape.fetch_deep.Statement.{statement}
+use Rattle.instruction.proofs.shape.fetch_deep.Tie as tie
+use borrow.Author.Tests.{lt-ltb, le-ltb}
+
+add-a : tie.Need-add-a
+add-a c = search needs
+
+mul-a : tie.Need-mul-a
+mul-a c = search needs
+
+add-a-2 : tie.Need-add-a-2
+add-a-2 c = search needs
+
+cast-t13 : tie.Need-cast-t13
+cast-t13 c = search needs
+
+fetch-requires : tie.Need-fetch-requires
+fetch-requires c κs = search needs
+
+cast-t16 : tie.Need-cast-t16
+cast-t16 c = search needs
+
+returns : tie.Need-returns
+returns c = simp (lt-ltb _ _ (c .before .if1 .taken)) (c .fetch .ensures)
+
+returns-2 : tie.Need-returns-2
+returns-2 c = simp (le-ltb _ _ (c .if1 .left))
+
+pub fetch-deep-spec : {M : Type 1} → statement M
+fetch-deep-spec =
+    tie.close (tie.spec add-a mul-a add-a-2 cast-t13 fetch-requires cast-t16 returns returns-2)
