@@ -1,0 +1,27 @@
+-- The opcodes that raise -256.
+use mathlib.Core.Path.{_≡_, refl}
+use Prim.Native.Nat.{ℕ, suc, _<_, _≤_}
+use native.Mathlib.Decide.{decLe}
+use native.Mathlib.Omega.{arith}
+use borrow.Author.Tests.{ne-eqb}
+use lib.ListN.{List·getD-eq-default}
+use Rattle.instruction.specs.declared.Instruction.the-variants.{Illegal}
+use Rattle.dispatch.specs.Dispatch.{opcodes, decodeOf}
+
+-- 56h, and 58h up but for FFh
+pub record Unused (n : ℕ) : Type 0 where
+  pub above : 0x55 < n
+  pub library : n ≡ 0x57 → ⊥
+  pub last : n ≡ 0xFF → ⊥
+
+pub illegal-is : (n : ℕ) → Unused n → decodeOf n ≡ Illegal
+unfolding decodeOf
+illegal-is n u = go (decLe 0x58 n)
+  where
+    go : Dec (0x58 ≤ n) → decodeOf n ≡ Illegal
+    go (yes h) = simp (ne-eqb _ _ (u .last)) (List·getD-eq-default opcodes Illegal h)
+    go (no h) = let e : n ≡ 0x56 = omega (arith, u .above, u .library) in rw e
+
+-- a number that is at least k and not k
+pub past : {n : ℕ} (k : ℕ) → k ≤ n → (n ≡ k → ⊥) → suc k ≤ n
+past k h e = omega arith

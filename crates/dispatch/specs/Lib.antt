@@ -1,0 +1,2 @@
+-- What crate `dispatch` means.
+pub mod Dispatch

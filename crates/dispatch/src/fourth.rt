@@ -1,0 +1,331 @@
+// Opcodes 42h to FFh: control, literals, exceptions.
+ghost use mathlib.Core.Path.{_≡_};
+ghost use Prim.Native.Nat.{_≤_};
+ghost use lib.ListN.{length};
+ghost use Rattle.machine.specs.Places as places;
+ghost use Rattle.machine.specs.Commits as commits;
+ghost use Rattle.dispatch.specs.Dispatch as dispatch;
+use cell::Fault;
+use instruction::Form;
+use instruction::control::branch;
+use instruction::control::call;
+use instruction::control::execute;
+use instruction::control::exit;
+use instruction::control::fetch_execute;
+use instruction::control::outer_index;
+use instruction::control::question_branch;
+use instruction::control::start_loop;
+use instruction::control::turn_loop;
+use instruction::control::turn_plus_loop;
+use instruction::control::unloop;
+use instruction::exceptions::halt;
+use instruction::exceptions::lib;
+use instruction::literals::literal;
+use instruction::shape::onward;
+use machine::Machine;
+use machine::NoStore;
+use machine::Outcome;
+use machine::Registers;
+use machine::Step;
+use machine::Then;
+use machine::commit::commit_maybe;
+use machine::commit::commit_none;
+use machine::commit::commit_one;
+use machine::commit::commit_two;
+
+pub fn execute_fourth(machine: Machine, memory: &mut [u8], r: Registers, opcode: u32) -> Step
+    requires { ⌜ places.Whole (now memory) ⌝ }
+    requires { ⌜ length (now memory) ≤ 16777216 ⌝ }
+    requires { ⌜ 66 ≤ opcode ⌝ }
+    ensures { λ s. ⌜ commits.stepped (now (memory .exit)) s ≡ dispatch.executeOf machine (now (memory .entry)) r (dispatch.decodeOf opcode) ⌝ }
+{
+    match opcode {
+        // BRANCH
+        0x42 => onward(
+            Form::InCell,
+            commit_none(
+                machine,
+                memory,
+                r,
+                branch(
+                    machine,
+                    memory,
+                    Registers {
+                        ep: r.ep,
+                        a: r.a,
+                        sp: r.sp,
+                        rp: r.rp,
+                    },
+                    Form::InCell,
+                ),
+            ),
+        ),
+        // BRANCHI
+        0x43 => onward(
+            Form::Immediate,
+            commit_none(
+                machine,
+                memory,
+                r,
+                branch(
+                    machine,
+                    memory,
+                    Registers {
+                        ep: r.ep,
+                        a: r.a,
+                        sp: r.sp,
+                        rp: r.rp,
+                    },
+                    Form::Immediate,
+                ),
+            ),
+        ),
+        // ?BRANCH
+        0x44 => onward(
+            Form::InCell,
+            commit_none(
+                machine,
+                memory,
+                r,
+                question_branch(
+                    machine,
+                    memory,
+                    Registers {
+                        ep: r.ep,
+                        a: r.a,
+                        sp: r.sp,
+                        rp: r.rp,
+                    },
+                    Form::InCell,
+                ),
+            ),
+        ),
+        // ?BRANCHI
+        0x45 => onward(
+            Form::Immediate,
+            commit_none(
+                machine,
+                memory,
+                r,
+                question_branch(
+                    machine,
+                    memory,
+                    Registers {
+                        ep: r.ep,
+                        a: r.a,
+                        sp: r.sp,
+                        rp: r.rp,
+                    },
+                    Form::Immediate,
+                ),
+            ),
+        ),
+        // EXECUTE
+        0x46 => commit_one(machine, memory, r, execute(machine, memory, r)),
+        // @EXECUTE
+        0x47 => commit_one(machine, memory, r, fetch_execute(machine, memory, r)),
+        // CALL
+        0x48 => onward(
+            Form::InCell,
+            commit_one(
+                machine,
+                memory,
+                r,
+                call(
+                    machine,
+                    memory,
+                    Registers {
+                        ep: r.ep,
+                        a: r.a,
+                        sp: r.sp,
+                        rp: r.rp,
+                    },
+                    Form::InCell,
+                ),
+            ),
+        ),
+        // CALLI
+        0x49 => onward(
+            Form::Immediate,
+            commit_one(
+                machine,
+                memory,
+                r,
+                call(
+                    machine,
+                    memory,
+                    Registers {
+                        ep: r.ep,
+                        a: r.a,
+                        sp: r.sp,
+                        rp: r.rp,
+                    },
+                    Form::Immediate,
+                ),
+            ),
+        ),
+        // EXIT
+        0x4A => commit_none(machine, memory, r, exit(machine, memory, r)),
+        // (DO)
+        0x4B => commit_two(machine, memory, r, start_loop(machine, memory, r)),
+        // (LOOP)
+        0x4C => onward(
+            Form::InCell,
+            commit_maybe(
+                machine,
+                memory,
+                r,
+                turn_loop(
+                    machine,
+                    memory,
+                    Registers {
+                        ep: r.ep,
+                        a: r.a,
+                        sp: r.sp,
+                        rp: r.rp,
+                    },
+                    Form::InCell,
+                ),
+            ),
+        ),
+        // (LOOP)I
+        0x4D => onward(
+            Form::Immediate,
+            commit_maybe(
+                machine,
+                memory,
+                r,
+                turn_loop(
+                    machine,
+                    memory,
+                    Registers {
+                        ep: r.ep,
+                        a: r.a,
+                        sp: r.sp,
+                        rp: r.rp,
+                    },
+                    Form::Immediate,
+                ),
+            ),
+        ),
+        // (+LOOP)
+        0x4E => onward(
+            Form::InCell,
+            commit_maybe(
+                machine,
+                memory,
+                r,
+                turn_plus_loop(
+                    machine,
+                    memory,
+                    Registers {
+                        ep: r.ep,
+                        a: r.a,
+                        sp: r.sp,
+                        rp: r.rp,
+                    },
+                    Form::InCell,
+                ),
+            ),
+        ),
+        // (+LOOP)I
+        0x4F => onward(
+            Form::Immediate,
+            commit_maybe(
+                machine,
+                memory,
+                r,
+                turn_plus_loop(
+                    machine,
+                    memory,
+                    Registers {
+                        ep: r.ep,
+                        a: r.a,
+                        sp: r.sp,
+                        rp: r.rp,
+                    },
+                    Form::Immediate,
+                ),
+            ),
+        ),
+        // UNLOOP
+        0x50 => commit_none(machine, memory, r, unloop(machine, memory, r)),
+        // J
+        0x51 => commit_one(machine, memory, r, outer_index(machine, memory, r)),
+        // (LITERAL)
+        0x52 => onward(
+            Form::InCell,
+            commit_one(
+                machine,
+                memory,
+                r,
+                literal(
+                    machine,
+                    memory,
+                    Registers {
+                        ep: r.ep,
+                        a: r.a,
+                        sp: r.sp,
+                        rp: r.rp,
+                    },
+                    Form::InCell,
+                ),
+            ),
+        ),
+        // (LITERAL)I
+        0x53 => onward(
+            Form::Immediate,
+            commit_one(
+                machine,
+                memory,
+                r,
+                literal(
+                    machine,
+                    memory,
+                    Registers {
+                        ep: r.ep,
+                        a: r.a,
+                        sp: r.sp,
+                        rp: r.rp,
+                    },
+                    Form::Immediate,
+                ),
+            ),
+        ),
+        // THROW
+        0x54 => commit_none(
+            machine,
+            memory,
+            r,
+            NoStore {
+                sp: r.sp,
+                rp: r.rp,
+                then: Then::Throw,
+            },
+        ),
+        // HALT
+        0x55 => commit_none(machine, memory, r, halt(machine, memory, r)),
+        // LIB
+        0x57 => commit_none(machine, memory, r, lib(machine, memory, r)),
+        // NEXT
+        0xFF => Step {
+            registers: Registers {
+                ep: r.ep,
+                a: r.a,
+                sp: r.sp,
+                rp: r.rp,
+            },
+            outcome: Outcome::Next,
+        },
+        _ => commit_none(
+            machine,
+            memory,
+            r,
+            NoStore {
+                sp: r.sp,
+                rp: r.rp,
+                then: Then::Raise(Fault::Illegal),
+            },
+        ),
+    }
+}

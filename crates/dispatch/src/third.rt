@@ -1,0 +1,90 @@
+// Opcodes 2Ch to 41h: arithmetic, logic, memory, the stack pointers.
+ghost use mathlib.Core.Path.{_≡_};
+ghost use Prim.Native.Nat.{_≤_};
+ghost use lib.ListN.{length};
+ghost use Rattle.machine.specs.Places as places;
+ghost use Rattle.machine.specs.Commits as commits;
+ghost use Rattle.dispatch.specs.Dispatch as dispatch;
+use crate::fourth::execute_fourth;
+use instruction::arithmetic::abs;
+use instruction::arithmetic::cells;
+use instruction::arithmetic::max;
+use instruction::arithmetic::min;
+use instruction::arithmetic::negate;
+use instruction::logic::and;
+use instruction::logic::invert;
+use instruction::logic::l_shift;
+use instruction::logic::one_l_shift;
+use instruction::logic::one_r_shift;
+use instruction::logic::or;
+use instruction::logic::r_shift;
+use instruction::logic::xor;
+use instruction::memory::c_fetch;
+use instruction::memory::c_store;
+use instruction::memory::fetch_named;
+use instruction::memory::plus_store;
+use instruction::memory::store_named;
+use instruction::registers::rp_store;
+use instruction::registers::sp_store;
+use instruction::shape::push;
+use machine::Machine;
+use machine::Registers;
+use machine::Step;
+use machine::commit::commit_byte;
+use machine::commit::commit_none;
+use machine::commit::commit_one;
+
+pub fn execute_third(machine: Machine, memory: &mut [u8], r: Registers, opcode: u32) -> Step
+    requires { ⌜ places.Whole (now memory) ⌝ }
+    requires { ⌜ length (now memory) ≤ 16777216 ⌝ }
+    requires { ⌜ 44 ≤ opcode ⌝ }
+    ensures { λ s. ⌜ commits.stepped (now (memory .exit)) s ≡ dispatch.executeOf machine (now (memory .entry)) r (dispatch.decodeOf opcode) ⌝ }
+{
+    match opcode {
+        // CELLS
+        0x2C => commit_one(machine, memory, r, cells(machine, memory, r)),
+        // ABS
+        0x2D => commit_one(machine, memory, r, abs(machine, memory, r)),
+        // NEGATE
+        0x2E => commit_one(machine, memory, r, negate(machine, memory, r)),
+        // MAX
+        0x2F => commit_one(machine, memory, r, max(machine, memory, r)),
+        // MIN
+        0x30 => commit_one(machine, memory, r, min(machine, memory, r)),
+        // INVERT
+        0x31 => commit_one(machine, memory, r, invert(machine, memory, r)),
+        // AND
+        0x32 => commit_one(machine, memory, r, and(machine, memory, r)),
+        // OR
+        0x33 => commit_one(machine, memory, r, or(machine, memory, r)),
+        // XOR
+        0x34 => commit_one(machine, memory, r, xor(machine, memory, r)),
+        // LSHIFT
+        0x35 => commit_one(machine, memory, r, l_shift(machine, memory, r)),
+        // RSHIFT
+        0x36 => commit_one(machine, memory, r, r_shift(machine, memory, r)),
+        // 1LSHIFT
+        0x37 => commit_one(machine, memory, r, one_l_shift(machine, memory, r)),
+        // 1RSHIFT
+        0x38 => commit_one(machine, memory, r, one_r_shift(machine, memory, r)),
+        // @
+        0x39 => commit_one(machine, memory, r, fetch_named(machine, memory, r)),
+        // !
+        0x3A => commit_one(machine, memory, r, store_named(machine, memory, r)),
+        // C@
+        0x3B => commit_one(machine, memory, r, c_fetch(machine, memory, r)),
+        // C!
+        0x3C => commit_byte(machine, memory, r, c_store(machine, memory, r)),
+        // +!
+        0x3D => commit_one(machine, memory, r, plus_store(machine, memory, r)),
+        // SP@
+        0x3E => commit_one(machine, memory, r, push(r, r.sp)),
+        // SP!
+        0x3F => commit_none(machine, memory, r, sp_store(machine, memory, r)),
+        // RP@
+        0x40 => commit_one(machine, memory, r, push(r, r.rp)),
+        // RP!
+        0x41 => commit_none(machine, memory, r, rp_store(machine, memory, r)),
+        _ => execute_fourth(machine, memory, r, opcode),
+    }
+}

@@ -1,0 +1,4 @@
+-- Laws that belong to no one function.
+pub mod CycleLaws
+pub mod RunLaws
+pub mod EntryLaws

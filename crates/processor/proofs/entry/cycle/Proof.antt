@@ -1,0 +1,50 @@
+-- `cycle` meets its contract: a refusal, or a run with a budget of one.
+use borrow.Author.Needs.{needs}
+use Rattle.processor.proofs.entry.cycle.Statement.{statement}
+use Rattle.processor.proofs.entry.cycle.Tie as tie
+use Rattle.processor.proofs.RunLaws.{one-cycle}
+use Rattle.processor.proofs.EntryLaws.{passed}
+use Rattle.processor.specs.Answers as answers
+use denote.Ref.{now}
+use lib.ListN.{length}
+use native.Mathlib.Omega.{arith}
+use mathlib.Core.Path.{_∙_, sym}
+
+judge-machine-requires : tie.Need-judge-machine-requires
+judge-machine-requires c κs = search needs
+
+enum-known-n : tie.Need-enum-known-n
+enum-known-n c = search needs
+
+enum-told : tie.Need-enum-told
+enum-told c = search needs
+
+turns-requires : tie.Need-turns-requires
+turns-requires c κs = let p = passed (length (now (c .before .before .before .before .before .args .memory))) (c .before .before .before .before .before .args .order) (sym (c .before .before .before .judge-machine .ensures) ∙ c .before .enum-told .given .1) in (p .whole, (omega (arith, p .least), p .most))
+
+cycled-as-requires : tie.Need-cycled-as-requires
+cycled-as-requires c κs = search needs
+
+returns : tie.Need-returns
+unfolding answers.cycleAnswer
+returns c = rw (sym (c .before .before .before .judge-machine .ensures) ∙ c .before .n .given .1)
+
+same-length : tie.Need-same-length
+same-length c = search needs
+
+returns-2 : tie.Need-returns-2
+unfolding answers.cycleAnswer
+returns-2 c = rw (sym (c .before .before .before .before .before .before .before .before .judge-machine .ensures) ∙ c .before .before .before .before .before .before .enum-told .given .1, c .cycled-as .ensures, ← one-cycle _ _ _ _ _ (c .before .before .before .before .turns .ensures .0) (c .before .before .before .before .turns .ensures .1))
+
+pub cycle-spec : {M : Type 1} → statement M
+cycle-spec =
+    tie.close
+    (tie.spec
+    judge-machine-requires
+    enum-known-n
+    enum-told
+    turns-requires
+    cycled-as-requires
+    returns
+    same-length
+    returns-2)

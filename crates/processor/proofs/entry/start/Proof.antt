@@ -1,0 +1,48 @@
+-- `start` meets its contract: a refusal, or the four cells and NEXT.
+use borrow.Author.Needs.{needs}
+use Rattle.processor.proofs.entry.start.Statement.{statement}
+use Rattle.processor.proofs.entry.start.Tie as tie
+use Rattle.processor.proofs.EntryLaws.{passed}
+use Rattle.processor.specs.Answers as answers
+use denote.Ref.{now}
+use lib.ListN.{length}
+use mathlib.Core.Path.{_∙_, sym}
+
+judge-machine-requires : tie.Need-judge-machine-requires
+judge-machine-requires c κs = search needs
+
+enum-known-n : tie.Need-enum-known-n
+enum-known-n c = search needs
+
+enum-told : tie.Need-enum-told
+enum-told c = search needs
+
+begin-requires : tie.Need-begin-requires
+begin-requires c κs = let p = passed (length (now (c .before .before .before .before .before .args .memory))) (c .before .before .before .before .before .args .order) (sym (c .before .before .before .judge-machine .ensures) ∙ c .before .enum-told .given .1) in (p .whole, (p .least, p .most))
+
+started-as-requires : tie.Need-started-as-requires
+started-as-requires c κs = search needs
+
+returns : tie.Need-returns
+unfolding answers.startAnswer
+returns c = rw (sym (c .before .before .before .judge-machine .ensures) ∙ c .before .n .given .1)
+
+same-length : tie.Need-same-length
+same-length c = search needs
+
+returns-2 : tie.Need-returns-2
+unfolding answers.startAnswer
+returns-2 c = rw (sym (c .before .before .before .before .before .before .before .judge-machine .ensures) ∙ c .before .before .before .before .before .enum-told .given .1, c .started-as .ensures, ← c .before .before .before .begin .ensures)
+
+pub start-spec : {M : Type 1} → statement M
+start-spec =
+    tie.close
+    (tie.spec
+    judge-machine-requires
+    enum-known-n
+    enum-told
+    begin-requires
+    started-as-requires
+    returns
+    same-length
+    returns-2)

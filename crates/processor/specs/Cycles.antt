@@ -1,0 +1,47 @@
+-- A cycle, and any number of them.
+use mathlib.Core.List.{List}
+use Prim.Native.Nat.{ℕ, zero, suc, _-_, _%_}
+use lib.ListN.{length}
+use Rattle.cell.specs.Memory.{storeCell}
+use Rattle.cell.specs.Shift.{asr8}
+use Rattle.machine.specs.Throws.{Turned, turned, finishOf, nextOf, handlerCell, badCell, addressCell}
+use Rattle.machine.specs.declared.Machine.{Machine}
+use Rattle.machine.specs.declared.Registers.{Registers}
+use Rattle.machine.specs.declared.Ended.{Ended}
+use Rattle.machine.specs.declared.Ended.the-variants.{Went, Threw, Stopped}
+use Rattle.dispatch.specs.Dispatch.{decodeOf, executeOf}
+
+-- document 01, The processor: "I is the low byte of A; A shifts right 8 bits, keeping its sign; I is executed"
+abbrev pub shifted : Registers → Registers
+shifted r = record { ep = r .ep; a = asr8 (r .a); sp = r .sp; rp = r .rp }
+
+unfoldable pub cycleOf : Machine → List ℕ → Registers → Turned
+cycleOf machine m r = finishOf machine (executeOf machine m (shifted r) (decodeOf (r .a % 256)))
+
+-- one cycle more; a stop stays
+abbrev pub advanced : Machine → Turned → Ended → Turned
+advanced machine s Went = cycleOf machine (s .memory) (s .turn .registers)
+advanced machine s (Threw f) = cycleOf machine (s .memory) (s .turn .registers)
+advanced machine s (Stopped x) = s
+
+unfoldable pub advance : Machine → Turned → Turned
+advance machine s = advanced machine s (s .turn .ended)
+
+-- n cycles
+unfoldable pub cyclesOf : Machine → ℕ → Turned → Turned
+cyclesOf machine zero s = s
+cyclesOf machine (suc n) s = cyclesOf machine n (advance machine s)
+
+-- "Start (given EP and handler): the four cells become handler, MEMORY, FFFFFFFFh, FFFFFFFFh"
+abbrev pub fourCells : Machine → List ℕ → ℕ → List ℕ
+fourCells machine m handler =
+    storeCell (machine .order)
+    (storeCell (machine .order) (storeCell (machine .order) (storeCell (machine .order) m handlerCell handler) 4 (length m)) badCell
+    0xFFFFFFFF)
+    addressCell
+    0xFFFFFFFF
+
+-- "SP = MEMORY - 100h, RP = MEMORY, A = 0; then NEXT"
+unfoldable pub startOf : Machine → List ℕ → ℕ → ℕ → Turned
+startOf machine m ep handler =
+    nextOf machine (fourCells machine m handler) (record { ep = ep; a = 0; sp = length m - 0x100; rp = length m })

@@ -1,0 +1,3 @@
+-- What crate `processor` means.
+pub mod Cycles
+pub mod Answers

@@ -1,0 +1,113 @@
+// The entry points. None requires anything: a bad memory length or byte order is refused, and then nothing is written.
+ghost use mathlib.Core.Path.{_≡_};
+ghost use Prim.Native.Nat.{_≤_};
+ghost use lib.ListN.{length};
+ghost use Rattle.machine.specs.Places as places;
+ghost use Rattle.machine.specs.Throws as throws;
+ghost use Rattle.processor.specs.Cycles as cycles;
+ghost use Rattle.processor.specs.Answers as answers;
+use crate::Cycled;
+use crate::Ran;
+use crate::Started;
+use crate::turning::Progress;
+use crate::turning::turns;
+use cell::Judged;
+use cell::judgement::judge_machine;
+use cell::memory::store;
+use machine::Ended;
+use machine::Machine;
+use machine::Registers;
+use machine::Turn;
+use machine::ending::next;
+
+// The four cells at the start of memory, the registers, then NEXT.
+fn begin(machine: Machine, memory: &mut [u8], ep: u32, handler: u32) -> Turn
+    requires { ⌜ places.Whole (now memory) ⌝ }
+    requires { ⌜ 1024 ≤ length (now memory) ⌝ }
+    requires { ⌜ length (now memory) ≤ 16777216 ⌝ }
+    ensures { λ t. ⌜ throws.turnedTo (now (memory .exit)) t ≡ cycles.startOf machine (now (memory .entry)) ep handler ⌝ }
+{
+    let length = memory.len() as u32;
+    store(machine.order, memory, 0, handler);
+    store(machine.order, memory, 4, length);
+    store(machine.order, memory, 8, 0xFFFFFFFF);
+    store(machine.order, memory, 12, 0xFFFFFFFF);
+    next(
+        machine,
+        memory,
+        Registers {
+            ep: ep,
+            a: 0,
+            sp: length - 0x100,
+            rp: length,
+        },
+    )
+}
+
+fn started_as(t: Turn) -> Started
+    ensures { λ s. ⌜ s ≡ answers.startedAs (t .registers) (t .ended) ⌝ }
+{
+    let r = t.registers;
+    let ended = t.ended;
+    match ended {
+        Ended::Went => Started::Ready(r),
+        Ended::Threw(_) => Started::Ready(r),
+        Ended::Stopped(x) => Started::Stopped(r, x),
+    }
+}
+
+pub fn start(order: u8, memory: &mut [u8], ep: u32, handler: u32) -> Started
+    ensures { λ s. ⌜ answers.startedTo (now (memory .exit)) s ≡ answers.startAnswer order (now (memory .entry)) ep handler ⌝ }
+{
+    match judge_machine(memory.len(), order) {
+        Judged::Refused(n) => Started::Refused(n),
+        Judged::Passed => started_as(begin(Machine { order: order }, memory, ep, handler)),
+    }
+}
+
+fn cycled_as(t: Turn) -> Cycled
+    ensures { λ c. ⌜ c ≡ answers.cycledAs (t .registers) (t .ended) ⌝ }
+{
+    let r = t.registers;
+    let ended = t.ended;
+    match ended {
+        Ended::Went => Cycled::Went(r),
+        Ended::Threw(f) => Cycled::Threw(r, f),
+        Ended::Stopped(x) => Cycled::Stopped(r, x),
+    }
+}
+
+pub fn cycle(order: u8, memory: &mut [u8], r: Registers) -> Cycled
+    ensures { λ c. ⌜ answers.cycledTo (now (memory .exit)) c ≡ answers.cycleAnswer order (now (memory .entry)) r ⌝ }
+{
+    match judge_machine(memory.len(), order) {
+        Judged::Refused(n) => Cycled::Refused(n),
+        Judged::Passed => {
+            let t = turns(Machine { order: order }, memory, r, 1);
+            let u = t.turn;
+            cycled_as(u)
+        }
+    }
+}
+
+fn ran_as(t: Progress) -> Ran
+    ensures { λ a. ⌜ a ≡ answers.ranAs (t .turn .registers) (t .done) (t .turn .ended) ⌝ }
+{
+    let u = t.turn;
+    let r = u.registers;
+    let ended = u.ended;
+    match ended {
+        Ended::Went => Ran::Spent(r),
+        Ended::Threw(_) => Ran::Spent(r),
+        Ended::Stopped(x) => Ran::Stopped(r, x, t.done),
+    }
+}
+
+pub fn run(order: u8, memory: &mut [u8], r: Registers, budget: u32) -> Ran
+    ensures { λ a. ⌜ answers.ranTo (now (memory .exit)) a ≡ answers.runAnswer order (now (memory .entry)) r budget ⌝ }
+{
+    match judge_machine(memory.len(), order) {
+        Judged::Refused(n) => Ran::Refused(n),
+        Judged::Passed => ran_as(turns(Machine { order: order }, memory, r, budget)),
+    }
+}
