@@ -1,0 +1,55 @@
+// Starts a machine on the first rule of document 01 (literals 2 and 3, +, HALT at 10h), runs it, and says why it stopped and after how many cycles.
+use libc::STDOUT_FILENO;
+use processor::Ran;
+use processor::Started;
+use processor::entry::run;
+use processor::entry::start;
+
+fn digit(n: u32) -> u8 {
+    let d = (n % 16) as u8;
+    if d < 10 { 48 + d } else { 55 + d }
+}
+
+fn write_cell(x: u32) {
+    let digits = [
+        digit(x / 268435456),
+        digit(x / 16777216),
+        digit(x / 1048576),
+        digit(x / 65536),
+        digit(x / 4096),
+        digit(x / 256),
+        digit(x / 16),
+        digit(x),
+    ];
+    io::write_all(STDOUT_FILENO, &digits);
+}
+
+fn main() {
+    let mut memory = [0u8; 1024];
+    // the cells 00000253h, 00000353h and 0000551Eh, least byte first
+    memory[16] = 0x53;
+    memory[17] = 0x02;
+    memory[20] = 0x53;
+    memory[21] = 0x03;
+    memory[24] = 0x1E;
+    memory[25] = 0x55;
+    let Started::Ready(r) = start(0, &mut memory, 16, 0) else {
+        io::write_all(STDOUT_FILENO, b"not ready\n");
+        return;
+    };
+    match run(0, &mut memory, r, 100) {
+        Ran::Refused(_) => {
+            io::write_all(STDOUT_FILENO, b"refused\n");
+        }
+        Ran::Spent(_) => {
+            io::write_all(STDOUT_FILENO, b"spent\n");
+        }
+        Ran::Stopped(_, reason, done) => {
+            io::write_all(STDOUT_FILENO, b"reason ");
+            write_cell(reason);
+            io::write_all(STDOUT_FILENO, b", cycles ");
+            write_cell(done);
+            io::write_all(STDOUT_FILENO, b"\n");
+        }
+    }
+}

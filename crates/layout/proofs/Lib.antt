@@ -1,0 +1,11 @@
+pub mod Classes
+pub mod Bytes
+pub mod Placing
+pub mod Image
+pub mod Direct
+pub mod Rounds
+pub mod Listing
+pub mod Packing
+pub mod Finding
+pub mod Meet
+pub mod Rows

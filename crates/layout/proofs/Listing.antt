@@ -1,0 +1,135 @@
+-- What an accepted listing has: kinds below 5Ch, plain operands 0, targets among the items; and its entries.
+-- Assumes nothing.
+use mathlib.Core.Path.{_≡_, refl, sym, ap, _∙_}
+use mathlib.Core.Bool.{Bool, true, false, _||_, true≢false, false≢true}
+use Prim.Native.Nat.{ℕ, zero, suc, _+_, _≤_, _<_}
+use native.Mathlib.Decide.{decLt}
+use native.Mathlib.Omega.{arith}
+use borrow.Author.Tests.{eqb-true, ltb-true, ltb-false, eqb-false, eq-eqb}
+use lib.Dec.{eqb, ltb}
+use Rattle.cell.specs.Shift.{pick}
+use Rattle.layout.specs.declared.Class.{Class}
+use Rattle.layout.specs.Kinds.{classOf, isBranch, plain, literal, branch, noKind}
+use Rattle.layout.specs.Refusals.{accepted, first}
+use Rattle.layout.specs.Listing.{Listing, any, targets, calls, afterCall, entry, judged, judgedFrom, judgedCount, judgedListing}
+use Rattle.layout.proofs.Classes.{high-is-none}
+
+-- every kind is below 5Ch
+pub kind-low : (k : ℕ) → (classOf k ≡ noKind → ⊥) → k < 0x5C
+kind-low k h = go (decLt k 0x5C)
+  where
+    go : Dec (k < 0x5C) → k < 0x5C
+    go (yes l) = l
+    go (no l) = absurd (h (sym (high-is-none k (omega arith))))
+
+pub first-none : (a b : ℕ) → first a b ≡ accepted → (a ≡ accepted) × (b ≡ accepted)
+first-none zero b e = (refl, e)
+first-none (suc a) b e = absurd (omega arith)
+
+-- an item that is not turned back
+judged-kind : (c : Class) (n x : ℕ) → judged c n x ≡ accepted → c ≡ noKind → ⊥
+judged-kind plain n x e q = let z : _≡_ {A = ℕ} 0 1 = cc in omega arith
+judged-kind literal n x e q = let z : _≡_ {A = ℕ} 0 1 = cc in omega arith
+judged-kind branch n x e q = let z : _≡_ {A = ℕ} 0 1 = cc in omega arith
+judged-kind noKind n x e q = omega arith
+
+pick-none : (b : Bool) (k : ℕ) → pick b accepted (suc k) ≡ accepted → b ≡ true
+pick-none true k e = refl
+pick-none false k e = absurd (omega arith)
+
+judged-target : (c : Class) (n x : ℕ) → judged c n x ≡ accepted → c ≡ branch → x < n
+judged-target plain n x e q = absurd (let z : _≡_ {A = ℕ} 0 1 = cc in omega arith)
+judged-target literal n x e q = absurd (let z : _≡_ {A = ℕ} 0 1 = cc in omega arith)
+judged-target branch n x e q = ltb-true x n (pick-none (ltb x n) _ e)
+judged-target noKind n x e q = absurd (let z : _≡_ {A = ℕ} 0 1 = cc in omega arith)
+
+judged-plain : (c : Class) (n x : ℕ) → judged c n x ≡ accepted → c ≡ plain → x ≡ 0
+judged-plain plain n x e q = eqb-true x 0 (pick-none (eqb x 0) _ e)
+judged-plain literal n x e q = absurd (let z : _≡_ {A = ℕ} 0 1 = cc in omega arith)
+judged-plain branch n x e q = absurd (let z : _≡_ {A = ℕ} 0 1 = cc in omega arith)
+judged-plain noKind n x e q = absurd (let z : _≡_ {A = ℕ} 0 1 = cc in omega arith)
+
+any-some : (p : ℕ → Bool) (n i : ℕ) → i < n → p i ≡ true → any p n ≡ true
+unfolding any
+any-some p zero i h e = absurd (omega arith)
+any-some p (suc n) i h e = go (p n) refl (decLt i n) (λ l. any-some p n i l e)
+  where
+    go : (b : Bool) → p n ≡ b → Dec (i < n) → (i < n → any p n ≡ true) → (b || any p n) ≡ true
+    go true q d f = refl
+    go false q (yes l) f = f l
+    go false q (no l) f = absurd (true≢false (sym e ∙ ap p (let t : i ≡ n = omega arith in t) ∙ q))
+
+or-left : (a b : Bool) → a ≡ true → (a || b) ≡ true
+or-left true b e = refl
+or-left false b e = absurd (false≢true e)
+
+or-right : (a b : Bool) → b ≡ true → (a || b) ≡ true
+or-right true b e = refl
+or-right false b e = e
+
+targets-own : (c : Class) (x : ℕ) → c ≡ branch → targets c x x ≡ true
+targets-own c x q = rw q (eq-eqb x x refl)
+
+-- item 0, a branch's target and the item after a call are entries
+pub first-entry : (l : Listing) → entry l 0 ≡ true
+unfolding entry
+first-entry l = refl
+
+pub target-entry : (l : Listing) (i : ℕ) → i < l .count → classOf (l .kind i) ≡ branch → entry l (l .operand i) ≡ true
+unfolding entry
+target-entry l i h q =
+    or-right (afterCall (l .kind) (l .operand i)) _
+    (any-some (λ j. targets (classOf (l .kind j)) (l .operand j) (l .operand i)) (l .count) i h
+    (targets-own (classOf (l .kind i)) (l .operand i) q))
+
+pub call-entry : (l : Listing) (i : ℕ) → calls (l .kind i) ≡ true → entry l (suc i) ≡ true
+unfolding entry
+call-entry l i q = or-left _ _ q
+
+pub is-branch : (c : Class) → isBranch c ≡ true → c ≡ branch
+is-branch plain q = cc
+is-branch literal q = cc
+is-branch branch q = refl
+is-branch noKind q = cc
+
+module _ (l : Listing) (ok : judgedListing l ≡ accepted) where
+  items-from : (k i : ℕ) → judgedFrom l k i ≡ accepted → (j : ℕ) → i ≤ j → j < i + k
+      → judged (classOf (l .kind j)) (l .count) (l .operand j) ≡ accepted
+  unfolding judgedFrom
+  items-from zero i e j a b = absurd (omega arith)
+  items-from (suc k) i e j a b = go (decLt i j) (first-none _ _ e) (λ q c. items-from k (suc i) q j c (omega arith))
+    where
+      go : Dec (i < j) → (judged (classOf (l .kind i)) (l .count) (l .operand i) ≡ accepted) × (judgedFrom l k (suc i) ≡ accepted)
+          → (judgedFrom l k (suc i) ≡ accepted → suc i ≤ j → judged (classOf (l .kind j)) (l .count) (l .operand j) ≡ accepted)
+          → judged (classOf (l .kind j)) (l .count) (l .operand j) ≡ accepted
+      go (yes c) q f = f (q .1) c
+      go (no c) q f = rw (let t : j ≡ i = omega arith in t) (q .0)
+
+  item-judged : (i : ℕ) → i < l .count → judged (classOf (l .kind i)) (l .count) (l .operand i) ≡ accepted
+  unfolding judgedListing
+  item-judged i h = items-from (l .count) 0 (first-none (judgedCount (l .count)) (judgedFrom l (l .count) 0) ok .1) i (omega arith) (omega arith)
+
+  pub kind-below : (i : ℕ) → i < l .count → l .kind i < 0x5C
+  kind-below i h = kind-low (l .kind i) (judged-kind _ _ _ (item-judged i h))
+
+  pub target-below : (i : ℕ) → i < l .count → classOf (l .kind i) ≡ branch → l .operand i < l .count
+  target-below i h q = judged-target _ _ _ (item-judged i h) q
+
+  pub plain-operand : (i : ℕ) → i < l .count → classOf (l .kind i) ≡ plain → l .operand i ≡ 0
+  plain-operand i h q = judged-plain _ _ _ (item-judged i h) q
+
+  pub is-kind : (i : ℕ) → i < l .count → classOf (l .kind i) ≡ noKind → ⊥
+  is-kind i h = judged-kind _ _ _ (item-judged i h)
+
+  pub some-item : (0 < l .count) × (l .count ≤ 4096)
+  unfolding judgedListing
+  some-item = go (eqb (l .count) 0) refl (ltb 4096 (l .count)) refl (first-none _ _ ok .0)
+    where
+      go : (a : Bool) → eqb (l .count) 0 ≡ a → (b : Bool) → ltb 4096 (l .count) ≡ b → pick (a || b) 4106 0 ≡ 0 → (0 < l .count) × (l .count ≤ 4096)
+      go true p b q e = absurd (omega arith)
+      go false p true q e = absurd (omega arith)
+      go false p false q e = (nonzero (l .count) (eqb-false (l .count) 0 p), ltb-false 4096 (l .count) q)
+        where
+          nonzero : (n : ℕ) → (n ≡ 0 → ⊥) → 0 < n
+          nonzero zero h = absurd (h refl)
+          nonzero (suc n) h = omega arith

@@ -1,0 +1,69 @@
+-- Where the items of a listing go. Document 01, Listings: an entry begins a cell, and so does an item that finds no free byte; any other
+-- takes the next byte. A cursor is the struct of the code: at, the index of the open cell; free, the bytes left in it, 0 if none is
+-- open or it is full; next, the index of the next cell.
+use mathlib.Core.Path.{_≡_}
+use mathlib.Core.Bool.{Bool, true, false}
+use mathlib.Core.List.{List}
+use Prim.Native.Nat.{ℕ, zero, suc, _+_, _-_, _<_}
+use lib.ListN.{getD}
+use Rattle.layout.specs.declared.Cursor.{Cursor}
+use Rattle.layout.specs.declared.Form.{Form}
+pub use Rattle.layout.specs.declared.Form.the-variants.{Alone as alone, Immediate as immediate, InCell as inCell}
+
+-- an item opens a cell: an entry, or no byte is free
+abbrev pub fresh : ℕ → Bool → Bool
+fresh zero entry = true
+fresh (suc f) entry = entry
+
+-- a new cell comes after all cells placed so far
+abbrev pub begin : Bool → Cursor → Cursor
+begin true c = record { at = c .next; free = 4; next = c .next + 1 }
+begin false c = c
+
+-- after an item with f bytes left behind its opcode: the immediate form closes the cell; an operand cell joins those after the open
+-- cell, which stays open
+abbrev pub finish : Form → ℕ → Cursor → Cursor
+finish alone f d = record { at = d .at; free = f; next = d .next }
+finish immediate f d = record { at = d .at; free = 0; next = d .next }
+finish inCell f d = record { at = d .at; free = f; next = d .next + 1 }
+
+abbrev pub step : Bool → (ℕ → Form) → Cursor → Cursor
+step o g c = finish (g (begin o c .free - 1)) (begin o c .free - 1) (begin o c)
+
+-- the operand cells of a form
+abbrev pub extra : Form → ℕ
+extra alone = 0
+extra immediate = 0
+extra inCell = 1
+
+-- what a layout goes by: the entries, and the form that item i takes where its opcode leaves f bytes
+pub record Plan : Type 0 where
+  pub entry : ℕ → Bool
+  pub form : ℕ → ℕ → Form
+
+module _ (p : Plan) where
+  -- the cursor before item i
+  unfoldable pub cur : ℕ → Cursor
+  cur zero = record { at = 0; free = 0; next = 0 }
+  cur (suc i) = step (fresh (cur i .free) (p .entry i)) (p .form i) (cur i)
+
+  abbrev pub opens : ℕ → Bool
+  opens i = fresh (cur i .free) (p .entry i)
+
+  -- the cursor when item i's cell is open: the item's cell is at index mid i .at, and its EP value is the address of index
+  -- mid i .next. Document 01, Listings: it lies behind the cell and the operand cells of the items before it in that cell
+  abbrev pub mid : ℕ → Cursor
+  mid i = begin (opens i) (cur i)
+
+  -- f of document 01: the bytes behind the item's opcode
+  abbrev pub left : ℕ → ℕ
+  left i = mid i .free - 1
+
+  abbrev pub formAt : ℕ → Form
+  formAt i = p .form i (left i)
+
+-- arrays hold, for each of the first n items, the indexes of its cell and of its EP value, and the bytes left behind its opcode
+pub record Laid (p : Plan) (ats eps lefts : List ℕ) (n : ℕ) : Type 0 where
+  pub at : (j : ℕ) → j < n → getD ats j 0 ≡ mid p j .at
+  pub ep : (j : ℕ) → j < n → getD eps j 0 ≡ mid p j .next
+  pub left : (j : ℕ) → j < n → getD lefts j 0 ≡ left p j

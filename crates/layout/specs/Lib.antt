@@ -1,0 +1,12 @@
+pub mod Refusals
+pub mod Kinds
+pub mod Bytes
+pub mod Flags
+pub mod Listing
+pub mod File
+pub mod Layout
+pub mod Image
+pub mod Rounds
+pub mod Packing
+pub mod Output
+pub mod Worked

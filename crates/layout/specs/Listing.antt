@@ -1,0 +1,72 @@
+-- Listings. Document 01, Listings: a base, kinds and operands. The base is held apart: neither entries nor layout depend on it.
+use mathlib.Core.Path.{_≡_}
+use mathlib.Core.Bool.{Bool, true, false, _&&_, _||_}
+use mathlib.Core.List.{List, [], _∷_}
+use Prim.Native.Nat.{ℕ, zero, suc}
+use lib.Dec.{ltb, eqb}
+use lib.ListN.{length, getD}
+use Rattle.cell.specs.Shift.{pick}
+use Rattle.layout.specs.declared.Class.{Class}
+use Rattle.layout.specs.Refusals.{accepted, badCount, badKind, badOperand, badTarget, first}
+use Rattle.layout.specs.Kinds.{classOf, among, isBranch, plain, literal, branch, noKind}
+
+-- kind and operand are functions of the item's number; what they give from count on plays no part
+pub record Listing : Type 0 where
+  pub count : ℕ
+  pub kind : ℕ → ℕ
+  pub operand : ℕ → ℕ
+
+-- the listing in two arrays
+abbrev pub listed : List ℕ → List ℕ → Listing
+listed kinds operands = record { count = length kinds; kind = λ i. getD kinds i 0; operand = λ i. getD operands i 0 }
+
+-- some number below n passes the test
+unfoldable pub any : (ℕ → Bool) → ℕ → Bool
+any p zero = false
+any p (suc i) = p i || any p i
+
+-- an item of class k with operand x names item i as its target
+abbrev pub targets : Class → ℕ → ℕ → Bool
+targets k x i = isBranch k && eqb x i
+
+-- 46h, 47h, 48h: EXECUTE, @EXECUTE, CALL
+abbrev pub calls : ℕ → Bool
+calls k = among k (0x46 ∷ 0x47 ∷ 0x48 ∷ [])
+
+-- item 0, and the item after a call
+abbrev pub afterCall : (ℕ → ℕ) → ℕ → Bool
+afterCall kind zero = true
+afterCall kind (suc i) = calls (kind i)
+
+-- document 01, Listings: the entries are the first item, the targets of branches, and what follows a call
+unfoldable pub entry : Listing → ℕ → Bool
+entry l i = afterCall (l .kind) i || any (λ j. targets (classOf (l .kind j)) (l .operand j) i) (l .count)
+
+-- document 01, Turned back for the input: one item of n: its kind, then a plain operand that is not 0, then a target of n or more
+abbrev pub judged : Class → ℕ → ℕ → ℕ
+judged plain n x = pick (eqb x 0) accepted badOperand
+judged literal n x = accepted
+judged branch n x = pick (ltb x n) accepted badTarget
+judged noKind n x = badKind
+
+-- k items from item i on, lowest first
+unfoldable pub judgedFrom : Listing → ℕ → ℕ → ℕ
+judgedFrom l zero i = accepted
+judgedFrom l (suc k) i = first (judged (classOf (l .kind i)) (l .count) (l .operand i)) (judgedFrom l k (suc i))
+
+-- n is 0 or above 4,096
+abbrev pub judgedCount : ℕ → ℕ
+judgedCount n = pick (eqb n 0 || ltb 4096 n) badCount accepted
+
+unfoldable pub judgedListing : Listing → ℕ
+judgedListing l = first (judgedCount (l .count)) (judgedFrom l (l .count) 0)
+
+-- a listing in two arrays: unequal arrays are turned back with the count
+unfoldable pub judgedArrays : List ℕ → List ℕ → ℕ
+judgedArrays kinds operands =
+    first (pick (eqb (length kinds) (length operands)) accepted badCount) (judgedListing (listed kinds operands))
+
+-- arrays of one length that are not turned back
+pub record Checked (kinds operands : List ℕ) : Type 0 where
+  pub equal : length operands ≡ length kinds
+  pub input : judgedListing (listed kinds operands) ≡ accepted

@@ -1,0 +1,140 @@
+-- The image of a listing: forms, values, marks and cells. Document 01, Listings, the paragraph on entries, its second half.
+use mathlib.Core.Path.{_≡_}
+use mathlib.Core.Bool.{Bool, true, false, not, _&&_, _||_}
+use mathlib.Core.List.{List}
+use Prim.Native.Nat.{ℕ, zero, suc, _+_, _-_, _*_, _%_, _^_, _<_}
+use lib.Dec.{ltb, eqb}
+use Rattle.cell.specs.Shift.{pick}
+use Rattle.layout.specs.declared.Class.{Class}
+use Rattle.layout.specs.declared.Entry.{Entry}
+use Rattle.layout.specs.declared.Entry.the-variants.{Item, Nothing}
+use Rattle.layout.specs.declared.Form.{Form}
+use Rattle.layout.specs.Bytes.{fits}
+use Rattle.layout.specs.Flags.{flagged}
+use Rattle.layout.specs.Kinds.{classOf, plain, literal, branch, noKind}
+use Rattle.layout.specs.Refusals.{accepted, badAlignment, badPlace, first}
+use Rattle.layout.specs.Listing.{Listing, entry, judgedListing}
+use Rattle.layout.specs.Layout.{Plan, extra, cur, mid, left, formAt, alone, immediate, inCell}
+use Rattle.layout.specs.Image.{cells, reg}
+use Rattle.layout.specs.Rounds.{settled}
+
+-- document 01, Listings: without a mark and with a byte or more left, the immediate form; else an operand cell
+abbrev pub taking : Bool → ℕ → Form
+taking marked zero = inCell
+taking true (suc f) = inCell
+taking false (suc f) = immediate
+
+-- the form of an item with operand x where its opcode leaves f bytes; m is its mark if it is a branch. Document 01, Listings: a
+-- literal counts as marked where, and only where, its value does not fit f signed bytes
+abbrev pub formOf : Class → Bool → ℕ → ℕ → Form
+formOf plain m x f = alone
+formOf literal m x f = taking (not (fits f x)) f
+formOf branch m x f = taking m f
+formOf noKind m x f = alone
+
+-- document 01, Listings: a branch holds the cells from its EP value to its target, or in an operand cell the target's address. ep and
+-- to are the indexes of the EP value and of the target's cell; a way back is a cell's negative number
+abbrev pub distance : ℕ → ℕ → ℕ
+distance ep to = (to + 2 ^ 32 - ep) % 2 ^ 32
+
+abbrev pub branchValue : Form → ℕ → ℕ → ℕ → ℕ
+branchValue alone ep to base = 0
+branchValue immediate ep to base = distance ep to
+branchValue inCell ep to base = base + 4 * to
+
+-- the value of an item with operand x
+abbrev pub valueOf : Class → Form → ℕ → ℕ → ℕ → ℕ → ℕ
+valueOf plain g x ep to base = 0
+valueOf literal g x ep to base = x
+valueOf branch g x ep to base = branchValue g ep to base
+valueOf noKind g x ep to base = 0
+
+-- document 01, Listings: a round marks each immediate branch whose value does not fit
+abbrev pub newIn : Form → Bool → Bool
+newIn alone fit = false
+newIn immediate fit = not fit
+newIn inCell fit = false
+
+abbrev pub newOf : Class → Form → Bool → Bool
+newOf plain g fit = false
+newOf literal g fit = false
+newOf branch g fit = newIn g fit
+newOf noKind g fit = false
+
+abbrev pub pickEntry : Bool → Entry → Entry → Entry
+pickEntry true a b = a
+pickEntry false a b = b
+
+module _ (l : Listing) where
+  -- the layout under the branch marks m
+  abbrev pub plan : (ℕ → Bool) → Plan
+  plan m = record { entry = entry l; form = λ i f. formOf (classOf (l .kind i)) (m i) (l .operand i) f }
+
+  abbrev pub distanceAt : (ℕ → Bool) → ℕ → ℕ
+  distanceAt m i = distance (mid (plan m) i .next) (mid (plan m) (l .operand i) .at)
+
+  abbrev pub new : (ℕ → Bool) → ℕ → Bool
+  new m i = newOf (classOf (l .kind i)) (formAt (plan m) i) (fits (left (plan m) i) (distanceAt m i))
+
+  -- document 01, Listings: the marks when the rounds end, from none
+  unfoldable pub marks : ℕ → Bool
+  marks = settled (l .count) new
+
+  abbrev pub layout : Plan
+  layout = plan marks
+
+  abbrev pub imageCells : ℕ
+  imageCells = cur layout (l .count) .next
+
+-- Document 01, Turned back for the state: -4104, base unaligned; -4110, base below 10h, or image passes 16,777,216; size is the cells
+-- of the image
+abbrev pub judgedPlace : ℕ → ℕ → ℕ
+judgedPlace base size =
+    first (pick (eqb (base % 4) 0) accepted badAlignment)
+    (pick (ltb base 0x10 || ltb 16777216 (base + 4 * size)) badPlace accepted)
+
+-- arrays of marks before and after a round, for the first n items
+abbrev pub Marked : Listing → List ℕ → List ℕ → ℕ → Type 0
+Marked l before after n = (j : ℕ) → j < n → flagged after j ≡ (flagged before j || new l (flagged before) j)
+
+module _ (base : ℕ) (l : Listing) where
+  abbrev pub value : ℕ → ℕ
+  value i =
+      valueOf (classOf (l .kind i)) (formAt (layout l) i) (l .operand i)
+      (mid (layout l) i .next) (mid (layout l) (l .operand i) .at) base
+
+  unfoldable pub image : List ℕ
+  image = cells (layout l) (l .kind) value (l .count) 0
+
+  -- the address of an item's cell, and its EP value
+  abbrev pub addressOf : ℕ → ℕ
+  addressOf i = base + 4 * mid (layout l) i .at
+
+  abbrev pub epValue : ℕ → ℕ
+  epValue i = base + 4 * mid (layout l) i .next
+
+  -- document 01, Listings, the list machine: the entry whose cell is at an address; here among the first items, as many as the first
+  -- argument says
+  unfoldable pub entryBelow : ℕ → ℕ → Entry
+  entryBelow zero a = Nothing
+  entryBelow (suc i) a = pickEntry (entry l i && eqb (addressOf i) a) (Item (record { 0 = i })) (entryBelow i a)
+
+  unfoldable pub entryAt : ℕ → Entry
+  entryAt = entryBelow (l .count)
+
+  -- A when item i's opcode is its low byte
+  abbrev pub register : ℕ → ℕ
+  register i = reg (layout l) image i
+
+  -- EP behind item i, once its operand cell, if it has one, is passed
+  abbrev pub behind : ℕ → ℕ
+  behind i = epValue i + 4 * extra (formAt (layout l) i)
+
+  abbrev pub judgedBase : ℕ
+  judgedBase = judgedPlace base (imageCells l)
+
+-- document 01, Listings, on demand 3: what an accepted listing and a legal base are; operands are cells
+pub record Legal (base : ℕ) (l : Listing) : Type 0 where
+  pub input : judgedListing l ≡ accepted
+  pub state : judgedBase base l ≡ accepted
+  pub cell : (i : ℕ) → i < l .count → l .operand i < 2 ^ 32

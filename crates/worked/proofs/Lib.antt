@@ -1,0 +1,2 @@
+-- The table's theorem.
+pub mod Table
