@@ -1,0 +1,9 @@
+-- Laws of iterated cycles: memory keeps its length (CycleLength), a sound machine stays sound (CycleSound).
+pub mod LengthLaws
+pub mod CycleLength
+pub mod NumberBounds
+pub mod EffectBounds
+pub mod PlainBounds
+pub mod TakingBounds
+pub mod SoundLaws
+pub mod CycleSound

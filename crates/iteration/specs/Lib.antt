@@ -1,0 +1,2 @@
+-- What it means that a machine is sound.
+pub mod Soundness

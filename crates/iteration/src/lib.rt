@@ -1,0 +1,1 @@
+// The laws of iterated cycles stand in proofs/; there is no code.
