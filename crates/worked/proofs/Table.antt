@@ -9,11 +9,24 @@ use Rattle.machine.specs.Places.{placeOf, fetchOf}
 use Rattle.machine.specs.Commits.{placesOf, storedOf, commitOf}
 use Rattle.machine.specs.Throws.{handlerOf, throwOf, nextOf, finishOf}
 use Rattle.instruction.specs.Plain.{plainOf}
+use Rattle.instruction.specs.Taking.{takingOf}
 use Rattle.dispatch.specs.Dispatch.{decodeOf, executeOf}
 use Rattle.processor.specs.Cycles.{cycleOf, advance, cyclesOf, startOf}
-use Rattle.worked.specs.Rows.{rowHolds, tableHolds}
-use Rattle.worked.specs.Processor.{processorRows}
+use Rattle.processor.specs.Answers.{doneOf}
+use Rattle.layout.specs.Kinds.{classOf}
+use Rattle.layout.specs.Bytes.{fits, pack}
+use Rattle.layout.specs.Listing.{any, entry, judgedFrom, judgedListing, judgedArrays}
+use Rattle.layout.specs.Layout.{cur}
+use Rattle.layout.specs.Image.{word, cells}
+use Rattle.layout.specs.Rounds.{rounds, settle, settled}
+use Rattle.layout.specs.Packing.{marks, image}
+use Rattle.module.specs.Format.{countOf}
+use Rattle.module.specs.Grounds.{judgeLoad}
+use Rattle.module.specs.Copies.{copied}
+use Rattle.module.specs.Answers.{loadOf}
+use Rattle.worked.specs.Rows.{tableHolds}
+use Rattle.worked.specs.Table.{table}
 
-pub worked-on-paper : tableHolds processorRows ≡ true
-unfolding rowHolds processorRows cellAt storeCell sum difference negated symmetricOf flooredOf asr8 placeOf fetchOf placesOf storedOf commitOf handlerOf throwOf nextOf finishOf plainOf decodeOf executeOf cycleOf advance cyclesOf startOf
+pub worked-on-paper : tableHolds table ≡ true
+unfolding tableHolds cellAt storeCell sum difference negated symmetricOf flooredOf asr8 placeOf fetchOf placesOf storedOf commitOf handlerOf throwOf nextOf finishOf plainOf takingOf decodeOf executeOf cycleOf advance cyclesOf startOf doneOf classOf fits pack any entry judgedFrom judgedListing judgedArrays cur word cells rounds settle settled marks image countOf judgeLoad copied loadOf
 worked-on-paper = refl

@@ -1,0 +1,10 @@
+-- Laws that belong to no one function.
+pub mod JudgeLaws
+pub mod ConditionLaws
+pub mod CopyLaws
+pub mod HeaderLaws
+pub mod SameLaws
+pub mod AnswerLaws
+pub mod FileLaws
+pub mod Theorems
+pub mod Rows

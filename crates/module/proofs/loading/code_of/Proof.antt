@@ -1,0 +1,28 @@
+use borrow.Author.Needs.{needs}
+use Rattle.module.proofs.loading.code_of.Statement.{statement}
+use Rattle.module.proofs.loading.code_of.Tie as tie
+use Prim.Native.Nat.{_-_}
+use lib.ListN.{length, drop, length-drop}
+use native.Mathlib.Omega.{arith}
+use lib.Seq.{take-all}
+use Rattle.module.proofs.loading.code_of.Reads as reads
+use Rattle.module.proofs.loading.code_of.Lts as lts
+
+-- src/loading.rt:19:5
+sub-result : tie.Need-sub-result
+sub-result c = search needs
+
+-- src/loading.rt:19:5
+part-result-start : tie.Need-part-result-start
+part-result-start c = search needs
+
+-- src/loading.rt:19:5
+part-result-end : tie.Need-part-result-end
+part-result-end c = search needs
+
+-- src/loading.rt:15:1
+returns : tie.Need-returns
+returns c = take-all (length (c .before .args .file .now) - 12) (drop 12 (c .before .args .file .now)) (simp length-drop (omega arith))
+
+pub code-of-spec : {M : Type 1} → statement M
+code-of-spec = tie.close (tie.spec sub-result part-result-start part-result-end returns)

@@ -1,0 +1,75 @@
+-- What load_object and save_object leave and answer. Document 01: "A refusal gives its number, zero counts, .. all memory and outputs untouched.
+-- A success writes its bytes and no others"; document 001, section 4.3: the result is 0 if successful.
+use mathlib.Core.List.{List, _++_}
+use Prim.Native.Nat.{ℕ, _+_, _*_}
+use lib.ListN.{length, drop}
+use Rattle.cell.specs.Refusals.{refusalNumber}
+use Rattle.cell.specs.declared.CellCount.{CellCount}
+use Rattle.cell.specs.declared.Judged.{Judged}
+use Rattle.cell.specs.declared.Judged.the-variants as judged
+use Rattle.module.specs.declared.Loaded.{Loaded}
+use Rattle.module.specs.declared.Loaded.the-variants as loaded
+use Rattle.module.specs.declared.Saved.{Saved}
+use Rattle.module.specs.declared.Saved.the-variants as saved
+use Rattle.module.specs.Format.{orderOf, countOf, codeOf, moduleOf}
+use Rattle.module.specs.Grounds.{judgeLoad, judgeSave}
+use Rattle.module.specs.Copies.{copied}
+
+abbrev pub cellCount : ℕ → CellCount
+cellCount l = record { 0 = l }
+
+-- the number and the count of each answer of a load: 0 and the cells loaded, or the refusal's number and 0
+abbrev pub loadNumber : Loaded → ℕ
+loadNumber (loaded.Refused r) = refusalNumber r
+loadNumber (loaded.Cells l) = 0
+
+abbrev pub loadCount : Loaded → ℕ
+loadCount (loaded.Refused r) = 0
+loadCount (loaded.Cells l) = l .0
+
+-- memory after a load, and its answer
+pub record LoadResult : Type 0 where
+  pub memory : List ℕ
+  pub answer : Loaded
+  pub number : ℕ
+  pub count : ℕ
+
+abbrev pub loadedTo : List ℕ → Loaded → LoadResult
+loadedTo m a = record { memory = m; answer = a; number = loadNumber a; count = loadCount a }
+
+abbrev pub loadIf : Judged → ℕ → List ℕ → List ℕ → ℕ → LoadResult
+loadIf (judged.Refused r) order m file a = loadedTo m (loaded.Refused r)
+loadIf judged.Passed order m file a =
+    loadedTo (copied (orderOf file) order (codeOf file) m a (countOf file)) (loaded.Cells (cellCount (countOf file)))
+
+-- load_object on a machine of a byte order, with its memory, a file and a byte address
+unfoldable pub loadOf : ℕ → List ℕ → List ℕ → ℕ → LoadResult
+loadOf order m file a = loadIf (judgeLoad (length m) order file a) order m file a
+
+-- the number and the count of each answer of a save: 0 and the bytes written, or the refusal's number and 0
+abbrev pub saveNumber : Saved → ℕ
+saveNumber (saved.Refused r) = refusalNumber r
+saveNumber (saved.Bytes n) = 0
+
+abbrev pub saveCount : Saved → ℕ
+saveCount (saved.Refused r) = 0
+saveCount (saved.Bytes n) = n
+
+-- the output after a save, and its answer
+pub record SaveResult : Type 0 where
+  pub output : List ℕ
+  pub answer : Saved
+  pub number : ℕ
+  pub count : ℕ
+
+abbrev pub savedTo : List ℕ → Saved → SaveResult
+savedTo out a = record { output = out; answer = a; number = saveNumber a; count = saveCount a }
+
+abbrev pub saveIf : Judged → ℕ → List ℕ → ℕ → ℕ → List ℕ → SaveResult
+saveIf (judged.Refused r) order m a l out = savedTo out (saved.Refused r)
+saveIf judged.Passed order m a l out =
+    savedTo (moduleOf order m a l ++ drop (12 + 4 * l) out) (saved.Bytes (12 + 4 * l))
+
+-- save_object on a machine of a byte order, with its memory, a byte address, a number of cells and an output
+unfoldable pub saveOf : ℕ → List ℕ → ℕ → ℕ → List ℕ → SaveResult
+saveOf order m a l out = saveIf (judgeSave (length m) order a l (length out)) order m a l out

@@ -1,0 +1,33 @@
+-- The file of an object module. Document 01, Modules: "BEETLE", 00h, ENDISM, a count l of cells in that order, then l cells; document 001,
+-- section 4.1 and table 8.
+use mathlib.Core.List.{List, [], _∷_, _++_}
+use Prim.Native.Nat.{ℕ, zero, suc, _*_}
+use lib.ListN.{getD, take, drop}
+use Rattle.cell.specs.Memory.{byte0, byte1, byte2, byte3, cellAt}
+
+-- "BEETLE", 00h
+abbrev pub title : List ℕ
+title = 0x42 ∷ 0x45 ∷ 0x45 ∷ 0x54 ∷ 0x4C ∷ 0x45 ∷ 0x00 ∷ []
+
+-- the four bytes of a cell, the first in the file first
+abbrev pub cellBytes : ℕ → ℕ → List ℕ
+cellBytes zero x = byte0 x ∷ byte1 x ∷ byte2 x ∷ byte3 x ∷ []
+cellBytes (suc order) x = byte3 x ∷ byte2 x ∷ byte1 x ∷ byte0 x ∷ []
+
+-- the twelve bytes in front of l cells
+unfoldable pub headerOf : ℕ → ℕ → List ℕ
+headerOf order l = title ++ (order ∷ cellBytes order l)
+
+-- the module of the l cells from byte address a on, their bytes as they stand in memory
+unfoldable pub moduleOf : ℕ → List ℕ → ℕ → ℕ → List ℕ
+moduleOf order m a l = headerOf order l ++ take (4 * l) (drop a m)
+
+-- what a file says: its byte order, the count l of its cells, and its code part, from byte 12 on
+abbrev pub orderOf : List ℕ → ℕ
+orderOf file = getD file 7 0
+
+unfoldable pub countOf : List ℕ → ℕ
+countOf file = cellAt (orderOf file) file 8
+
+abbrev pub codeOf : List ℕ → List ℕ
+codeOf file = drop 12 file

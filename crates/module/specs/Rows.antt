@@ -1,0 +1,21 @@
+-- Document 01, Worked on paper: "P module with cell 55h, order 0, loaded on order 1: 00 00 00 55".
+use mathlib.Core.List.{List, [], _∷_}
+use Prim.Native.Nat.{ℕ}
+use lib.ListN.{take, drop, replicate}
+use Rattle.module.specs.Answers.{LoadResult, loadOf}
+
+-- the file: "BEETLE", 00h, order 0, one cell, 55h
+abbrev pub module55 : List ℕ
+module55 =
+    0x42 ∷ 0x45 ∷ 0x45 ∷ 0x54 ∷ 0x4C ∷ 0x45 ∷ 0x00 ∷ 0x00 ∷ 0x01 ∷ 0x00 ∷ 0x00 ∷ 0x00 ∷ 0x55 ∷ 0x00 ∷ 0x00 ∷ 0x00 ∷ []
+
+-- on a machine of order 1, with 400h bytes of zeros, at address 10h
+abbrev pub loaded55 : LoadResult
+loaded55 = loadOf 1 (replicate 1024 0) module55 0x10
+
+-- the four bytes from the address on, and those that the paper has
+abbrev pub bytes55 : List ℕ
+bytes55 = take 4 (drop 0x10 (loaded55 .memory))
+
+abbrev pub paper55 : List ℕ
+paper55 = 0x00 ∷ 0x00 ∷ 0x00 ∷ 0x55 ∷ []

@@ -1,0 +1,45 @@
+// The numbers of each answer, as the paper has them.
+ghost use mathlib.Core.Path.{_≡_};
+ghost use Rattle.module.specs.Answers as answers;
+use crate::Loaded;
+use crate::Saved;
+use cell::judgement::refusal_number;
+
+// 0, or the refusal's number.
+pub fn load_number(answer: Loaded) -> u32
+    ensures { λ n. ⌜ n ≡ answers.loadNumber answer ⌝ }
+{
+    match answer {
+        Loaded::Refused(r) => refusal_number(r),
+        Loaded::Cells(_) => 0,
+    }
+}
+
+// The number of cells loaded, 0 on a refusal.
+pub fn load_count(answer: Loaded) -> u32
+    ensures { λ n. ⌜ n ≡ answers.loadCount answer ⌝ }
+{
+    match answer {
+        Loaded::Refused(_) => 0,
+        Loaded::Cells(l) => l.0,
+    }
+}
+
+pub fn save_number(answer: Saved) -> u32
+    ensures { λ n. ⌜ n ≡ answers.saveNumber answer ⌝ }
+{
+    match answer {
+        Saved::Refused(r) => refusal_number(r),
+        Saved::Bytes(_) => 0,
+    }
+}
+
+// The number of bytes written, 0 on a refusal.
+pub fn save_count(answer: Saved) -> u32
+    ensures { λ n. ⌜ n ≡ answers.saveCount answer ⌝ }
+{
+    match answer {
+        Saved::Refused(_) => 0,
+        Saved::Bytes(n) => n,
+    }
+}

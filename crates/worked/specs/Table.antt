@@ -1,0 +1,9 @@
+-- All rows: those on the processor and on the run in both byte orders.
+use mathlib.Core.List.{List, _++_}
+use Rattle.worked.specs.Rows.{Row}
+use Rattle.worked.specs.Processor.{processorRows}
+use Rattle.worked.specs.Packing.{packingRows, runRows}
+use Rattle.worked.specs.Modules.{moduleRows}
+
+abbrev pub table : List Row
+table = processorRows 0 ++ (processorRows 1 ++ (packingRows ++ (runRows 0 ++ (runRows 1 ++ moduleRows))))
