@@ -1,7 +1,0 @@
-mod Flags
-mod Turns
-mod Laying
-mod Marking
-mod Settling
-mod Writing
-mod Reading
