@@ -1,0 +1,244 @@
+//! Calls of the processor.
+
+use super::{any_cell, any_cells, damage, fill_memory, memory_length, order_of, out_with_room};
+use super::{pointer, put_cell, rules};
+use crate::call::{perform, reference, Call, Entry};
+use crate::random::Random;
+
+/// A machine in any state.
+fn machine(random: &mut Random, entry: Entry) -> Call {
+    let mut call = Call::new(entry);
+    call.order = random.below(2) as u8;
+    let length = memory_length(random);
+    fill_memory(random, &mut call, length);
+    let length = length as u32;
+    let sp = pointer(random, length);
+    let rp = if random.one_in(6) {
+        sp.wrapping_add(4 * random.below(9)).wrapping_sub(16)
+    } else {
+        pointer(random, length)
+    };
+    call.registers = vec![pointer(random, length), any_cell(random), sp, rp];
+    if random.one_in(8) {
+        call.registers.push(random.cell());
+    }
+    call.out = out_with_room(random, if entry == Entry::Run { 2 } else { 1 });
+    let handler = pointer(random, length);
+    put_cell(&mut call, 0, handler);
+    call
+}
+
+/// A top item: an address, a number that matters, or one that reaches to the end of memory.
+fn top_item(random: &mut Random, length: u32, sp: u32) -> u32 {
+    match random.below(8) {
+        0 | 1 => any_cell(random),
+        2 => random.below(5),
+        3 => {
+            let to_end = length.wrapping_sub(sp) / 4;
+            let near = to_end.wrapping_add(random.below(4)).wrapping_sub(3);
+            near.wrapping_add(random.below(4) << 30)
+        }
+        _ => pointer(random, length),
+    }
+}
+
+/// A number close to another, often just beside it.
+fn near(random: &mut Random, cell: u32) -> u32 {
+    match random.below(6) {
+        0 => cell,
+        1 => cell.wrapping_add(1),
+        2 => cell.wrapping_sub(1),
+        3 => cell.wrapping_neg(),
+        4 => cell.wrapping_add(random.below(9)).wrapping_sub(4),
+        _ => any_cell(random),
+    }
+}
+
+/// Puts items that belong together on both stacks, and an address at EP.
+fn prime(random: &mut Random, call: &mut Call) {
+    let length = call.memory.len() as u32;
+    let [ep, _, sp, rp] = call.registers[..4] else {
+        return;
+    };
+    let top = top_item(random, length, sp);
+    let second = near(random, top);
+    let third = near(random, second);
+    let index = near(random, top);
+    let limit = if random.one_in(3) {
+        index.wrapping_add(top)
+    } else {
+        near(random, index)
+    };
+    if random.one_in(2) {
+        let address = pointer(random, length);
+        put_cell(call, ep, address);
+    }
+    put_cell(call, sp.wrapping_add(8), third);
+    put_cell(call, sp.wrapping_add(4), second);
+    put_cell(call, rp.wrapping_add(8), near(random, third));
+    put_cell(call, rp.wrapping_add(4), limit);
+    put_cell(call, rp, index);
+    put_cell(call, sp, top);
+    if random.one_in(2) {
+        let handler = pointer(random, length);
+        put_cell(call, 0, handler);
+    }
+}
+
+/// Every opcode byte in turn, the opcodes of table 7 (and 5Ch) more often than the others.
+fn opcode(index: u32) -> u32 {
+    if index.is_multiple_of(4) {
+        index / 4 % 256
+    } else {
+        index % 0x5D
+    }
+}
+
+/// A cycle from any state.
+pub fn cycle(random: &mut Random, index: u32) -> Call {
+    let mut call = machine(random, Entry::Cycle);
+    if !random.one_in(8) {
+        prime(random, &mut call);
+    }
+    let rest = match random.below(3) {
+        0 => random.below(400).wrapping_sub(200),
+        1 => any_cell(random),
+        _ => random.cell(),
+    };
+    call.registers[1] = (rest << 8) | opcode(index);
+    if random.one_in(40) {
+        damage(random, &mut call);
+    }
+    call
+}
+
+/// Start with any EP and handler.
+pub fn start(random: &mut Random, _: u32) -> Call {
+    let mut call = machine(random, Entry::Start);
+    let length = call.memory.len() as u32;
+    call.numbers = [pointer(random, length), pointer(random, length)];
+    if random.one_in(8) {
+        damage(random, &mut call);
+    }
+    call
+}
+
+/// A budget, seldom a long one.
+fn budget(random: &mut Random) -> u32 {
+    match random.below(12) {
+        0 => 0,
+        1 => 1,
+        2 => 2,
+        3 => random.below(20_000),
+        4..=7 => random.below(2_000),
+        _ => random.below(60),
+    }
+}
+
+/// A run of any bytes, most of them opcodes.
+fn run_of_bytes(random: &mut Random) -> Call {
+    let mut call = machine(random, Entry::Run);
+    let order = order_of(call.order);
+    for at in (16..call.memory.len() - 3).step_by(4) {
+        if random.one_in(3) {
+            continue;
+        }
+        let mut cell = 0;
+        for _ in 0..random.between(1, 4) {
+            cell = (cell << 8) | random.below(0x58);
+        }
+        if random.one_in(3) {
+            let immediate = random.choose(&[0x43, 0x45, 0x49, 0x4D, 0x4F, 0x53]);
+            cell = (random.below(64).wrapping_sub(32) << 8) | immediate;
+        }
+        call.memory[at..at + 4].copy_from_slice(&order.bytes_of(cell));
+    }
+    let length = call.memory.len() as u32;
+    if !random.one_in(4) {
+        call.registers[0] = 4 * random.between(4, length / 4 - 1);
+        put_cell(&mut call, 0, 4 * random.between(4, length / 4 - 1));
+    }
+    if !random.one_in(4) {
+        call.registers[2] = 4 * random.between(64, length / 4 - 64);
+        call.registers[3] = 4 * random.between(64, length / 4 - 64);
+    }
+    call.numbers[0] = budget(random);
+    call
+}
+
+/// A run of a packed rule.
+fn run_of_rule(random: &mut Random) -> Call {
+    let rule = rules::rule(random);
+    let base = rule.numbers[0];
+    let at = base as usize;
+    let a = match rule.memory.get(at..at + 4) {
+        Some(cell) => order_of(rule.order).cell_of([cell[0], cell[1], cell[2], cell[3]]),
+        None => 0,
+    };
+    let mut call = Call::new(Entry::Run);
+    call.order = rule.order;
+    call.memory = rule.memory;
+    call.registers = vec![base + 4, a, rule.registers[0], rule.registers[1]];
+    call.out = any_cells(random, 2);
+    call.numbers[0] = budget(random);
+    call
+}
+
+/// Where the run stops, a budget about the cycles it takes, or a very large one.
+fn close_budget(random: &mut Random, call: &mut Call) {
+    let mut run = call.clone();
+    run.numbers[0] = 20_000;
+    let returned = perform(&reference(), &run);
+    if returned.answer == 1 {
+        let done = returned.lent.out[1];
+        let budgets = [done - 1, done, done + 1, 0x8000_0000, 0xFFFF_FFFF];
+        call.numbers[0] = random.choose(&budgets);
+    }
+}
+
+/// A whole run.
+pub fn run(random: &mut Random, index: u32) -> Call {
+    let mut call = if index.is_multiple_of(2) {
+        run_of_bytes(random)
+    } else {
+        run_of_rule(random)
+    };
+    if random.one_in(6) {
+        close_budget(random, &mut call);
+    }
+    if random.one_in(20) {
+        damage(random, &mut call);
+    }
+    call
+}
+
+/// Calls at the greatest length of memory, and just past it.
+pub fn large(random: &mut Random, index: u32) -> Call {
+    let entry = [Entry::Start, Entry::Cycle, Entry::Run][index as usize % 3];
+    let length = match index / 3 % 4 {
+        0 | 1 => 16_777_216,
+        2 => 16_777_220,
+        _ => 16_777_217,
+    };
+    let mut call = machine(random, entry);
+    let first = call.memory.clone();
+    call.memory.resize(length, 0);
+    let end = length & !3;
+    call.memory[end - 1024..end].copy_from_slice(&first[..1024]);
+    let length = length as u32;
+    if entry == Entry::Start {
+        call.numbers = [pointer(random, length), pointer(random, length)];
+    } else {
+        let opcode = random.below(0x58);
+        call.registers = vec![
+            length - 4 * random.below(8),
+            (random.below(64) << 8) | opcode,
+            length - 4 * random.below(12),
+            length - 4 * random.below(12),
+        ];
+    }
+    if entry == Entry::Run {
+        call.numbers[0] = random.below(100);
+    }
+    call
+}

@@ -1,0 +1,165 @@
+//! The comparison of two implementations, suite by suite.
+
+use std::collections::BTreeMap;
+
+use crate::call::{agree, perform, Call, Implementation};
+use crate::cases::{listings, modules, processor, rules};
+use crate::demand3::follow;
+use crate::random::Random;
+use crate::shrink::{call_text, returned_text, smallest};
+
+#[derive(Clone, Copy, PartialEq, Eq, Debug)]
+pub enum Group {
+    Processor,
+    Modules,
+    Packer,
+}
+
+impl Group {
+    /// Whether the implementation has this group.
+    pub fn is_in(self, implementation: &Implementation) -> bool {
+        match self {
+            Group::Processor => implementation.processor.is_some(),
+            Group::Modules => implementation.modules.is_some(),
+            Group::Packer => implementation.packer.is_some(),
+        }
+    }
+}
+
+/// Calls of one sort, with the number that is drawn by default.
+pub struct Suite {
+    pub name: &'static str,
+    pub group: Group,
+    pub cases: u32,
+    pub make: fn(&mut Random, u32) -> Call,
+}
+
+const fn suite(
+    name: &'static str,
+    group: Group,
+    cases: u32,
+    make: fn(&mut Random, u32) -> Call,
+) -> Suite {
+    Suite {
+        name,
+        group,
+        cases,
+        make,
+    }
+}
+
+pub const SUITES: [Suite; 12] = [
+    suite("cycles", Group::Processor, 400_000, processor::cycle),
+    suite("starts", Group::Processor, 20_000, processor::start),
+    suite("runs", Group::Processor, 40_000, processor::run),
+    suite("large memories", Group::Processor, 24, processor::large),
+    suite("loads", Group::Modules, 60_000, modules::load),
+    suite("saves", Group::Modules, 60_000, modules::save),
+    suite("large modules", Group::Modules, 24, modules::large),
+    suite("packs", Group::Packer, 20_000, listings::pack),
+    suite("pack files", Group::Packer, 20_000, listings::pack_file),
+    suite("list runs", Group::Packer, 60_000, rules::list_run),
+    suite("large listings", Group::Packer, 60, listings::large),
+    suite("large list runs", Group::Packer, 24, rules::large),
+];
+
+/// How many rules demand 3 is tried on by default.
+pub const RULES: u32 = 20_000;
+
+/// The number of cases, multiplied by the environment variable CASES.
+pub fn raised(cases: u32) -> u32 {
+    match std::env::var("CASES") {
+        Ok(text) => cases.saturating_mul(text.parse().expect("CASES is a number")),
+        Err(_) => cases,
+    }
+}
+
+/// How often each answer came.
+pub type Answers = BTreeMap<i32, u32>;
+
+/// A seed of its own for each suite.
+fn seed(name: &str) -> u64 {
+    name.bytes()
+        .fold(1, |seed, byte| (257 * seed + u64::from(byte)) % 1_000_003)
+}
+
+/// A case that shows a difference, with words for a call like it.
+pub struct Difference {
+    pub name: &'static str,
+    pub index: u32,
+    pub call: Box<Call>,
+}
+
+/// Compares on a suite; the error is the first case that differs.
+pub fn compare(
+    suite: &Suite,
+    left: &Implementation,
+    right: &Implementation,
+    cases: u32,
+) -> Result<Answers, Difference> {
+    let mut random = Random::new(seed(suite.name));
+    let mut answers = Answers::new();
+    for index in 0..cases {
+        let call = (suite.make)(&mut random, index);
+        let first = perform(left, &call);
+        if !first.margins_kept || first != perform(right, &call) {
+            return Err(Difference {
+                name: suite.name,
+                index,
+                call: Box::new(call),
+            });
+        }
+        *answers.entry(first.answer as i32).or_default() += 1;
+    }
+    Ok(answers)
+}
+
+/// The smallest call found that shows a difference, and what both return from it.
+pub fn explain(difference: &Difference, left: &Implementation, right: &Implementation) -> String {
+    let call = smallest(&difference.call, &|call| !agree(left, right, call));
+    let returned = returned_text(&perform(left, &call), &perform(right, &call));
+    let Difference { name, index, .. } = difference;
+    format!("{name}, case {index}: {}{returned}", call_text(&call))
+}
+
+/// What became of the rules that demand 3 was tried on.
+#[derive(Default, Debug)]
+pub struct Rules {
+    pub rules: u32,
+    pub items: u64,
+    pub longest: u32,
+    pub stopped: u32,
+    pub outside: u32,
+}
+
+/// Tries demand 3 on an implementation; the error is the first rule that breaks it.
+pub fn try_rules(implementation: &Implementation, rules: u32) -> Result<Rules, Difference> {
+    let mut random = Random::new(3);
+    let mut tally = Rules::default();
+    for index in 0..rules {
+        let call = rules::rule(&mut random);
+        let Ok(followed) = follow(implementation, &call) else {
+            return Err(Difference {
+                name: "demand 3",
+                index,
+                call: Box::new(call),
+            });
+        };
+        tally.rules += 1;
+        tally.items += u64::from(followed.items);
+        tally.longest = tally.longest.max(followed.items);
+        tally.stopped += u32::from(followed.stopped);
+        tally.outside += u32::from(followed.outside);
+    }
+    Ok(tally)
+}
+
+/// The smallest rule found that breaks demand 3, and how.
+pub fn explain_rule(difference: &Difference, implementation: &Implementation) -> String {
+    let rule = smallest(&difference.call, &|rule| {
+        follow(implementation, rule).is_err()
+    });
+    let why = follow(implementation, &rule).err().unwrap_or_default();
+    let Difference { name, index, .. } = difference;
+    format!("{name}, rule {index}: {why}\n{}", call_text(&rule))
+}

@@ -1,0 +1,11 @@
+//! Tests beside the proofs: a second implementation, and its comparison with the library.
+
+pub mod call;
+pub mod cases;
+pub mod compare;
+pub mod demand3;
+pub mod ffi;
+pub mod random;
+pub mod reference;
+pub mod shrink;
+pub mod worked;

@@ -1,0 +1,239 @@
+//! The eight calls of the C interface: refusals in document 01's order, -4105 last; what is lent
+//! is written on success only.
+
+use super::instructions::Registers;
+use super::list_machine::{ListMachine, Step};
+use super::listing::{self, Listing};
+use super::memory::{Lent, Order};
+use super::module;
+use super::packer;
+use super::processor::{self, Outcome};
+use super::refusal::{demand, Refusal};
+
+const WENT_ON: u32 = 0;
+const STOPPED: u32 = 1;
+const OUTSIDE: u32 = 2;
+
+/// The answer, or the refusal's number in two's complement.
+fn number(answer: Result<u32, Refusal>) -> u32 {
+    answer.unwrap_or_else(|refusal| refusal.number() as u32)
+}
+
+fn memory_length(memory: &[u8]) -> Result<(), Refusal> {
+    let length = memory.len();
+    let good = (1024..=16_777_216).contains(&length) && length.is_multiple_of(4);
+    demand(good, Refusal::MemoryLength)
+}
+
+fn byte_order(order: u8) -> Result<Order, Refusal> {
+    Order::from_number(order).ok_or(Refusal::ByteOrder)
+}
+
+/// -4105 where an array is shorter than what would be written there.
+fn room<T>(lent: &[T], needed: usize) -> Result<(), Refusal> {
+    demand(lent.len() >= needed, Refusal::ShortOutput)
+}
+
+fn read_registers(lent: &[u32]) -> Registers {
+    Registers {
+        ep: lent[0],
+        a: lent[1],
+        sp: lent[2],
+        rp: lent[3],
+    }
+}
+
+fn write_registers(lent: &mut [u32], r: &Registers) {
+    lent[..4].copy_from_slice(&[r.ep, r.a, r.sp, r.rp]);
+}
+
+/// Answer and reason of an outcome.
+fn told(outcome: Outcome) -> (u32, u32) {
+    match outcome {
+        Outcome::WentOn => (WENT_ON, 0),
+        Outcome::Stopped(reason) => (STOPPED, reason),
+    }
+}
+
+pub fn start(
+    order: u8,
+    memory: &mut [u8],
+    ep: u32,
+    handler: u32,
+    registers: &mut [u32],
+    out: &mut [u32],
+) -> u32 {
+    number((|| {
+        memory_length(memory)?;
+        let order = byte_order(order)?;
+        room(registers, 4)?;
+        room(out, 1)?;
+        let mut lent = Lent {
+            order,
+            bytes: memory,
+        };
+        let (r, outcome) = processor::start(&mut lent, ep, handler);
+        write_registers(registers, &r);
+        let (answer, reason) = told(outcome);
+        out[0] = reason;
+        Ok(answer)
+    })())
+}
+
+pub fn cycle(order: u8, memory: &mut [u8], registers: &mut [u32], out: &mut [u32]) -> u32 {
+    number((|| {
+        memory_length(memory)?;
+        let order = byte_order(order)?;
+        room(registers, 4)?;
+        room(out, 1)?;
+        let mut lent = Lent {
+            order,
+            bytes: memory,
+        };
+        let mut r = read_registers(registers);
+        let (answer, reason) = told(processor::run(&mut lent, &mut r, 1).0);
+        write_registers(registers, &r);
+        out[0] = reason;
+        Ok(answer)
+    })())
+}
+
+pub fn run(
+    order: u8,
+    memory: &mut [u8],
+    registers: &mut [u32],
+    budget: u32,
+    out: &mut [u32],
+) -> u32 {
+    number((|| {
+        memory_length(memory)?;
+        let order = byte_order(order)?;
+        room(registers, 4)?;
+        room(out, 2)?;
+        let mut lent = Lent {
+            order,
+            bytes: memory,
+        };
+        let mut r = read_registers(registers);
+        let (outcome, done) = processor::run(&mut lent, &mut r, budget);
+        write_registers(registers, &r);
+        let (answer, reason) = told(outcome);
+        out[..2].copy_from_slice(&[reason, done]);
+        Ok(answer)
+    })())
+}
+
+pub fn load(order: u8, memory: &mut [u8], file: &[u8], address: u32, out: &mut [u32]) -> u32 {
+    number((|| {
+        memory_length(memory)?;
+        let order = byte_order(order)?;
+        let module = module::read(file)?;
+        let cells = module.code.len() / 4;
+        let at = module::place(memory, address, cells as u64)?;
+        room(out, 1)?;
+        module::copy_in(order, memory, &module, at);
+        out[0] = cells as u32;
+        Ok(WENT_ON)
+    })())
+}
+
+pub fn save(
+    order: u8,
+    memory: &[u8],
+    address: u32,
+    cells: u32,
+    output: &mut [u8],
+    out: &mut [u32],
+) -> u32 {
+    number((|| {
+        memory_length(memory)?;
+        let order = byte_order(order)?;
+        let at = module::place(memory, address, u64::from(cells))?;
+        let file = module::write(order, &memory[at..at + 4 * cells as usize]);
+        room(output, file.len())?;
+        room(out, 1)?;
+        output[..file.len()].copy_from_slice(&file);
+        out[0] = file.len() as u32;
+        Ok(WENT_ON)
+    })())
+}
+
+/// The image of an accepted listing goes to the output.
+fn pack_listing(
+    order: Order,
+    listing: &Listing,
+    base: u32,
+    output: &mut [u8],
+    out: &mut [u32],
+) -> Result<u32, Refusal> {
+    let layout = packer::layout(listing);
+    packer::accept_base(base, &layout)?;
+    room(output, 4 * layout.cells)?;
+    room(out, 1)?;
+    let image = packer::bytes(&packer::image(listing, &layout, base), order);
+    output[..image.len()].copy_from_slice(&image);
+    out[0] = layout.cells as u32;
+    Ok(WENT_ON)
+}
+
+pub fn pack(
+    order: u8,
+    kinds: &[u8],
+    operands: &[u32],
+    base: u32,
+    output: &mut [u8],
+    out: &mut [u32],
+) -> u32 {
+    number((|| {
+        let order = byte_order(order)?;
+        let listing = listing::accept(kinds, operands)?;
+        pack_listing(order, &listing, base, output, out)
+    })())
+}
+
+pub fn pack_file(order: u8, file: &[u8], output: &mut [u8], out: &mut [u32]) -> u32 {
+    number((|| {
+        let order = byte_order(order)?;
+        let (listing, base) = listing::read(file)?;
+        pack_listing(order, &listing, base, output, out)
+    })())
+}
+
+/// The listing and what goes with it, for `list_run`.
+#[allow(clippy::too_many_arguments)]
+pub fn list_run(
+    order: u8,
+    kinds: &[u8],
+    operands: &[u32],
+    base: u32,
+    memory: &mut [u8],
+    pointers: &mut [u32],
+    items: u32,
+    out: &mut [u32],
+) -> u32 {
+    number((|| {
+        memory_length(memory)?;
+        let order = byte_order(order)?;
+        let listing = listing::accept(kinds, operands)?;
+        let layout = packer::layout(&listing);
+        packer::accept_base(base, &layout)?;
+        room(pointers, 2)?;
+        room(out, 5)?;
+        let lent = Lent {
+            order,
+            bytes: memory,
+        };
+        let (sp, rp) = (pointers[0], pointers[1]);
+        let mut machine = ListMachine::new(&listing, &layout, base, lent, sp, rp);
+        let ran = machine.run(items);
+        let (answer, reason) = match ran.end {
+            Step::WentOn => (WENT_ON, 0),
+            Step::Stopped(reason) => (STOPPED, reason),
+            Step::Outside => (OUTSIDE, 0),
+        };
+        pointers[..2].copy_from_slice(&[machine.sp, machine.rp]);
+        let (low, high) = (ran.cycles as u32, (ran.cycles >> 32) as u32);
+        out[..5].copy_from_slice(&[reason, machine.item as u32, ran.items, low, high]);
+        Ok(answer)
+    })())
+}

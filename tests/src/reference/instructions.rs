@@ -1,0 +1,332 @@
+//! What each instruction does to stacks and memory (document 001, sections 3.2 to 3.12).
+//!
+//! Every function reads its operands in document 01's order, then checks the places to be
+//! written, and only then writes and moves the stack pointers: a fault leaves all as it was.
+
+use super::arithmetic::{floored, Division};
+use super::memory::{Fault, Memory, Order};
+
+/// EP, A, SP, RP: they travel with each call.
+#[derive(Clone, Copy, PartialEq, Eq, Debug, Default)]
+pub struct Registers {
+    pub ep: u32,
+    pub a: u32,
+    pub sp: u32,
+    pub rp: u32,
+}
+
+/// How an instruction goes on.
+#[derive(Clone, Copy, PartialEq, Eq, Debug)]
+pub enum Control {
+    Continue,
+    /// EP takes the address; NEXT.
+    Jump(u32),
+    /// THROW (54h).
+    Throw,
+    Stop(u32),
+}
+
+/// Reason -258, of a bad SP.
+pub const BAD_STACK: u32 = -258_i32 as u32;
+
+pub type Act = Result<Control, Fault>;
+
+#[inline(always)]
+pub fn below(address: u32, cells: u32) -> u32 {
+    address.wrapping_sub(4 * cells)
+}
+
+#[inline(always)]
+pub fn above(address: u32, cells: u32) -> u32 {
+    address.wrapping_add(4 * cells)
+}
+
+/// ( -- x )
+#[inline(always)]
+pub fn push(m: &mut impl Memory, r: &mut Registers, x: u32) -> Act {
+    let place = below(r.sp, 1);
+    m.check_cell(place)?;
+    m.set_cell(place, x);
+    r.sp = place;
+    Ok(Control::Continue)
+}
+
+/// DUP ( x -- x x ) and R@ ( -- x ) R: ( x -- x ): a copy of the cell at `place`.
+#[inline(always)]
+pub fn push_from(m: &mut impl Memory, r: &mut Registers, place: u32) -> Act {
+    let x = m.fetch(place)?;
+    push(m, r, x)
+}
+
+/// R: ( -- a-addr ), then a jump.
+#[inline(always)]
+pub fn call_from(m: &mut impl Memory, r: &mut Registers, back: u32, target: u32) -> Act {
+    let place = below(r.rp, 1);
+    m.check_cell(place)?;
+    m.set_cell(place, back);
+    r.rp = place;
+    Ok(Control::Jump(target))
+}
+
+/// ( x1 -- x2 )
+#[inline(always)]
+pub fn monadic(m: &mut impl Memory, r: &mut Registers, of: impl Fn(u32) -> u32) -> Act {
+    let x1 = m.fetch(r.sp)?;
+    m.set_cell(r.sp, of(x1));
+    Ok(Control::Continue)
+}
+
+/// ( x1 x2 -- x3 )
+#[inline(always)]
+pub fn dyadic(m: &mut impl Memory, r: &mut Registers, of: impl Fn(u32, u32) -> u32) -> Act {
+    let x2 = m.fetch(r.sp)?;
+    let x1 = m.fetch(above(r.sp, 1))?;
+    r.sp = above(r.sp, 1);
+    m.set_cell(r.sp, of(x1, x2));
+    Ok(Control::Continue)
+}
+
+/// ( n1 n2 -- ): the operands of a division; the divisor is checked once both are read.
+#[inline(always)]
+fn divided(
+    m: &impl Memory,
+    r: &Registers,
+    of: impl Fn(u32, u32) -> Division,
+) -> Result<Division, Fault> {
+    let n2 = m.fetch(r.sp)?;
+    let n1 = m.fetch(above(r.sp, 1))?;
+    if n2 == 0 {
+        return Err(Fault::DivisionByZero);
+    }
+    Ok(of(n1, n2))
+}
+
+/// ( n1 n2 -- n3 ): / and MOD.
+#[inline(always)]
+pub fn divide(m: &mut impl Memory, r: &mut Registers, of: impl Fn(Division) -> u32) -> Act {
+    let division = divided(m, r, floored)?;
+    r.sp = above(r.sp, 1);
+    m.set_cell(r.sp, of(division));
+    Ok(Control::Continue)
+}
+
+/// ( n1 n2 -- n3 n4 ): the remainder below the quotient.
+#[inline(always)]
+pub fn divide_both(
+    m: &mut impl Memory,
+    r: &mut Registers,
+    of: impl Fn(u32, u32) -> Division,
+) -> Act {
+    let division = divided(m, r, of)?;
+    m.set_cell(above(r.sp, 1), division.remainder);
+    m.set_cell(r.sp, division.quotient);
+    Ok(Control::Continue)
+}
+
+/// DROP ( x -- )
+#[inline(always)]
+pub fn drop_item(m: &mut impl Memory, r: &mut Registers) -> Act {
+    m.fetch(r.sp)?;
+    r.sp = above(r.sp, 1);
+    Ok(Control::Continue)
+}
+
+/// SWAP ( x1 x2 -- x2 x1 )
+#[inline(always)]
+pub fn swap(m: &mut impl Memory, r: &mut Registers) -> Act {
+    let x2 = m.fetch(r.sp)?;
+    let x1 = m.fetch(above(r.sp, 1))?;
+    m.set_cell(above(r.sp, 1), x2);
+    m.set_cell(r.sp, x1);
+    Ok(Control::Continue)
+}
+
+/// OVER ( x1 x2 -- x1 x2 x1 )
+#[inline(always)]
+pub fn over(m: &mut impl Memory, r: &mut Registers) -> Act {
+    m.fetch(r.sp)?;
+    let x1 = m.fetch(above(r.sp, 1))?;
+    push(m, r, x1)
+}
+
+/// ROT ( x1 x2 x3 -- x2 x3 x1 ) and -ROT ( x1 x2 x3 -- x3 x1 x2 ); `after` gives the after
+/// picture, deepest first.
+#[inline(always)]
+pub fn rotate(
+    m: &mut impl Memory,
+    r: &mut Registers,
+    after: impl Fn(u32, u32, u32) -> [u32; 3],
+) -> Act {
+    let x3 = m.fetch(r.sp)?;
+    let x2 = m.fetch(above(r.sp, 1))?;
+    let x1 = m.fetch(above(r.sp, 2))?;
+    let [deepest, middle, top] = after(x1, x2, x3);
+    m.set_cell(above(r.sp, 2), deepest);
+    m.set_cell(above(r.sp, 1), middle);
+    m.set_cell(r.sp, top);
+    Ok(Control::Continue)
+}
+
+/// TUCK ( x1 x2 -- x2 x1 x2 )
+#[inline(always)]
+pub fn tuck(m: &mut impl Memory, r: &mut Registers) -> Act {
+    let x2 = m.fetch(r.sp)?;
+    let x1 = m.fetch(above(r.sp, 1))?;
+    m.check_cell(below(r.sp, 1))?;
+    m.set_cell(above(r.sp, 1), x2);
+    m.set_cell(r.sp, x1);
+    push(m, r, x2)
+}
+
+/// The address of x_u, exact and not wrapped, checked right after u is read.
+#[inline(always)]
+fn address_of_item(m: &impl Memory, sp: u32, u: u32) -> Result<u32, Fault> {
+    let exact = u64::from(sp) + 4 + 4 * u64::from(u);
+    if exact >= u64::from(m.length()) {
+        return Err(Fault::InvalidAddress(exact as u32));
+    }
+    Ok(exact as u32)
+}
+
+/// PICK ( x_u .. x0 u -- x_u .. x0 x_u )
+#[inline(always)]
+pub fn pick(m: &mut impl Memory, r: &mut Registers) -> Act {
+    let u = m.fetch(r.sp)?;
+    let x_u = m.fetch(address_of_item(m, r.sp, u)?)?;
+    m.set_cell(r.sp, x_u);
+    Ok(Control::Continue)
+}
+
+/// ROLL ( x_u .. x0 u -- x_u-1 .. x0 x_u )
+#[inline(always)]
+pub fn roll(m: &mut impl Memory, r: &mut Registers) -> Act {
+    let u = m.fetch(r.sp)?;
+    let deepest = address_of_item(m, r.sp, u)?;
+    let x_u = m.fetch(deepest)?;
+    r.sp = above(r.sp, 1);
+    let mut place = deepest;
+    while place > r.sp {
+        let item_above = m.cell(below(place, 1));
+        m.set_cell(place, item_above);
+        place = below(place, 1);
+    }
+    if u > 0 {
+        m.set_cell(r.sp, x_u);
+    }
+    Ok(Control::Continue)
+}
+
+/// ?DUP ( x -- 0 | x x ): on 0 nothing is written.
+#[inline(always)]
+pub fn question_dup(m: &mut impl Memory, r: &mut Registers) -> Act {
+    match m.fetch(r.sp)? {
+        0 => Ok(Control::Continue),
+        x => push(m, r, x),
+    }
+}
+
+/// >R ( x -- ) R: ( -- x )
+#[inline(always)]
+pub fn to_r(m: &mut impl Memory, r: &mut Registers) -> Act {
+    let x = m.fetch(r.sp)?;
+    let place = below(r.rp, 1);
+    m.check_cell(place)?;
+    m.set_cell(place, x);
+    r.rp = place;
+    r.sp = above(r.sp, 1);
+    Ok(Control::Continue)
+}
+
+/// R> ( -- x ) R: ( x -- )
+#[inline(always)]
+pub fn r_from(m: &mut impl Memory, r: &mut Registers) -> Act {
+    let x = m.fetch(r.rp)?;
+    push(m, r, x)?;
+    r.rp = above(r.rp, 1);
+    Ok(Control::Continue)
+}
+
+/// C@, C!: the address exclusive-or 3 where ENDISM is 1.
+#[inline(always)]
+fn byte_address(m: &impl Memory, address: u32) -> u32 {
+    match m.order() {
+        Order::LeastFirst => address,
+        Order::MostFirst => address ^ 3,
+    }
+}
+
+/// @ ( a-addr -- x )
+#[inline(always)]
+pub fn fetch(m: &mut impl Memory, r: &mut Registers) -> Act {
+    let x = m.fetch(m.fetch(r.sp)?)?;
+    m.set_cell(r.sp, x);
+    Ok(Control::Continue)
+}
+
+/// ! ( x a-addr -- )
+#[inline(always)]
+pub fn store(m: &mut impl Memory, r: &mut Registers) -> Act {
+    let address = m.fetch(r.sp)?;
+    let x = m.fetch(above(r.sp, 1))?;
+    m.check_cell(address)?;
+    m.set_cell(address, x);
+    r.sp = above(r.sp, 2);
+    Ok(Control::Continue)
+}
+
+/// C@ ( c-addr -- char )
+#[inline(always)]
+pub fn c_fetch(m: &mut impl Memory, r: &mut Registers) -> Act {
+    let address = byte_address(m, m.fetch(r.sp)?);
+    m.check_byte(address)?;
+    let char = m.byte(address);
+    m.set_cell(r.sp, u32::from(char));
+    Ok(Control::Continue)
+}
+
+/// C! ( char c-addr -- )
+#[inline(always)]
+pub fn c_store(m: &mut impl Memory, r: &mut Registers) -> Act {
+    let address = byte_address(m, m.fetch(r.sp)?);
+    let char = m.fetch(above(r.sp, 1))?;
+    m.check_byte(address)?;
+    m.set_byte(address, char as u8);
+    r.sp = above(r.sp, 2);
+    Ok(Control::Continue)
+}
+
+/// +! ( n a-addr -- )
+#[inline(always)]
+pub fn plus_store(m: &mut impl Memory, r: &mut Registers) -> Act {
+    let address = m.fetch(r.sp)?;
+    let n = m.fetch(above(r.sp, 1))?;
+    let old = m.fetch(address)?;
+    m.set_cell(address, old.wrapping_add(n));
+    r.sp = above(r.sp, 2);
+    Ok(Control::Continue)
+}
+
+/// The operand of SP! and RP!: -23 where it is unaligned, and no check of range.
+#[inline(always)]
+fn pointer_operand(m: &impl Memory, r: &Registers) -> Result<u32, Fault> {
+    let pointer = m.fetch(r.sp)?;
+    if !pointer.is_multiple_of(4) {
+        return Err(Fault::Alignment(pointer));
+    }
+    Ok(pointer)
+}
+
+/// SP! ( a-addr -- )
+#[inline(always)]
+pub fn sp_store(m: &mut impl Memory, r: &mut Registers) -> Act {
+    r.sp = pointer_operand(m, r)?;
+    Ok(Control::Continue)
+}
+
+/// RP! ( a-addr -- )
+#[inline(always)]
+pub fn rp_store(m: &mut impl Memory, r: &mut Registers) -> Act {
+    r.rp = pointer_operand(m, r)?;
+    r.sp = above(r.sp, 1);
+    Ok(Control::Continue)
+}

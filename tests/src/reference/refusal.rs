@@ -1,0 +1,57 @@
+//! What is turned back, with its number (document 01, the two lists).
+
+#[derive(Clone, Copy, PartialEq, Eq, Debug)]
+pub enum Refusal {
+    /// -2.
+    Header,
+    /// -4103.
+    FileLength,
+    /// -4106.
+    ListingSize,
+    /// -4107.
+    Kind,
+    /// -4108.
+    PlainOperand,
+    /// -4109.
+    Target,
+    /// -4101.
+    MemoryLength,
+    /// -4102.
+    ByteOrder,
+    /// -4104.
+    Unaligned,
+    /// -1.
+    OutsideMemory,
+    /// -4110.
+    Base,
+    /// -4105.
+    ShortOutput,
+}
+
+impl Refusal {
+    pub fn number(self) -> i32 {
+        match self {
+            Refusal::Header => -2,
+            Refusal::FileLength => -4103,
+            Refusal::ListingSize => -4106,
+            Refusal::Kind => -4107,
+            Refusal::PlainOperand => -4108,
+            Refusal::Target => -4109,
+            Refusal::MemoryLength => -4101,
+            Refusal::ByteOrder => -4102,
+            Refusal::Unaligned => -4104,
+            Refusal::OutsideMemory => -1,
+            Refusal::Base => -4110,
+            Refusal::ShortOutput => -4105,
+        }
+    }
+}
+
+/// Turns back with `refusal` unless `good`.
+pub fn demand(good: bool, refusal: Refusal) -> Result<(), Refusal> {
+    if good {
+        Ok(())
+    } else {
+        Err(refusal)
+    }
+}
