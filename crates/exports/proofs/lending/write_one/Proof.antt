@@ -1,0 +1,17 @@
+-- `write_one` meets its contract.
+use borrow.Author.Needs.{needs}
+use Rattle.exports.proofs.LendingLaws.{one-written}
+use Rattle.exports.proofs.lending.write_one.Statement.{statement}
+use Rattle.exports.proofs.lending.write_one.Tie as tie
+
+slice-write-lent : tie.Need-slice-write-lent
+slice-write-lent c = search needs
+
+same-length : tie.Need-same-length
+same-length c = search needs
+
+returns : tie.Need-returns
+returns c = one-written (c .args .lent .now) (c .args .x) (c .pre)
+
+pub write-one-spec : {M : Type 1} → statement M
+write-one-spec = tie.close (tie.spec slice-write-lent same-length returns)

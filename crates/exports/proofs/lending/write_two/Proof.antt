@@ -1,0 +1,20 @@
+-- `write_two` meets its contract.
+use borrow.Author.Needs.{needs}
+use Rattle.exports.proofs.LendingLaws.{two-written}
+use Rattle.exports.proofs.lending.write_two.Statement.{statement}
+use Rattle.exports.proofs.lending.write_two.Tie as tie
+
+slice-write-lent : tie.Need-slice-write-lent
+slice-write-lent c = search needs
+
+slice-write-lent-2 : tie.Need-slice-write-lent-2
+slice-write-lent-2 c = search needs
+
+same-length : tie.Need-same-length
+same-length c = search needs
+
+returns : tie.Need-returns
+returns c = two-written (c .args .lent .now) (c .args .x) (c .args .y) (c .pre)
+
+pub write-two-spec : {M : Type 1} → statement M
+write-two-spec = tie.close (tie.spec slice-write-lent slice-write-lent-2 same-length returns)

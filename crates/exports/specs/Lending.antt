@@ -1,0 +1,26 @@
+-- Lent arrays: what is read from their first places and written there, and their judgement.
+use mathlib.Core.List.{List, [], _∷_, _++_}
+use Prim.Native.Nat.{ℕ}
+use lib.Dec.{ltb}
+use lib.ListN.{length, getD, drop}
+use Rattle.cell.specs.Choice.{if}
+use Rattle.cell.specs.declared.Refusal.the-variants.{ShortOutput}
+use Rattle.cell.specs.declared.Judged.{Judged}
+use Rattle.cell.specs.declared.Judged.the-variants.{Passed, Refused}
+use Rattle.machine.specs.declared.Registers.{Registers}
+
+-- the first of a lent array are written, the rest stay
+abbrev pub written : List ℕ → List ℕ → List ℕ
+written xs lent = xs ++ drop (length xs) lent
+
+-- `registers` holds EP, A, SP, RP in this order
+abbrev pub registersOf : List ℕ → Registers
+registersOf lent = record { ep = getD lent 0 0; a = getD lent 1 0; sp = getD lent 2 0; rp = getD lent 3 0 }
+
+abbrev pub registerList : Registers → List ℕ
+registerList r = r .ep ∷ r .a ∷ r .sp ∷ r .rp ∷ []
+
+-- -4105: "a lent output shorter than what the success would write there". Document 01, Order: it comes last.
+abbrev pub withRoom : Judged → ℕ → ℕ → Judged
+withRoom (Refused n) size needed = Refused n
+withRoom Passed size needed = if (ltb size needed) (Refused ShortOutput) Passed

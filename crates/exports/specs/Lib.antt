@@ -1,0 +1,4 @@
+-- What crate `exports` means.
+pub mod Lending
+pub mod Machines
+pub mod Modules
