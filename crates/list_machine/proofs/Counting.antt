@@ -1,0 +1,48 @@
+-- Cycles done: where the first cycles do not stop, the count goes on after them.
+use mathlib.Core.Path.{_≡_, refl, sym, ap, _∙_}
+use mathlib.Core.Bool.{Bool, true, false, true≢false}
+use Prim.Native.Nat.{ℕ, zero, suc, _+_}
+use native.Mathlib.Nat.{zero-add, suc-add}
+use Rattle.machine.specs.Throws.{Turned}
+use Rattle.machine.specs.declared.Machine.{Machine}
+use Rattle.machine.specs.declared.Ended.{Ended}
+use Rattle.machine.specs.declared.Ended.the-variants.{Went, Threw, Stopped}
+use Rattle.processor.specs.Cycles.{advance, cyclesOf}
+use Rattle.processor.specs.Answers.{isStop, counted, doneOf}
+use Rattle.processor.proofs.CycleLaws.{stop-final}
+
+counted-last : (e : Ended) → counted e 0 ≡ 1
+counted-last Went = refl
+counted-last (Threw f) = refl
+counted-last (Stopped x) = refl
+
+counted-more : (e : Ended) (n : ℕ) → isStop e ≡ false → counted e n ≡ suc n
+counted-more Went n q = refl
+counted-more (Threw f) n q = refl
+counted-more (Stopped x) n q = absurd (true≢false q)
+
+module _ (machine : Machine) where
+  pub one-done : (s : Turned) → doneOf machine 1 s ≡ 1
+  unfolding doneOf
+  one-done s = counted-last (advance machine s .turn .ended)
+
+  pub two-done : (s : Turned) → isStop (advance machine s .turn .ended) ≡ false → doneOf machine 2 s ≡ 2
+  unfolding doneOf
+  two-done s q = counted-more (advance machine s .turn .ended) (doneOf machine 1 (advance machine s)) q ∙ ap suc (one-done (advance machine s))
+
+  -- a machine that has not stopped after some cycles had not stopped before them
+  not-before : (n : ℕ) (s : Turned) → isStop (cyclesOf machine n s .turn .ended) ≡ false → isStop (s .turn .ended) ≡ false
+  not-before n s q = go (isStop (s .turn .ended)) refl
+    where
+      go : (b : Bool) → isStop (s .turn .ended) ≡ b → b ≡ false
+      go false e = refl
+      go true e = absurd (true≢false (sym e ∙ ap (λ (t : Turned). isStop (t .turn .ended)) (sym (stop-final machine n s e)) ∙ q))
+
+  pub done-cut : (a b : ℕ) (s : Turned) → isStop (cyclesOf machine a s .turn .ended) ≡ false
+      → doneOf machine (a + b) s ≡ a + doneOf machine b (cyclesOf machine a s)
+  unfolding doneOf cyclesOf
+  done-cut zero b s q = rw (zero-add b, zero-add (doneOf machine b s))
+  done-cut (suc a) b s q =
+      rw (suc-add a b, suc-add a (doneOf machine b (cyclesOf machine (suc a) s)))
+      (counted-more (advance machine s .turn .ended) (doneOf machine (a + b) (advance machine s)) (not-before a (advance machine s) q)
+      ∙ ap suc (done-cut a b (advance machine s) q))

@@ -1,0 +1,12 @@
+pub mod Frame
+pub mod Opcodes
+pub mod Image
+pub mod Meets
+pub mod Throwing
+pub mod Carrying
+pub mod Agreement
+pub mod Counting
+pub mod Simulation
+pub mod Packed
+pub mod Budget
+pub mod Rows

@@ -1,0 +1,130 @@
+-- A throw of the processor and of the list machine. They differ in A, which plays no part until the handler's cell is in it.
+use mathlib.Core.Path.{_≡_, refl, sym, ap, _∙_}
+use mathlib.Core.Bool.{Bool, true, false, true≢false}
+use mathlib.Core.List.{List, [], _∷_}
+use mathlib.Core.Logic.{inl}
+use Prim.Native.Nat.{ℕ, suc, _+_, _*_, _%_, _≤_, _<_}
+use native.Mathlib.Omega.{arith}
+use lib.Dec.{eqb}
+use lib.ListN.{length}
+use Rattle.cell.specs.Choice.{if}
+use Rattle.cell.specs.Memory.{cellAt, storeCell, Alike}
+use Rattle.cell.specs.Number.{difference}
+use Rattle.cell.specs.Place.{faultCode}
+use Rattle.cell.specs.declared.Checked.{Checked}
+use Rattle.cell.specs.declared.Checked.the-variants.{Good, Bad}
+use Rattle.cell.specs.declared.Fault.{Fault}
+use Rattle.cell.specs.declared.Fault.the-variants.{Range, Alignment, Divisor, Illegal, Library}
+use Rattle.cell.specs.declared.Fetched.{Fetched}
+use Rattle.cell.specs.declared.Fetched.the-variants.{Cell, Failed}
+use Rattle.cell.proofs.MemoryLaws.{store-length, cell-frame, alike-refl}
+use Rattle.machine.specs.Places.{oneCell, placeOf, fetchOf}
+use Rattle.machine.specs.Effects.{cellStore}
+use Rattle.machine.specs.Commits.{touches, storedOf}
+use Rattle.machine.specs.Throws.{Turned, turned, handed, toHandler, handlerOf, noted, pushed, throwOf, throwingOf, handlerCell, badCell, addressCell, badStack, badHandler}
+use Rattle.machine.specs.declared.Machine.{Machine}
+use Rattle.machine.specs.declared.Registers.{Registers}
+use Rattle.machine.specs.declared.Access.the-variants.{Stream, Push}
+use Rattle.machine.specs.declared.Ended.{Ended}
+use Rattle.machine.specs.declared.Ended.the-variants.{Went, Threw, Stopped}
+use Rattle.processor.specs.Answers.{isStop}
+use Rattle.layout.specs.Listing.{Listing}
+use Rattle.layout.specs.Packing.{imageCells, epValue, Legal}
+use Rattle.layout.proofs.Packing.{placed}
+use Rattle.list_machine.specs.ListMachine.{Position, Carried, on, stopped, outside, pushOf, writesImage, registersAt, handled, handledBy, thrown}
+use Rattle.list_machine.specs.Demand3.{Holds}
+use Rattle.list_machine.proofs.Frame.{stores-frame}
+use Rattle.list_machine.proofs.Image.{still-holds}
+use Rattle.list_machine.proofs.Meets.{Meets, enters}
+
+noted-length : (machine : Machine) (m : List ℕ) (f : Fault) → length (noted machine m f) ≡ length m
+noted-length machine m (Range a) = store-length (machine .order) m addressCell (a .0)
+noted-length machine m (Alignment a) = store-length (machine .order) m addressCell (a .0)
+noted-length machine m Divisor = refl
+noted-length machine m Illegal = refl
+noted-length machine m Library = refl
+
+noted-frame : (machine : Machine) (lo hi : ℕ) (m : List ℕ) (f : Fault) → 16 ≤ lo → Alike lo hi m (noted machine m f)
+noted-frame machine lo hi m (Range a) h = cell-frame lo hi (machine .order) m addressCell (a .0) (inl (omega arith))
+noted-frame machine lo hi m (Alignment a) h = cell-frame lo hi (machine .order) m addressCell (a .0) (inl (omega arith))
+noted-frame machine lo hi m Divisor h = alike-refl lo hi m
+noted-frame machine lo hi m Illegal h = alike-refl lo hi m
+noted-frame machine lo hi m Library h = alike-refl lo hi m
+
+pushed-frame : (machine : Machine) (lo hi : ℕ) (m : List ℕ) (a x : ℕ) → touches lo hi (cellStore Push a x ∷ []) ≡ false
+    → Alike lo hi m (storeCell (machine .order) m a x)
+unfolding storedOf
+pushed-frame machine lo hi m a x e = stores-frame machine lo hi m (cellStore Push a x ∷ []) e
+
+module _ (machine : Machine) (base : ℕ) (l : Listing) (ok : Legal base l) where
+  -- 'BAD takes EP, then the handler
+  handler-meets : (p : Position) (m : List ℕ) → Holds machine base l m → (ep a sp rp : ℕ) (e : Ended) → isStop e ≡ false
+      → Meets machine base l (handled machine base l p (handlerOf machine m (record { ep = ep; a = 0; sp = sp; rp = rp }) e))
+      (handlerOf machine m (record { ep = ep; a = a; sp = sp; rp = rp }) e)
+  unfolding handlerOf
+  handler-meets p m holds ep a sp rp e going = go (fetchOf machine Stream m2 (cellAt (machine .order) m2 handlerCell)) refl e going
+    where
+      m2 : List ℕ
+      m2 = storeCell (machine .order) m badCell ep
+
+      kept : Holds machine base l m2
+      kept =
+          still-holds machine base l ok m m2 holds
+          (cell-frame base (base + 4 * imageCells l) (machine .order) m badCell ep (inl (omega (arith, placed base l ok .above-cells))))
+          (store-length (machine .order) m badCell ep)
+
+      go : (g : Fetched) → fetchOf machine Stream m2 (cellAt (machine .order) m2 handlerCell) ≡ g → (e : Ended) → isStop e ≡ false
+          → Meets machine base l
+          (handled machine base l p (handed m2 (record { ep = ep; a = 0; sp = sp; rp = rp }) e (cellAt (machine .order) m2 handlerCell) g))
+          (handed m2 (record { ep = ep; a = a; sp = sp; rp = rp }) e (cellAt (machine .order) m2 handlerCell) g)
+      go (Failed f) q e going = record { memory = refl; sp = refl; rp = refl; ended = refl }
+      go (Cell x) q Went going =
+          enters machine base l ok (record { item = p .item; ran = p .ran; memory = m2; sp = sp; rp = rp })
+          (cellAt (machine .order) m2 handlerCell) x a ep Went refl kept q
+      go (Cell x) q (Threw f) going =
+          enters machine base l ok (record { item = p .item; ran = p .ran; memory = m2; sp = sp; rp = rp })
+          (cellAt (machine .order) m2 handlerCell) x a ep (Threw f) refl kept q
+      go (Cell x) q (Stopped y) going = absurd (true≢false going)
+
+  -- an item that raises
+  pub throw-meets : (p : Position) (f : Fault) (a : ℕ) → Holds machine base l (p .memory)
+      → Meets machine base l (thrown machine base l p f)
+      (throwOf machine (p .memory) (record { ep = epValue base l (p .item); a = a; sp = p .sp; rp = p .rp }) f)
+  unfolding throwOf
+  throw-meets p f a holds = go (placeOf machine oneCell Push (length (p .memory)) sp) (writesImage machine base l (pushOf sp f (placeOf machine oneCell Push (length (p .memory)) sp))) refl
+    where
+      sp : ℕ
+      sp = difference (p .sp) 4
+
+      noting : Holds machine base l (noted machine (p .memory) f)
+      noting =
+          still-holds machine base l ok (p .memory) (noted machine (p .memory) f) holds
+          (noted-frame machine base (base + 4 * imageCells l) (p .memory) f (placed base l ok .above-cells))
+          (noted-length machine (p .memory) f)
+
+      go : (c : Checked) (b : Bool) → writesImage machine base l (pushOf sp f c) ≡ b
+          → Meets machine base l
+          (if b outside (handled machine base l p (pushed machine (p .memory) (registersAt machine base l p) f sp c)))
+          (pushed machine (p .memory) (record { ep = epValue base l (p .item); a = a; sp = p .sp; rp = p .rp }) f sp c)
+      go c true q = tt
+      go (Bad g) false q = record { memory = refl; sp = refl; rp = refl; ended = refl }
+      go Good false q =
+          handler-meets p (storeCell (machine .order) (noted machine (p .memory) f) sp (faultCode f))
+          (still-holds machine base l ok (noted machine (p .memory) f) (storeCell (machine .order) (noted machine (p .memory) f) sp (faultCode f)) noting
+          (pushed-frame machine base (base + 4 * imageCells l) (noted machine (p .memory) f) sp (faultCode f) q)
+          (store-length (machine .order) (noted machine (p .memory) f) sp (faultCode f)))
+          (epValue base l (p .item)) a sp (p .rp) (Threw f) refl
+
+  -- THROW, 54h
+  pub throwing-meets : (p : Position) (a : ℕ) → Holds machine base l (p .memory)
+      → Meets machine base l (handled machine base l p (throwingOf machine (p .memory) (registersAt machine base l p)))
+      (throwingOf machine (p .memory) (record { ep = epValue base l (p .item); a = a; sp = p .sp; rp = p .rp }))
+  unfolding throwingOf
+  throwing-meets p a holds = go (eqb (p .sp % 4) 0)
+    where
+      go : (b : Bool) → Meets machine base l
+          (handled machine base l p (if b (handlerOf machine (p .memory) (registersAt machine base l p) Went) (turned (p .memory) (registersAt machine base l p) (Stopped badStack))))
+          (if b (handlerOf machine (p .memory) (record { ep = epValue base l (p .item); a = a; sp = p .sp; rp = p .rp }) Went)
+          (turned (p .memory) (record { ep = epValue base l (p .item); a = a; sp = p .sp; rp = p .rp }) (Stopped badStack)))
+      go true = handler-meets p (p .memory) holds (epValue base l (p .item)) a (p .sp) (p .rp) Went refl
+      go false = record { memory = refl; sp = refl; rp = refl; ended = refl }

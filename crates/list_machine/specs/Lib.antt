@@ -1,0 +1,5 @@
+-- The list machine, its runs, and demand 3.
+pub mod ListMachine
+pub mod Runs
+pub mod Demand3
+pub mod Worked

@@ -1,0 +1,164 @@
+-- The list machine (document 01's own term): one item. Document 01, Listings: it "has the same memory, SP and RP and fetches from the listing". Its
+-- instructions are the processor's own: `plainOf` and `takingOf`, committed and thrown by the processor's definitions.
+use mathlib.Core.Bool.{Bool, true, false, not, _&&_}
+use mathlib.Core.List.{List, [], _∷_}
+use Prim.Native.Nat.{ℕ, suc, _+_, _*_}
+use lib.Dec.{ltb}
+use lib.ListN.{length}
+use Rattle.cell.specs.Choice.{if}
+use Rattle.cell.specs.Memory.{cellAt}
+use Rattle.cell.specs.Number.{difference}
+use Rattle.cell.specs.Place.{faultCode}
+use Rattle.cell.specs.declared.Checked.{Checked}
+use Rattle.cell.specs.declared.Checked.the-variants.{Good, Bad}
+use Rattle.cell.specs.declared.Fault.{Fault}
+use Rattle.cell.specs.declared.Fault.the-variants.{Illegal}
+use Rattle.cell.specs.declared.Fetched.the-variants.{Cell}
+use Rattle.machine.specs.Places.{oneCell, placeOf}
+use Rattle.machine.specs.Effects.{Store, cellStore, Control, goOn, jump, halt, throwing, Action, Effect, act, raise}
+use Rattle.machine.specs.Commits.{placesOf, storedOf, touches}
+use Rattle.machine.specs.Throws.{Turned, handlerCell, throwOf, throwingOf}
+use Rattle.machine.specs.declared.Machine.{Machine}
+use Rattle.machine.specs.declared.Registers.{Registers}
+use Rattle.machine.specs.declared.Access.the-variants.{Push}
+use Rattle.machine.specs.declared.Ended.{Ended}
+use Rattle.machine.specs.declared.Ended.the-variants.{Went, Threw, Stopped}
+use Rattle.instruction.specs.Plain.{plainOf}
+use Rattle.instruction.specs.Taking.{Taking, branch, questionBranch, call, loop, plusLoop, literal, takingOf}
+use Rattle.dispatch.specs.Dispatch.{decodeOf, Class, next, plain, taking, classOf}
+use Rattle.layout.specs.Listing.{Listing}
+use Rattle.layout.specs.Layout.{opens, formAt}
+use Rattle.layout.specs.Packing.{layout, imageCells, addressOf, epValue, behind, entryAt}
+use Rattle.layout.specs.declared.Entry.{Entry}
+use Rattle.layout.specs.declared.Entry.the-variants.{Item, Nothing}
+use Rattle.layout.specs.declared.Form.{Form}
+use Rattle.layout.specs.declared.Form.the-variants.{Alone, Immediate, InCell}
+
+-- where the machine stands: in front of an item, with memory, SP and RP; ran says that the item was run on into "(by no taken branch, call, return or
+-- throw) from an item not in its immediate form"
+pub record Position : Type 0 where
+  pub item : ℕ
+  pub ran : Bool
+  pub memory : List ℕ
+  pub sp : ℕ
+  pub rp : ℕ
+
+-- what an item comes to: carried out, with the machine in front of the next; carried out, and the machine stopped by a reason; or not carried
+-- out, since the machine "stops outside, in front of" it
+pub data Carried : Type 0 where
+  on : Position → Carried
+  stopped : ℕ → Position → Carried
+  outside : Carried
+
+abbrev pub isImmediate : Form → Bool
+isImmediate Alone = false
+isImmediate Immediate = true
+isImmediate InCell = false
+
+-- the stores of a throw: "A throw's push of its code counts as a write of the item". A bad place is -258, and nothing is written
+abbrev pub pushOf : ℕ → Fault → Checked → List Store
+pushOf a f (Bad g) = []
+pushOf a f Good = cellStore Push a (faultCode f) ∷ []
+
+-- a position with the memory and the stack pointers that a throw leaves
+abbrev pub thrownTo : Position → Turned → Position
+thrownTo p t =
+    record {
+      item = p .item;
+      ran = p .ran;
+      memory = t .memory;
+      sp = t .turn .registers .sp;
+      rp = t .turn .registers .rp;
+    }
+
+-- a position after the stores and stack pointers of an action
+abbrev pub actedTo : Machine → Position → Action → Position
+actedTo machine p x =
+    record { item = p .item; ran = p .ran; memory = storedOf machine (p .memory) (x .stores); sp = x .sp; rp = x .rp }
+
+-- the same memory and stack pointers, in front of another item
+abbrev pub movedTo : ℕ → Bool → Position → Position
+movedTo i ran p = record { item = i; ran = ran; memory = p .memory; sp = p .sp; rp = p .rp }
+
+-- "transfer to no entry": outside
+abbrev pub enteredAt : Entry → Position → Carried
+enteredAt (Item i) p = on (movedTo (i .0) false p)
+enteredAt Nothing p = outside
+
+module _ (machine : Machine) (base : ℕ) (l : Listing) where
+  -- what the processor would fetch for an instruction that takes an operand: a literal's value; the address of a branch's target
+  abbrev pub operandAt : ℕ → Taking → ℕ
+  operandAt i literal = l .operand i
+  operandAt i branch = addressOf base l (l .operand i)
+  operandAt i questionBranch = addressOf base l (l .operand i)
+  operandAt i call = addressOf base l (l .operand i)
+  operandAt i loop = addressOf base l (l .operand i)
+  operandAt i plusLoop = addressOf base l (l .operand i)
+
+  -- "Where the processor would use EP it uses the item's EP value; a call leaves the address of the following cell". NEXT is no kind
+  abbrev pub effectAs : Class → Position → Effect
+  effectAs next p = raise Illegal
+  effectAs plain p = plainOf machine (decodeOf (l .kind (p .item))) (p .memory) (epValue base l (p .item)) (p .sp) (p .rp)
+  effectAs (taking form t) p =
+      takingOf machine t (p .memory) (p .sp) (p .rp) (Cell (operandAt (p .item) t)) (behind base l (p .item))
+
+  abbrev pub effectAt : Position → Effect
+  effectAt p = effectAs (classOf (decodeOf (l .kind (p .item)))) p
+
+  -- "an item that would write a byte of the image"
+  abbrev pub writesImage : List Store → Bool
+  writesImage stores = touches base (base + 4 * imageCells l) stores
+
+  -- "An address leads to the entry placed there"
+  abbrev pub transferred : ℕ → Position → Carried
+  transferred a p = enteredAt (entryAt base l a) p
+
+  -- the registers that a throw goes by; A plays no part in it
+  abbrev pub registersAt : Position → Registers
+  registersAt p = record { ep = epValue base l (p .item); a = 0; sp = p .sp; rp = p .rp }
+
+  -- a throw as the processor makes it: stopped with -258 or -259, or on to 'THROW, "a valid 'THROW that is no entry" being outside
+  abbrev pub handledBy : Position → Turned → Ended → Carried
+  handledBy p t (Stopped x) = stopped x (thrownTo p t)
+  handledBy p t Went = transferred (cellAt (machine .order) (t .memory) handlerCell) (thrownTo p t)
+  handledBy p t (Threw f) = transferred (cellAt (machine .order) (t .memory) handlerCell) (thrownTo p t)
+
+  abbrev pub handled : Position → Turned → Carried
+  handled p t = handledBy p t (t .turn .ended)
+
+  -- an item that raises
+  abbrev pub thrown : Position → Fault → Carried
+  thrown p f =
+      if (writesImage (pushOf (difference (p .sp) 4) f (placeOf machine oneCell Push (length (p .memory)) (difference (p .sp) 4)))) outside
+      (handled p (throwOf machine (p .memory) (registersAt p) f))
+
+  -- "run on past the end": outside
+  abbrev pub ranOn : Position → Carried
+  ranOn p =
+      if (ltb (suc (p .item)) (l .count))
+      (on (movedTo (suc (p .item)) (not (isImmediate (formAt (layout l) (p .item)))) p))
+      outside
+
+  -- what follows the stores, p the position after them
+  abbrev pub followed : Control → Position → Carried
+  followed goOn p = ranOn p
+  followed (jump a) p = transferred a p
+  followed (halt x) p = stopped x p
+  followed throwing p = handled p (throwingOf machine (p .memory) (registersAt p))
+
+  -- an action whose places were judged: a bad place raises, as in the processor
+  abbrev pub acted : Position → Action → Checked → Carried
+  acted p x (Bad f) = thrown p f
+  acted p x Good = if (writesImage (x .stores)) outside (followed (x .control) (actedTo machine p x))
+
+  abbrev pub carriedBy : Position → Effect → Carried
+  carriedBy p (raise f) = thrown p f
+  carriedBy p (act x) = acted p x (placesOf machine (length (p .memory)) (x .stores))
+
+  -- the item in front of which the machine stands
+  unfoldable pub carryOut : Position → Carried
+  carryOut p = carriedBy p (effectAt p)
+
+  -- "An item counts two cycles if it opens a cell and was run on into .. from an item not in its immediate form; any other counts one"
+  abbrev pub cyclesAt : Position → ℕ
+  cyclesAt p = if (p .ran && opens (layout l) (p .item)) 2 1
