@@ -1,12 +1,12 @@
 -- The opcodes that raise -256.
 use mathlib.Core.Path.{_≡_, refl}
-use Prim.Native.Nat.{ℕ, suc, _<_, _≤_}
-use native.Mathlib.Decide.{decLe}
+use Prim.Native.Nat.{ℕ, suc, _/_, _<_, _≤_}
+use native.Mathlib.Decide.{decLe, decLt}
 use native.Mathlib.Omega.{arith}
 use borrow.Author.Tests.{ne-eqb}
 use lib.ListN.{List·getD-eq-default}
 use Rattle.instruction.specs.declared.Instruction.the-variants.{Illegal}
-use Rattle.dispatch.specs.Dispatch.{opcodes, decodeOf}
+use Rattle.dispatch.specs.Dispatch.{opcodes, decodeOf, taking, classOf, formOf, loopOf}
 
 -- 56h, and 58h up but for FFh
 pub record Unused (n : ℕ) : Type 0 where
@@ -25,3 +25,18 @@ illegal-is n u = go (decLe 0x58 n)
 -- a number that is at least k and not k
 pub past : {n : ℕ} (k : ℕ) → k ≤ n → (n ≡ k → ⊥) → suc k ≤ n
 past k h e = omega arith
+
+-- 4Ch to 4Fh
+pub loop-is : (n : ℕ) → n / 4 ≡ 0x13 → classOf (decodeOf n) ≡ taking (formOf n) (loopOf n)
+unfolding decodeOf
+loop-is n h = go (decLt n 0x4D) (decLt n 0x4E) (decLt n 0x4F)
+  where
+    go : Dec (n < 0x4D) → Dec (n < 0x4E) → Dec (n < 0x4F) → classOf (decodeOf n) ≡ taking (formOf n) (loopOf n)
+    go (yes a) b d = let e : n ≡ 0x4C = omega arith in rw e
+    go (no a) (yes b) d = let e : n ≡ 0x4D = omega arith in rw e
+    go (no a) (no b) (yes d) = let e : n ≡ 0x4E = omega arith in rw e
+    go (no a) (no b) (no d) = let e : n ≡ 0x4F = omega arith in rw e
+
+-- a number from 4Ch on that is none of the four
+pub past-loops : {n : ℕ} → 0x4C ≤ n → (n / 4 ≡ 0x13 → ⊥) → 0x50 ≤ n
+past-loops h e = omega arith

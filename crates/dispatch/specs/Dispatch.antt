@@ -1,7 +1,7 @@
 -- Opcodes, classes of instructions, and what one instruction does up to its NEXT, throw or stop.
 use mathlib.Core.List.{List, [], _∷_}
-use Prim.Native.Nat.{ℕ}
-use lib.Dec.{eqb}
+use Prim.Native.Nat.{ℕ, _%_}
+use lib.Dec.{ltb, eqb}
 use lib.ListN.{getD}
 use Rattle.cell.specs.Choice.{if}
 use Rattle.machine.specs.Commits.{Stepped, stepped, commitOf}
@@ -141,3 +141,10 @@ executed machine m r i (taking form t) = taken form (commitOf machine m r (takin
 
 unfoldable pub executeOf : Machine → List ℕ → Registers → Instruction → Stepped
 executeOf machine m r i = executed machine m r i (classOf i)
+
+-- the loops' opcodes, 4Ch to 4Fh: an odd one takes its operand from A; the lower two are (LOOP), the upper two (+LOOP)
+abbrev pub formOf : ℕ → Form
+formOf opcode = if (eqb (opcode % 2) 0) InCell Immediate
+
+abbrev pub loopOf : ℕ → Taking
+loopOf opcode = if (ltb opcode 0x4E) loop plusLoop

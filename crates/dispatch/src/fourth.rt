@@ -5,6 +5,7 @@ ghost use lib.ListN.{length};
 ghost use Rattle.machine.specs.Places as places;
 ghost use Rattle.machine.specs.Commits as commits;
 ghost use Rattle.dispatch.specs.Dispatch as dispatch;
+use crate::looping::execute_loop;
 use cell::Fault;
 use instruction::Form;
 use instruction::control::branch;
@@ -15,8 +16,6 @@ use instruction::control::fetch_execute;
 use instruction::control::outer_index;
 use instruction::control::question_branch;
 use instruction::control::start_loop;
-use instruction::control::turn_loop;
-use instruction::control::turn_plus_loop;
 use instruction::control::unloop;
 use instruction::exceptions::halt;
 use instruction::exceptions::lib;
@@ -28,7 +27,6 @@ use machine::Outcome;
 use machine::Registers;
 use machine::Step;
 use machine::Then;
-use machine::commit::commit_maybe;
 use machine::commit::commit_none;
 use machine::commit::commit_one;
 use machine::commit::commit_two;
@@ -168,86 +166,6 @@ pub fn execute_fourth(machine: Machine, memory: &mut [u8], r: Registers, opcode:
         0x4A => commit_none(machine, memory, r, exit(machine, memory, r)),
         // (DO)
         0x4B => commit_two(machine, memory, r, start_loop(machine, memory, r)),
-        // (LOOP)
-        0x4C => onward(
-            Form::InCell,
-            commit_maybe(
-                machine,
-                memory,
-                r,
-                turn_loop(
-                    machine,
-                    memory,
-                    Registers {
-                        ep: r.ep,
-                        a: r.a,
-                        sp: r.sp,
-                        rp: r.rp,
-                    },
-                    Form::InCell,
-                ),
-            ),
-        ),
-        // (LOOP)I
-        0x4D => onward(
-            Form::Immediate,
-            commit_maybe(
-                machine,
-                memory,
-                r,
-                turn_loop(
-                    machine,
-                    memory,
-                    Registers {
-                        ep: r.ep,
-                        a: r.a,
-                        sp: r.sp,
-                        rp: r.rp,
-                    },
-                    Form::Immediate,
-                ),
-            ),
-        ),
-        // (+LOOP)
-        0x4E => onward(
-            Form::InCell,
-            commit_maybe(
-                machine,
-                memory,
-                r,
-                turn_plus_loop(
-                    machine,
-                    memory,
-                    Registers {
-                        ep: r.ep,
-                        a: r.a,
-                        sp: r.sp,
-                        rp: r.rp,
-                    },
-                    Form::InCell,
-                ),
-            ),
-        ),
-        // (+LOOP)I
-        0x4F => onward(
-            Form::Immediate,
-            commit_maybe(
-                machine,
-                memory,
-                r,
-                turn_plus_loop(
-                    machine,
-                    memory,
-                    Registers {
-                        ep: r.ep,
-                        a: r.a,
-                        sp: r.sp,
-                        rp: r.rp,
-                    },
-                    Form::Immediate,
-                ),
-            ),
-        ),
         // UNLOOP
         0x50 => commit_none(machine, memory, r, unloop(machine, memory, r)),
         // J
@@ -317,15 +235,21 @@ pub fn execute_fourth(machine: Machine, memory: &mut [u8], r: Registers, opcode:
             },
             outcome: Outcome::Next,
         },
-        _ => commit_none(
-            machine,
-            memory,
-            r,
-            NoStore {
-                sp: r.sp,
-                rp: r.rp,
-                then: Then::Raise(Fault::Illegal),
-            },
-        ),
+        // (LOOP), (LOOP)I, (+LOOP), (+LOOP)I, and the opcodes that raise -256
+        _ => {
+            if opcode / 4 == 0x13 {
+                return execute_loop(machine, memory, r, opcode);
+            }
+            commit_none(
+                machine,
+                memory,
+                r,
+                NoStore {
+                    sp: r.sp,
+                    rp: r.rp,
+                    then: Then::Raise(Fault::Illegal),
+                },
+            )
+        }
     }
 }

@@ -1,0 +1,50 @@
+-- `execute_loop` meets its contract: the opcode gives the form and the loop.
+use borrow.Author.Needs.{needs}
+use Rattle.dispatch.proofs.looping.execute_loop.Statement.{statement}
+use Rattle.dispatch.proofs.looping.execute_loop.Tie as tie
+use Rattle.dispatch.proofs.looping.form_of.Reads as form-of-reads
+use Rattle.dispatch.proofs.looping.turn.Reads as turn-reads
+use Rattle.instruction.proofs.shape.onward.Reads as onward-reads
+use Rattle.machine.proofs.commit.commit_maybe.Reads as commit-maybe-reads
+use denote.Ref.{now}
+use mathlib.Core.Path.{_∙_, ap}
+use Rattle.machine.specs.Commits as commits
+use Rattle.instruction.specs.Taking as taking
+use Rattle.dispatch.specs.Dispatch as dispatch
+use Rattle.dispatch.proofs.OpcodeLaws.{loop-is}
+
+-- src/looping.rt:46:9
+form-of-requires : tie.Need-form-of-requires
+form-of-requires c κs = search needs
+
+-- src/looping.rt:47:9
+turn-requires : tie.Need-turn-requires
+turn-requires c κs = search needs
+
+-- src/looping.rt:59:18
+commit-maybe-requires : tie.Need-commit-maybe-requires
+commit-maybe-requires c κs = search needs
+
+-- src/looping.rt:59:5
+onward-requires : tie.Need-onward-requires
+onward-requires c κs = search needs
+
+-- src/looping.rt:41:1
+same-length : tie.Need-same-length
+same-length c = search needs
+
+-- src/looping.rt:41:1
+returns : tie.Need-returns
+unfolding dispatch.executeOf
+returns c = let a = c .before .before .before .before .before .before .before .before .before .args in rw (loop-is (a .opcode) (c .before .before .before .before .before .before .before .before .before .pre .1), c .onward .ensures, ← c .before .before .before .before .before .before .before .form-of .ensures) (ap (dispatch.taken (c .before .before .before .before .before .before .before .form-of .result)) (c .before .before .before .commit-maybe .ensures ∙ ap (commits.commitOf (a .machine) (now (a .memory)) (a .r)) (c .before .before .before .before .before .turn .ensures)))
+
+pub execute-loop-spec : {M : Type 1} → statement M
+execute-loop-spec =
+    tie.close
+    (tie.spec
+    form-of-requires
+    turn-requires
+    commit-maybe-requires
+    onward-requires
+    same-length
+    returns)

@@ -1,0 +1,60 @@
+// Opcodes 4Ch to 4Fh: the loops. Their two forms share one call of each effect, so that the compiler lays it into the dispatch.
+ghost use mathlib.Core.Path.{_≡_};
+ghost use Prim.Native.Nat.{_≤_, _/_};
+ghost use lib.ListN.{length};
+ghost use Rattle.machine.specs.Places as places;
+ghost use Rattle.machine.specs.Effects as effects;
+ghost use Rattle.machine.specs.Commits as commits;
+ghost use Rattle.instruction.specs.Taking as taking;
+ghost use Rattle.dispatch.specs.Dispatch as dispatch;
+use instruction::Form;
+use instruction::control::turn_loop;
+use instruction::control::turn_plus_loop;
+use instruction::shape::onward;
+use machine::Machine;
+use machine::MaybeStore;
+use machine::Registers;
+use machine::Step;
+use machine::commit::commit_maybe;
+
+// The immediate opcode is the odd one.
+fn form_of(opcode: u32) -> Form
+    ensures { λ f. ⌜ f ≡ dispatch.formOf opcode ⌝ }
+{
+    if opcode % 2 == 0 {
+        return Form::InCell;
+    }
+    Form::Immediate
+}
+
+// (LOOP) or (+LOOP).
+fn turn(machine: Machine, memory: &[u8], r: Registers, form: Form, opcode: u32) -> MaybeStore
+    requires { ⌜ places.Whole (now memory) ⌝ }
+    ensures { λ e. ⌜ effects.maybeStore e ≡ taking.takingAt machine form (dispatch.loopOf opcode) (now (memory .entry)) r ⌝ }
+{
+    if opcode < 0x4E {
+        return turn_loop(machine, memory, r, form);
+    }
+    turn_plus_loop(machine, memory, r, form)
+}
+
+pub fn execute_loop(machine: Machine, memory: &mut [u8], r: Registers, opcode: u32) -> Step
+    requires { ⌜ places.Whole (now memory) ⌝ }
+    requires { ⌜ opcode / 4 ≡ 0x13 ⌝ }
+    ensures { λ s. ⌜ commits.stepped (now (memory .exit)) s ≡ dispatch.executeOf machine (now (memory .entry)) r (dispatch.decodeOf opcode) ⌝ }
+{
+    let form = form_of(opcode);
+    let e = turn(
+        machine,
+        memory,
+        Registers {
+            ep: r.ep,
+            a: r.a,
+            sp: r.sp,
+            rp: r.rp,
+        },
+        form,
+        opcode,
+    );
+    onward(form, commit_maybe(machine, memory, r, e))
+}
