@@ -2,3 +2,4 @@
 pub mod Lending
 pub mod Machines
 pub mod Modules
+pub mod Listings

@@ -88,7 +88,7 @@ pub record Placed (base size : ℕ) : Type 0 where
   pub above-cells : 0x10 ≤ base
   pub inside : base + 4 * size ≤ 16777216
 
-base-of : (base size : ℕ)
+pub base-of : (base size : ℕ)
     → first (pick (eqb (base % 4) 0) 0 4104) (pick (ltb base 0x10 || ltb 16777216 (base + 4 * size)) 4110 0) ≡ 0
     → Placed base size
 base-of base size e = go (eqb (base % 4) 0) refl (ltb base 0x10) refl (ltb 16777216 (base + 4 * size)) refl (first-none _ _ e)

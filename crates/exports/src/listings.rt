@@ -1,0 +1,63 @@
+// The calls for listings. Each judges first, and writes nothing that was lent where it refuses.
+ghost use mathlib.Core.Path.{_≡_};
+ghost use Prim.Native.Nat.{_≤_};
+ghost use lib.ListN.{length};
+ghost use Rattle.exports.specs.Modules as modules;
+ghost use Rattle.exports.specs.Listings as listings;
+use crate::lending::with_room;
+use crate::lending::write_one;
+use cell::Address;
+use cell::Judged;
+use cell::judgement::refusal_number;
+use packer::Packed;
+use packer::file::judge_pack_file;
+use packer::file::pack_file;
+use packer::judgement::judge_pack;
+use packer::pack::pack;
+
+fn note_packed(answer: Packed, out: &mut [u32]) -> u32
+    requires { ⌜ 1 ≤ length (now out) ⌝ }
+    ensures { λ n. ⌜ modules.noted (now (out .exit)) n ≡ listings.packNoted (now (out .entry)) answer ⌝ }
+{
+    match answer {
+        Packed::Refused(r) => refusal_number(r),
+        Packed::Cells(l) => {
+            write_one(out, l.0);
+            0
+        }
+    }
+}
+
+#[no_mangle]
+pub extern "C" fn beetle_pack(
+    order: u8,
+    kinds: &[u8],
+    operands: &[u32],
+    base: u32,
+    output: &mut [u8],
+    out: &mut [u32],
+) -> u32
+    ensures { λ n. ⌜ modules.moved (now (output .exit)) (now (out .exit)) n ≡ listings.packCall order (now (kinds .entry)) (now (operands .entry)) base (now (output .entry)) (now (out .entry)) ⌝ }
+{
+    let judged = judge_pack(order, kinds, operands, Address(base), output.len());
+    match with_room(judged, out.len(), 1) {
+        Judged::Refused(n) => refusal_number(n),
+        Judged::Passed => note_packed(pack(order, kinds, operands, Address(base), output), out),
+    }
+}
+
+#[no_mangle]
+pub extern "C" fn beetle_pack_file(
+    order: u8,
+    file: &[u8],
+    output: &mut [u8],
+    out: &mut [u32],
+) -> u32
+    ensures { λ n. ⌜ modules.moved (now (output .exit)) (now (out .exit)) n ≡ listings.packFileCall order (now (file .entry)) (now (output .entry)) (now (out .entry)) ⌝ }
+{
+    let judged = judge_pack_file(order, file, output.len());
+    match with_room(judged, out.len(), 1) {
+        Judged::Refused(n) => refusal_number(n),
+        Judged::Passed => note_packed(pack_file(order, file, output), out),
+    }
+}

@@ -1,0 +1,136 @@
+-- Judgements in order, and what an accepted listing gives.
+-- Assumes nothing.
+use mathlib.Core.Path.{_≡_, refl, sym, ap, _∙_}
+use mathlib.Core.Bool.{Bool, true, false}
+use mathlib.Core.List.{List, [], _∷_}
+use Prim.Native.Nat.{ℕ, zero, suc, _*_, _≤_}
+use native.Mathlib.Omega.{arith}
+use borrow.Author.Tests.{eqb-true, ne-eqb, ltb-false}
+use lib.Dec.{eqb, ltb}
+use lib.ListN.{length}
+use Rattle.cell.specs.Choice.{if}
+use Rattle.cell.specs.Shift.{pick}
+use Rattle.cell.specs.declared.CellCount.{CellCount}
+use Rattle.cell.specs.declared.Refusal.the-variants.{ShortOutput}
+use Rattle.cell.specs.declared.Judged.{Judged}
+use Rattle.cell.specs.declared.Judged.the-variants.{Passed, Refused}
+use Rattle.layout.specs.Refusals.{accepted, badCount, first}
+use Rattle.layout.specs.Listing.{Listing, listed, judgedArrays, judgedListing, Checked}
+use Rattle.layout.specs.Packing.{layout, imageCells, judgedPlace}
+use Rattle.layout.proofs.Listing.{first-none, some-item}
+use Rattle.layout.proofs.Placing.{at-most}
+use Rattle.layout.proofs.Packing.{base-of}
+use Rattle.packer.specs.Judgement.{named, refusalOf, after, inOrder, judgeOrder, judgeArrays, judgePlace, judgeRoom, judgeInput, judgeImage, judgeListing, judgeAll, judgePack}
+use Rattle.packer.specs.Pack.{cellCount}
+
+-- four judgements in order: where the first two turn back, they decide; where they pass, the last two do
+halves : (a b c d : Judged) → inOrder (a ∷ b ∷ c ∷ d ∷ []) ≡ after (inOrder (a ∷ b ∷ [])) (inOrder (c ∷ d ∷ []))
+halves Passed Passed c d = refl
+halves Passed (Refused r) c d = refl
+halves (Refused r) b c d = refl
+
+-- a packing is judged by its input, then by its image
+pub pack-halves : (order : ℕ) (kinds operands : List ℕ) (base size : ℕ)
+    → judgePack order kinds operands base size
+    ≡ after (judgeInput order kinds operands) (judgeImage base (imageCells (listed kinds operands)) size)
+unfolding judgePack judgeInput judgeImage
+pack-halves order kinds operands base size =
+    halves (judgeOrder order) (judgeArrays kinds operands) (judgePlace base (imageCells (listed kinds operands)))
+    (judgeRoom (imageCells (listed kinds operands)) size)
+
+all-pass : (a b c d : Judged) → inOrder (a ∷ b ∷ c ∷ d ∷ []) ≡ Passed → d ≡ Passed
+all-pass Passed Passed Passed Passed e = refl
+all-pass Passed Passed Passed (Refused r) e = e
+all-pass Passed Passed (Refused r) d e = absurd (let z : _≡_ {A = ℕ} 0 1 = cc in omega arith)
+all-pass Passed (Refused r) c d e = absurd (let z : _≡_ {A = ℕ} 0 1 = cc in omega arith)
+all-pass (Refused r) b c d e = absurd (let z : _≡_ {A = ℕ} 0 1 = cc in omega arith)
+
+both-pass : (a b : Judged) → inOrder (a ∷ b ∷ []) ≡ Passed → (a ≡ Passed) × (b ≡ Passed)
+both-pass Passed Passed e = (refl, refl)
+both-pass Passed (Refused r) e = absurd (let z : _≡_ {A = ℕ} 0 1 = cc in omega arith)
+both-pass (Refused r) b e = absurd (let z : _≡_ {A = ℕ} 0 1 = cc in omega arith)
+
+-- the last in order decides
+pub last-one : (a : Judged) → inOrder (a ∷ []) ≡ a
+last-one Passed = refl
+last-one (Refused r) = refl
+
+-- a judgement of 0 passes, and no other
+pub refused-none : (k : ℕ) → refusalOf k ≡ Passed → k ≡ accepted
+unfolding refusalOf
+refused-none k e = go (eqb k accepted) refl e
+  where
+    go : (b : Bool) → eqb k accepted ≡ b → if b Passed (Refused (named k)) ≡ Passed → k ≡ accepted
+    go true q e = eqb-true k accepted q
+    go false q e = absurd (let z : _≡_ {A = ℕ} 0 1 = cc in omega arith)
+
+-- of two numbers the first that turns back is the first refusal
+pub refusal-first : (a b : ℕ) → refusalOf (first a b) ≡ after (refusalOf a) (refusalOf b)
+unfolding refusalOf
+refusal-first zero b = refl
+refusal-first (suc a) b = let h : suc a ≡ accepted → ⊥ = λ q. omega arith in simp (ne-eqb (suc a) accepted h)
+
+equal-of : (b : Bool) → pick b accepted badCount ≡ accepted → b ≡ true
+equal-of true e = refl
+equal-of false e = absurd (omega arith)
+
+-- arrays that the input list passes
+pub arrays-checked : (kinds operands : List ℕ) → judgeArrays kinds operands ≡ Passed → Checked kinds operands
+unfolding judgedArrays
+arrays-checked kinds operands e =
+    let s = first-none (pick (eqb (length kinds) (length operands)) accepted badCount) (judgedListing (listed kinds operands))
+    (refused-none _ e) in
+    record { equal = sym (eqb-true (length kinds) (length operands) (equal-of _ (s .0))); input = s .1 }
+
+pub input-checked : (order : ℕ) (kinds operands : List ℕ) → judgeInput order kinds operands ≡ Passed → Checked kinds operands
+unfolding judgeInput
+input-checked order kinds operands e =
+    arrays-checked kinds operands (both-pass (judgeOrder order) (judgeArrays kinds operands) e .1)
+
+module _ (kinds operands : List ℕ) (ok : Checked kinds operands) where
+  pub items-most : length kinds ≤ 4096
+  items-most = some-item (listed kinds operands) (ok .input) .1
+
+  -- an image has at most 8,192 cells
+  pub cells-most : imageCells (listed kinds operands) ≤ 8192
+  cells-most = omega (arith, items-most, at-most (layout (listed kinds operands)) (length kinds))
+
+room-of : (cells size : ℕ) → judgeRoom cells size ≡ Passed → 4 * cells ≤ size
+unfolding judgeRoom
+room-of cells size e = go (ltb size (4 * cells)) refl e
+  where
+    go : (b : Bool) → ltb size (4 * cells) ≡ b → if b (Refused ShortOutput) Passed ≡ Passed → 4 * cells ≤ size
+    go true q e = absurd (let z : _≡_ {A = ℕ} 0 1 = cc in omega arith)
+    go false q e = ltb-false size (4 * cells) q
+
+-- where a packing passes, the output has room for the image
+pub all-room : (order : ℕ) (input : Judged) (base : ℕ) (l : Listing) (size : ℕ) → judgeAll order input base l size ≡ Passed
+    → 4 * imageCells l ≤ size
+all-room order input base l size e =
+    room-of (imageCells l) size (all-pass (judgeOrder order) input (judgePlace base (imageCells l)) (judgeRoom (imageCells l) size) e)
+
+-- an image that passes lies below 16,777,216, and the output has room for it
+image-fits : (base cells size : ℕ) → judgeImage base cells size ≡ Passed → (base ≤ 16777216) × (4 * cells ≤ size)
+unfolding judgeImage
+image-fits base cells size e =
+    let s = both-pass (judgePlace base cells) (judgeRoom cells size) e in
+    let p = base-of base cells (refused-none (judgedPlace base cells) (s .0)) in
+    (omega (arith, p .inside), room-of cells size (s .1))
+
+pub counted-fits : (base size : ℕ) (l : Listing) (cells : CellCount) → cells ≡ cellCount (imageCells l)
+    → judgeImage base (cells .0) size ≡ Passed → (base ≤ 16777216) × (4 * imageCells l ≤ size)
+counted-fits base size l cells e q =
+    image-fits base (imageCells l) size (sym (ap (λ (x : CellCount). judgeImage base (x .0) size) e) ∙ q)
+
+-- a packing with its size as it was counted
+pub pack-counted : (order : ℕ) (kinds operands : List ℕ) (base size : ℕ) (cells : CellCount) (j : Judged)
+    → judgeInput order kinds operands ≡ Passed → cells ≡ cellCount (imageCells (listed kinds operands))
+    → j ≡ judgeImage base (cells .0) size → j ≡ judgePack order kinds operands base size
+pack-counted order kinds operands base size cells j p e q =
+    q ∙ ap (λ (x : CellCount). judgeImage base (x .0) size) e ∙ sym (rw (pack-halves, p))
+
+pub listing-counted : (kinds operands : List ℕ) (base : ℕ) (cells : CellCount) (j : Judged)
+    → judgeArrays kinds operands ≡ Passed → cells ≡ cellCount (imageCells (listed kinds operands))
+    → j ≡ judgePlace base (cells .0) → j ≡ judgeListing kinds operands base
+unfolding judgeListing
+listing-counted kinds operands base cells j p e q = q ∙ ap (λ (x : CellCount). judgePlace base (x .0)) e ∙ rw p (sym (last-one _))

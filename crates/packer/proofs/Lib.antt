@@ -1,0 +1,4 @@
+pub mod Judging
+pub mod Answering
+pub mod Filing
+pub mod Numbers

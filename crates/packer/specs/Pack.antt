@@ -1,0 +1,53 @@
+-- What a packing leaves and answers. Document 01: "A refusal gives its number, zero counts, .. all memory and outputs untouched. A success writes its
+-- bytes and no others".
+use mathlib.Core.List.{List}
+use Prim.Native.Nat.{ℕ}
+use lib.ListN.{length}
+use Rattle.cell.specs.Refusals.{refusalNumber}
+use Rattle.cell.specs.declared.CellCount.{CellCount}
+use Rattle.cell.specs.declared.Judged.{Judged}
+use Rattle.cell.specs.declared.Judged.the-variants as judged
+use Rattle.layout.specs.Listing.{Listing, listed}
+use Rattle.layout.specs.File.{filed, fileBase}
+use Rattle.layout.specs.Packing.{image, imageCells}
+use Rattle.layout.specs.Output.{written}
+use Rattle.packer.specs.declared.Packed.{Packed}
+use Rattle.packer.specs.declared.Packed.the-variants as packed
+use Rattle.packer.specs.Judgement.{judgePack, judgePackFile}
+
+abbrev pub cellCount : ℕ → CellCount
+cellCount n = record { 0 = n }
+
+-- the number and the count of each answer: 0 and the cells of the image, or the refusal's number and 0
+abbrev pub packNumber : Packed → ℕ
+packNumber (packed.Refused r) = refusalNumber r
+packNumber (packed.Cells n) = 0
+
+abbrev pub packCount : Packed → ℕ
+packCount (packed.Refused r) = 0
+packCount (packed.Cells n) = n .0
+
+-- the output after a packing, and its answer
+pub record PackResult : Type 0 where
+  pub output : List ℕ
+  pub answer : Packed
+  pub number : ℕ
+  pub count : ℕ
+
+abbrev pub packedTo : List ℕ → Packed → PackResult
+packedTo out a = record { output = out; answer = a; number = packNumber a; count = packCount a }
+
+-- a listing at a base: turned back, or its image in the output's first cells, in the byte order
+abbrev pub packIf : Judged → ℕ → ℕ → Listing → List ℕ → PackResult
+packIf (judged.Refused r) order base l out = packedTo out (packed.Refused r)
+packIf judged.Passed order base l out =
+    packedTo (written order (image base l) out) (packed.Cells (cellCount (imageCells l)))
+
+-- pack, on a listing in two arrays
+unfoldable pub packOf : ℕ → List ℕ → List ℕ → ℕ → List ℕ → PackResult
+packOf order kinds operands base out =
+    packIf (judgePack order kinds operands base (length out)) order base (listed kinds operands) out
+
+-- pack_file, on a listing file
+unfoldable pub packFileOf : ℕ → List ℕ → List ℕ → PackResult
+packFileOf order file out = packIf (judgePackFile order file (length out)) order (fileBase file) (filed file) out

@@ -1,0 +1,25 @@
+// The numbers of each answer, as the paper has them.
+ghost use mathlib.Core.Path.{_≡_};
+ghost use Rattle.packer.specs.Pack as answers;
+use crate::Packed;
+use cell::judgement::refusal_number;
+
+// 0, or the refusal's number.
+pub fn pack_number(answer: Packed) -> u32
+    ensures { λ n. ⌜ n ≡ answers.packNumber answer ⌝ }
+{
+    match answer {
+        Packed::Refused(r) => refusal_number(r),
+        Packed::Cells(_) => 0,
+    }
+}
+
+// The number of cells of the image, 0 on a refusal.
+pub fn pack_count(answer: Packed) -> u32
+    ensures { λ n. ⌜ n ≡ answers.packCount answer ⌝ }
+{
+    match answer {
+        Packed::Refused(_) => 0,
+        Packed::Cells(n) => n.0,
+    }
+}

@@ -1,0 +1,51 @@
+// The entries and the settled layout of a listing that the input list passed.
+ghost use mathlib.Core.Path.{_≡_};
+ghost use lib.ListN.{length};
+ghost use Rattle.layout.specs.Listing.{listed, Checked};
+ghost use Rattle.layout.specs.Packing.{imageCells};
+ghost use Rattle.packer.specs.Pack.{cellCount};
+ghost use Rattle.packer.specs.Prepared.{Places, Prepared};
+use cell::CellCount;
+use packing::entries::find_entries;
+use packing::settle::settle_marks;
+
+// Fills the working arrays. The answer is the number of cells of the image.
+pub fn prepare(
+    kinds: &[u8],
+    operands: &[u32],
+    entries: &mut [u8],
+    marks: &mut [u8],
+    ats: &mut [u32],
+    eps: &mut [u32],
+    lefts: &mut [u32],
+) -> CellCount
+    requires { ⌜ Checked (now kinds) (now operands) ⌝ }
+    requires { ⌜ Places (length (now kinds)) (now entries) (now marks) (now ats) (now eps) (now lefts) ⌝ }
+    ensures { λ r. ⌜ r ≡ cellCount (imageCells (listed (now (kinds .entry)) (now (operands .entry)))) ⌝ }
+    ensures { λ r. ⌜ Prepared (now (kinds .entry)) (now (operands .entry)) (now (entries .exit)) (now (marks .exit)) (now (ats .exit)) (now (eps .exit)) (now (lefts .exit)) ⌝ }
+{
+    find_entries(kinds, operands, entries);
+    CellCount(settle_marks(kinds, operands, entries, marks, ats, eps, lefts))
+}
+
+// The number of cells of the image.
+pub fn count_cells(kinds: &[u8], operands: &[u32]) -> CellCount
+    requires { ⌜ Checked (now kinds) (now operands) ⌝ }
+    ensures { λ r. ⌜ r ≡ cellCount (imageCells (listed (now (kinds .entry)) (now (operands .entry)))) ⌝ }
+{
+    let n = kinds.len();
+    let mut entries = [0u8; 4096];
+    let mut marks = [0u8; 4096];
+    let mut ats = [0u32; 4096];
+    let mut eps = [0u32; 4096];
+    let mut lefts = [0u32; 4096];
+    prepare(
+        kinds,
+        operands,
+        &mut entries[0..n],
+        &mut marks[0..n],
+        &mut ats[0..n],
+        &mut eps[0..n],
+        &mut lefts[0..n],
+    )
+}

@@ -1,0 +1,90 @@
+-- One turn of the layout pass.
+-- Assumes nothing.
+use mathlib.Core.Path.{_≡_, refl, ap, _∙_}
+use mathlib.Core.Bool.{Bool, true, false}
+use mathlib.Core.List.{List}
+use Prim.Native.Nat.{ℕ, zero, suc, _+_, _-_, _*_, _≤_, _<_}
+use native.Mathlib.Numerals.{add-one}
+use native.Mathlib.Omega.{arith}
+use lib.ListN.{length, set, length-set}
+use Rattle.layout.specs.declared.Cursor.{Cursor}
+use Rattle.layout.specs.declared.Form.{Form}
+use Rattle.layout.specs.Layout.{fresh, begin, finish, Plan, cur, opens, mid, left, Laid}
+use Rattle.layout.proofs.Placing.{left-le, at-most, begin-most}
+use Rattle.packing.proofs.Flags.{stored-more}
+
+free-of : (f : ℕ) (e : Bool) (c : Cursor) → c .free ≡ f → 0 < begin (fresh f e) c .free
+free-of zero e c q = omega arith
+free-of (suc f) true c q = omega arith
+free-of (suc f) false c q = omega arith
+
+-- an open cell has a byte for its item
+pub mid-free : (p : Plan) (i : ℕ) → 0 < mid p i .free
+mid-free p i = free-of (cur p i .free) (p .entry i) (cur p i) refl
+
+pub mid-most : (p : Plan) (i : ℕ) → mid p i .next ≤ 2 * i + 1
+mid-most p i = omega (arith, at-most p i, begin-most (opens p i) (cur p i))
+
+-- what the code's values are at item i
+module _ (p : Plan) (i : ℕ) (c d : Cursor) (e : Bool) (at-item : c ≡ cur p i) (is-entry : e ≡ p .entry i)
+    (begun : d ≡ begin (fresh (c .free) e) c) where
+  pub mid-is : d ≡ mid p i
+  mid-is = begun ∙ rw (at-item, is-entry)
+
+  pub next-is : (g : Form) (r : Cursor) → g ≡ p .form i (d .free - 1) → r ≡ finish g (d .free - 1) d → r ≡ cur p (i + 1)
+  unfolding cur
+  next-is g r q s = rw add-one (s ∙ rw (q, mid-is))
+
+pub laid-more : (p : Plan) (ats eps lefts : List ℕ) (i a e f : ℕ) → i < length ats → i < length eps → i < length lefts
+    → a ≡ mid p i .at → e ≡ mid p i .next → f ≡ left p i → Laid p ats eps lefts i
+    → Laid p (set ats i a) (set eps i e) (set lefts i f) (i + 1)
+laid-more p ats eps lefts i a e f ha he hf qa qe qf l =
+    record {
+      at = stored-more (λ j x. x ≡ mid p j .at) ats i a ha qa (l .at);
+      ep = stored-more (λ j x. x ≡ mid p j .next) eps i e he qe (l .ep);
+      left = stored-more (λ j x. x ≡ left p j) lefts i f hf qf (l .left);
+    }
+
+pub laid-none : (p : Plan) (ats eps lefts : List ℕ) → Laid p ats eps lefts 0
+laid-none p ats eps lefts =
+    record { at = λ j h. absurd (omega arith); ep = λ j h. absurd (omega arith); left = λ j h. absurd (omega arith) }
+
+-- what the pass keeps before item i
+pub record LayTurn (p : Plan) (n : ℕ) (ats eps lefts : List ℕ) (c : Cursor) (i : ℕ) : Type 0 where
+  pub inside : i ≤ n
+  pub ats-length : length ats ≡ n
+  pub eps-length : length eps ≡ n
+  pub lefts-length : length lefts ≡ n
+  pub item : c ≡ cur p i
+  pub laid : Laid p ats eps lefts i
+
+module _ (p : Plan) (n : ℕ) (ats eps lefts : List ℕ) (c : Cursor) (i : ℕ) (t : LayTurn p n ats eps lefts c i) (h : i < n)
+    (most : n ≤ 4096) where
+  pub lay-room : c .next ≤ 8192
+  lay-room = omega (arith, ap (λ (x : Cursor). x .next) (t .item), at-most p i)
+
+  module _ (e : Bool) (d : Cursor) (q : e ≡ p .entry i) (s : d ≡ begin (fresh (c .free) e) c) where
+    pub lay-free : 0 < d .free
+    lay-free = omega (arith, ap (λ (x : Cursor). x .free) (mid-is p i c d e (t .item) q s), mid-free p i)
+
+    pub lay-left : d .free - 1 ≤ 3
+    lay-left = omega (arith, ap (λ (x : Cursor). x .free) (mid-is p i c d e (t .item) q s), left-le p i)
+
+    pub lay-next : d .next ≤ 8193
+    lay-next = omega (arith, ap (λ (x : Cursor). x .next) (mid-is p i c d e (t .item) q s), mid-most p i)
+
+    pub lay-turn : (g : Form) (r : Cursor) → g ≡ p .form i (d .free - 1) → r ≡ finish g (d .free - 1) d
+        → LayTurn p n (set ats i (d .at)) (set eps i (d .next)) (set lefts i (d .free - 1)) r (i + 1)
+    lay-turn g r y z =
+        let m = mid-is p i c d e (t .item) q s in
+        record {
+          inside = omega arith;
+          ats-length = length-set ats i (d .at) ∙ t .ats-length;
+          eps-length = length-set eps i (d .next) ∙ t .eps-length;
+          lefts-length = length-set lefts i (d .free - 1) ∙ t .lefts-length;
+          item = next-is p i c d e (t .item) q s g r y z;
+          laid =
+              laid-more p ats eps lefts i (d .at) (d .next) (d .free - 1) (omega (arith, t .ats-length)) (omega (arith, t .eps-length))
+              (omega (arith, t .lefts-length)) (ap (λ (x : Cursor). x .at) m) (ap (λ (x : Cursor). x .next) m)
+              (ap (λ (x : Cursor). x .free - 1) m) (t .laid);
+        }

@@ -1,0 +1,62 @@
+// What the packing programs print: the cells of an image, one a line, or a refusal's number.
+use cell::memory::load;
+use io::print_decimal;
+use io::write_all;
+use libc::STDOUT_FILENO;
+use packer::Packed;
+use packer::answers::pack_count;
+use packer::answers::pack_number;
+ghost use Prim.Native.Nat.{_*_, _≤_};
+ghost use lib.ListN.{length};
+ghost use Rattle.packer.specs.Pack.{packCount};
+
+fn digit(n: u32) -> u8 {
+    let d = (n % 16) as u8;
+    if d < 10 { 48 + d } else { 55 + d }
+}
+
+// A cell, eight capital digits.
+fn print_cell(x: u32) {
+    let line = [
+        digit(x / 268435456),
+        digit(x / 16777216),
+        digit(x / 1048576),
+        digit(x / 65536),
+        digit(x / 4096),
+        digit(x / 256),
+        digit(x / 16),
+        digit(x),
+        b'\n',
+    ];
+    write_all(STDOUT_FILENO, &line);
+}
+
+// The first cells of an output in order 0.
+fn print_cells(output: &[u8], count: usize)
+    requires { ⌜ 4 * count ≤ length (now output) ⌝ }
+{
+    let mut i = 0;
+    while i < count {
+        print_cell(load(0, output, 4 * i));
+        i += 1;
+    }
+}
+
+// A refusal's number, a cell that is negative.
+fn print_number(x: u32) {
+    write_all(STDOUT_FILENO, b"-");
+    print_decimal(STDOUT_FILENO, 0x100000000 - (x as u64));
+    write_all(STDOUT_FILENO, b"\n");
+}
+
+// What a packing in order 0 answered and left.
+pub fn print_packed(answer: Packed, output: &[u8])
+    requires { ⌜ 4 * packCount answer ≤ length (now output) ⌝ }
+{
+    let number = pack_number(answer);
+    if number == 0 {
+        print_cells(output, pack_count(answer) as usize);
+    } else {
+        print_number(number);
+    }
+}
