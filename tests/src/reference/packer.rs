@@ -44,11 +44,12 @@ impl Placement {
     }
 }
 
-/// A layout of all items, and the number of cells.
+/// A layout of all items, the number of cells, and the rounds that led to it.
 #[derive(Clone, Debug)]
 pub struct Layout {
     pub placements: Vec<Placement>,
     pub cells: usize,
+    pub rounds: usize,
 }
 
 /// Whether a value fits so many signed bytes.
@@ -96,7 +97,11 @@ fn lay_out(listing: &Listing, entries: &[bool], marks: &[bool]) -> Layout {
         };
         placements.push(placement);
     }
-    Layout { placements, cells }
+    Layout {
+        placements,
+        cells,
+        rounds: 1,
+    }
 }
 
 /// A literal is marked exactly where it does not fit f signed bytes, a branch by the rounds.
@@ -124,7 +129,9 @@ fn branch_value(listing: &Listing, layout: &Layout, item: usize) -> i64 {
 pub fn layout(listing: &Listing) -> Layout {
     let entries = listing.entries();
     let mut marks = vec![false; listing.items()];
+    let mut rounds = 0;
     loop {
+        rounds += 1;
         let layout = lay_out(listing, &entries, &marks);
         let mut added = false;
         for (item, placement) in layout.placements.iter().enumerate() {
@@ -136,7 +143,7 @@ pub fn layout(listing: &Listing) -> Layout {
             }
         }
         if !added {
-            return layout;
+            return Layout { rounds, ..layout };
         }
     }
 }

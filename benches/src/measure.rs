@@ -1,0 +1,49 @@
+//! Times, and instructions counted by callgrind in a child process.
+
+use std::env;
+use std::process::Command;
+use std::time::Instant;
+
+use crate::sides::Side;
+
+/// How often each act is timed, in turn; the shortest time of each counts.
+const TIMES: usize = 31;
+
+/// The shortest of several times of each act, in nanoseconds.
+pub fn nanoseconds<const N: usize>(mut acts: [impl FnMut(); N]) -> [f64; N] {
+    let mut shortest = [f64::INFINITY; N];
+    for _ in 0..TIMES {
+        for (act, shortest) in acts.iter_mut().zip(&mut shortest) {
+            let start = Instant::now();
+            act();
+            *shortest = shortest.min(start.elapsed().as_nanos() as f64);
+        }
+    }
+    shortest
+}
+
+/// Two budgets: their difference in instructions is that of the cycles alone.
+const BUDGETS: [u32; 2] = [100_000, 1_100_000];
+
+/// Instructions a cycle of a loop, if valgrind is installed.
+pub fn instructions(side: Side, at: usize) -> Option<f64> {
+    let [few, many] = BUDGETS;
+    let fewer = counted(side, at, few)?;
+    let more = counted(side, at, many)?;
+    Some((more - fewer) as f64 / f64::from(many - few))
+}
+
+/// The instructions of a child process that runs a loop for so many cycles; none without valgrind.
+fn counted(side: Side, at: usize, cycles: u32) -> Option<u64> {
+    let program = env::current_exe().expect("this program's own file");
+    let output = Command::new("valgrind")
+        .args(["--tool=callgrind", "--callgrind-out-file=/dev/null"])
+        .arg(program)
+        .args(["count", side.name(), &at.to_string(), &cycles.to_string()])
+        .output()
+        .ok()?;
+    let text = String::from_utf8_lossy(&output.stderr);
+    assert!(output.status.success(), "the child failed: {text}");
+    let line = text.lines().find(|line| line.contains("Collected :"))?;
+    line.split_whitespace().last()?.parse().ok()
+}

@@ -1,0 +1,128 @@
+//! `beetle run`: a module is loaded, started and run until it stops.
+
+use std::io::Write;
+use std::time::{Duration, Instant};
+
+use super::load::USUAL_ADDRESS;
+use crate::arguments::{Arguments, Takes};
+use crate::failure::Failure;
+use crate::library::{self, Registers};
+use crate::report::{self, State, BAD_HANDLER, BAD_STACK};
+use crate::{files, memory};
+
+pub const HELP: &str = "\
+beetle run MODULE [--memory BYTES] [--order 0|1] [--address ADDRESS]
+           [--entry ADDRESS] [--handler ADDRESS] [--budget CYCLES]
+
+Loads an object module, starts the machine and runs it, all by the proved library, then
+prints why it stopped, the cycles done, the registers and the tops of both stacks.
+
+  --memory BYTES     length of the machine's memory, 65536 without it
+  --order 0|1        the machine's byte order: 0 (as without it) least byte first
+  --address ADDRESS  where to load, 10h without it
+  --entry ADDRESS    where to begin, the address of loading without it
+  --handler ADDRESS  'THROW, where a throw leads. FFFFFFFFh without it, which is no
+                     address: the first throw stops the machine with -259
+  --budget CYCLES    the most cycles to run; without it the run ends when the machine
+                     stops. A long run tells its cycles on the error stream
+
+Numbers are decimal, or hexadecimal with an h. The exit status is 0 if HALT stopped the
+machine, and 1 for a refusal, a stop with -258 or -259, or a budget that was spent. (A
+rule may give -258 or -259 to HALT; the status is 1 then too.)
+";
+
+const TAKES: Takes = Takes {
+    files: &["MODULE"],
+    options: &[
+        "--memory",
+        "--order",
+        "--address",
+        "--entry",
+        "--handler",
+        "--budget",
+    ],
+    switches: &[],
+};
+
+/// 'THROW without a handler: no address of any memory.
+pub const NO_HANDLER: u32 = 0xFFFF_FFFF;
+
+/// The cycles of one call of the library.
+const SLICE: u64 = 10_000_000;
+
+/// How a run in slices ended.
+struct Ended {
+    reason: Option<u32>,
+    cycles: u64,
+}
+
+pub fn carry_out(words: &[String], out: &mut dyn Write) -> Result<u8, Failure> {
+    let arguments = Arguments::read(words, &TAKES)?;
+    let order = arguments.order()?;
+    let address = arguments.cell("--address")?.unwrap_or(USUAL_ADDRESS);
+    let entry = arguments.cell("--entry")?.unwrap_or(address);
+    let handler = arguments.cell("--handler")?.unwrap_or(NO_HANDLER);
+    let budget = arguments.number("--budget", u64::MAX)?;
+    let mut lent = memory::lent(&arguments)?;
+    let file = files::read(arguments.file(0))?;
+    let count = library::load(order, &mut lent, &file, address)?;
+    writeln!(out, "loaded {count} cells at {address:X}h")?;
+    let (mut registers, stopped) = library::start(order, &mut lent, entry, handler)?;
+    let ended = match stopped {
+        Some(_) => Ended {
+            reason: stopped,
+            cycles: 0,
+        },
+        None => run_on(order, &mut lent, &mut registers, budget)?,
+    };
+    let state = State {
+        order,
+        memory: &lent,
+        registers,
+    };
+    tell(out, &ended, &state)
+}
+
+/// Runs in slices until a stop or the end of the budget.
+fn run_on(
+    order: u8,
+    memory: &mut [u8],
+    registers: &mut Registers,
+    budget: Option<u64>,
+) -> Result<Ended, Failure> {
+    let mut ended = Ended {
+        reason: None,
+        cycles: 0,
+    };
+    let mut told = Instant::now();
+    loop {
+        let left = budget.map_or(SLICE, |budget| budget - ended.cycles);
+        let ran = library::run(order, memory, registers, left.min(SLICE) as u32)?;
+        ended.cycles += u64::from(ran.cycles);
+        ended.reason = ran.reason;
+        if ran.reason.is_some() || budget == Some(ended.cycles) {
+            return Ok(ended);
+        }
+        if told.elapsed() >= Duration::from_secs(1) {
+            eprintln!("{} cycles so far", ended.cycles);
+            told = Instant::now();
+        }
+    }
+}
+
+/// Prints the end and the state.
+fn tell(out: &mut dyn Write, ended: &Ended, state: &State<'_>) -> Result<u8, Failure> {
+    match ended.reason {
+        Some(reason) => writeln!(out, "stopped {}", report::why(reason))?,
+        None => writeln!(out, "spent its budget, not stopped")?,
+    }
+    writeln!(out, "{} cycles", ended.cycles)?;
+    report::state(out, state)?;
+    if ended.reason == Some(BAD_HANDLER) {
+        report::thrown(out, state)?;
+    }
+    match ended.reason {
+        None | Some(BAD_STACK | BAD_HANDLER) => Ok(1),
+        Some(_) => Ok(0),
+    }
+}

@@ -1,0 +1,72 @@
+//! Why a command did not do what it was asked, and the exit status of each cause.
+
+use std::io;
+
+/// What stands in a command's way.
+#[derive(Debug)]
+pub enum Failure {
+    /// The command line is wrong.
+    Usage(String),
+    /// The library refused, with this number.
+    Refused(i32),
+    /// Mistakes in a rule's text, a line for each.
+    Mistakes(Vec<String>),
+    /// Anything else, as a file that cannot be read.
+    Other(String),
+    /// Nobody reads what the command prints.
+    Unread,
+}
+
+impl From<io::Error> for Failure {
+    fn from(error: io::Error) -> Self {
+        match error.kind() {
+            io::ErrorKind::BrokenPipe => Failure::Unread,
+            _ => Failure::Other(error.to_string()),
+        }
+    }
+}
+
+impl Failure {
+    /// 2 for a wrong command line, 1 for all else.
+    pub fn status(&self) -> u8 {
+        match self {
+            Failure::Usage(_) => 2,
+            _ => 1,
+        }
+    }
+
+    /// Says on the error stream what happened.
+    pub fn tell(&self) {
+        match self {
+            Failure::Usage(text) => {
+                eprintln!("beetle: {text}");
+                eprintln!("'beetle --help' and 'beetle COMMAND --help' say more");
+            }
+            Failure::Refused(number) => {
+                eprintln!("beetle: refused with {number}: {}", meaning(*number));
+            }
+            Failure::Mistakes(lines) => lines.iter().for_each(|line| eprintln!("{line}")),
+            Failure::Other(text) => eprintln!("beetle: {text}"),
+            Failure::Unread => {}
+        }
+    }
+}
+
+/// What a refusal's number means (document 01, the two lists of what is turned back).
+pub fn meaning(refusal: i32) -> &'static str {
+    match refusal {
+        -1 => "the module's address is MEMORY or more, or its cells pass MEMORY",
+        -2 => "the file does not begin as a module does, or its byte order is above 1",
+        -4101 => "the memory's length is not a multiple of 4 from 1,024 to 16,777,216",
+        -4102 => "the byte order is above 1",
+        -4103 => "the file's length is not 12 and 4 for each cell of the module",
+        -4104 => "the address or base is no multiple of 4",
+        -4105 => "a lent output is too short",
+        -4106 => "no item, more than 4,096 items, or not 8 bytes and 5 for each item in the file",
+        -4107 => "an item's kind is none that a listing may have",
+        -4108 => "a plain item has an operand",
+        -4109 => "a branch leads to no item",
+        -4110 => "the base is below 10h, or the image passes 16,777,216",
+        _ => "a number that document 01 does not list",
+    }
+}

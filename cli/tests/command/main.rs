@@ -1,0 +1,8 @@
+//! The command as an office uses it: good and bad input, what is printed, the exit status.
+
+mod examples;
+mod folder;
+mod listings;
+mod machines;
+mod refused;
+mod worked;

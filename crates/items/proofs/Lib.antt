@@ -1,0 +1,9 @@
+-- Laws that belong to no one function.
+mod EntryLaws
+mod KindLaws
+mod ThrowingLaws
+mod IntentLaws
+mod ItemLaws
+mod CarryLaws
+mod WithinLaws
+mod RunLaws

@@ -1,0 +1,67 @@
+-- What the values of the code stand for: a position of the list machine, what an item comes to, a run.
+use mathlib.Core.Bool.{Bool, true, false}
+use mathlib.Core.List.{List}
+use Prim.Native.Nat.{ℕ, _+_}
+use Rattle.machine.specs.declared.Registers.{Registers}
+use Rattle.layout.specs.declared.ItemNumber.{ItemNumber}
+use Rattle.list_machine.specs.ListMachine as lists
+use Rattle.list_machine.specs.Runs as runs
+use Rattle.items.specs.declared.Stand.{Stand}
+use Rattle.items.specs.declared.Carried.{Carried}
+use Rattle.items.specs.declared.Carried.the-variants.{On, Stopped, Outside}
+use Rattle.items.specs.declared.Ending.{Ending}
+use Rattle.items.specs.declared.Ending.the-variants as ending
+use Rattle.items.specs.declared.Ran.{Ran}
+
+-- where the machine stands, with the memory m
+abbrev pub positionOf : List ℕ → Stand → lists.Position
+positionOf m s = record { item = s .item .0; ran = s .ran; memory = m; sp = s .sp; rp = s .rp }
+
+-- in front of an item, with the stack pointers of r
+abbrev pub arrived : ItemNumber → Bool → Registers → Stand
+arrived item ran r = record { item = item; ran = ran; sp = r .sp; rp = r .rp }
+
+-- what an item comes to, with the memory m
+abbrev pub carriedAs : List ℕ → Carried → lists.Carried
+carriedAs m (On s) = lists.on (positionOf m s)
+carriedAs m (Stopped s x) = lists.stopped x (positionOf m s)
+carriedAs m Outside = lists.outside
+
+-- memory, and what the item came to
+pub record Left : Type 0 where
+  pub memory : List ℕ
+  pub carried : lists.Carried
+
+abbrev pub left : List ℕ → Carried → Left
+left m c = record { memory = m; carried = carriedAs m c }
+
+-- the memory that an item leaves; "in front of an item" the machine stops outside, and memory stays
+abbrev pub memoryAfter : List ℕ → lists.Carried → List ℕ
+memoryAfter m (lists.on p) = p .memory
+memoryAfter m (lists.stopped x p) = p .memory
+memoryAfter m lists.outside = m
+
+-- what the code has to leave, from the memory m
+abbrev pub leaves : List ℕ → lists.Carried → Left
+leaves m c = record { memory = memoryAfter m c; carried = c }
+
+abbrev pub courseOf : Ending → runs.Course
+courseOf ending.GoesOn = runs.goesOn
+courseOf (ending.Stopped x) = runs.stoppedBy x
+courseOf ending.Outside = runs.stoodOutside
+
+-- a run, with the memory m
+abbrev pub runAs : List ℕ → Ran → runs.Run
+runAs m r = record { position = positionOf m (r .stand); items = r .items; cycles = r .cycles; course = courseOf (r .ending) }
+
+-- the run with one item more, which counts so many cycles. "one that throws and one that stops it with a reason are among them, one it stops in
+-- front of is not"
+abbrev pub counted : Ran → ℕ → Carried → Ran
+counted r k (On s) = record { stand = s; items = r .items + 1; cycles = r .cycles + k; ending = ending.GoesOn }
+counted r k (Stopped s x) = record { stand = s; items = r .items + 1; cycles = r .cycles + k; ending = ending.Stopped x }
+counted r k Outside = record { stand = r .stand; items = r .items; cycles = r .cycles; ending = ending.Outside }
+
+abbrev pub isOver : Ending → Bool
+isOver ending.GoesOn = false
+isOver (ending.Stopped x) = true
+isOver ending.Outside = true

@@ -1,0 +1,166 @@
+// One item carried out.
+ghost use mathlib.Core.Path.{_≡_};
+ghost use Prim.Native.Nat.{_≤_, _<_};
+ghost use lib.ListN.{length};
+ghost use Rattle.machine.specs.Places as places;
+ghost use Rattle.machine.specs.Commits as commits;
+ghost use Rattle.machine.specs.Throws as throws;
+ghost use Rattle.layout.specs.Listing.{listed};
+ghost use Rattle.list_machine.specs.ListMachine as lists;
+ghost use Rattle.shapes.specs.Shapes as shapes;
+ghost use Rattle.items.specs.Arrays as arrays;
+ghost use Rattle.items.specs.Stands as stands;
+ghost use Rattle.items.specs.Ways as ways;
+use crate::Carried;
+use crate::Intent;
+use crate::Stand;
+use crate::Way;
+use crate::judging::intent_of;
+use crate::proposing::extra_of;
+use crate::proposing::is_immediate;
+use crate::proposing::shape_of;
+use layout::ItemNumber;
+use machine::Machine;
+use machine::Registers;
+use machine::Step;
+use machine::ending::finish;
+use packing::kinds::class_of;
+use packing::place::form_of;
+use shapes::Shape;
+use shapes::carrying::commit_shape;
+
+// In front of an item, with the stack pointers of r.
+fn arrive(item: ItemNumber, ran: bool, r: Registers) -> Stand
+    ensures { λ s. ⌜ s ≡ stands.arrived item ran r ⌝ }
+{
+    Stand {
+        item: item,
+        ran: ran,
+        sp: r.sp,
+        rp: r.rp,
+    }
+}
+
+// The writes of an item, unless its way leads outside.
+fn act_along(
+    machine: Machine,
+    memory: &mut [u8],
+    s: Stand,
+    r: Registers,
+    shape: Shape,
+    way: Way,
+) -> Carried
+    requires { ⌜ places.Whole (now memory) ⌝ }
+    requires { ⌜ shapes.Fits (length (now memory)) shape ⌝ }
+    ensures { λ c. ⌜ stands.left (now (memory .exit)) c ≡ stands.leaves (now (memory .entry)) (ways.along way (ways.steppedTo (stands.positionOf (now (memory .entry)) s) (commits.commitOf machine (now (memory .entry)) r (shapes.shapeEffect machine (now (memory .entry)) shape)))) ⌝ }
+{
+    match way {
+        Way::To(i, ran) => {
+            let t = commit_shape(machine, memory, r, shape);
+            let after = t.registers;
+            Carried::On(arrive(i, ran, after))
+        }
+        Way::Halt(x) => {
+            let t = commit_shape(machine, memory, r, shape);
+            let after = t.registers;
+            let item = s.item;
+            Carried::Stopped(arrive(item, s.ran, after), x)
+        }
+        Way::Outside => Carried::Outside,
+    }
+}
+
+// The throw of an item, unless its way leads outside.
+fn end_along(machine: Machine, memory: &mut [u8], s: Stand, step: Step, way: Way) -> Carried
+    requires { ⌜ places.Whole (now memory) ⌝ }
+    requires { ⌜ 16 ≤ length (now memory) ⌝ }
+    ensures { λ c. ⌜ stands.left (now (memory .exit)) c ≡ stands.leaves (now (memory .entry)) (ways.along way (lists.thrownTo (stands.positionOf (now (memory .entry)) s) (throws.finishOf machine (commits.stepped (now (memory .entry)) step)))) ⌝ }
+{
+    match way {
+        Way::To(i, ran) => {
+            let t = finish(machine, memory, step);
+            let after = t.registers;
+            Carried::On(arrive(i, ran, after))
+        }
+        Way::Halt(x) => {
+            let t = finish(machine, memory, step);
+            let after = t.registers;
+            let item = s.item;
+            Carried::Stopped(arrive(item, s.ran, after), x)
+        }
+        Way::Outside => Carried::Outside,
+    }
+}
+
+fn perform(
+    machine: Machine,
+    memory: &mut [u8],
+    s: Stand,
+    r: Registers,
+    shape: Shape,
+    intent: Intent,
+) -> Carried
+    requires { ⌜ places.Whole (now memory) ⌝ }
+    requires { ⌜ 16 ≤ length (now memory) ⌝ }
+    requires { ⌜ shapes.Fits (length (now memory)) shape ⌝ }
+    ensures { λ c. ⌜ stands.left (now (memory .exit)) c ≡ stands.leaves (now (memory .entry)) (ways.performed machine (stands.positionOf (now (memory .entry)) s) r (shapes.shapeEffect machine (now (memory .entry)) shape) intent) ⌝ }
+{
+    match intent {
+        Intent::Act(way) => act_along(machine, memory, s, r, shape, way),
+        Intent::End(o, way) => {
+            let step = Step {
+                registers: r,
+                outcome: o,
+            };
+            end_along(machine, memory, s, step, way)
+        }
+    }
+}
+
+// The item in front of which the machine stands.
+pub fn carry_out(
+    machine: Machine,
+    memory: &mut [u8],
+    kinds: &[u8],
+    operands: &[u32],
+    entries: &[u8],
+    marks: &[u8],
+    ats: &[u32],
+    eps: &[u32],
+    lefts: &[u32],
+    base: u32,
+    cells: u32,
+    s: Stand,
+) -> Carried
+    requires { ⌜ arrays.Lent (now memory) ⌝ }
+    requires { ⌜ arrays.Settled (now kinds) (now operands) (now entries) (now marks) (now ats) (now eps) (now lefts) base cells ⌝ }
+    requires { ⌜ s .item .0 < length (now kinds) ⌝ }
+    ensures { λ c. ⌜ stands.left (now (memory .exit)) c ≡ stands.leaves (now (memory .entry)) (lists.carryOut machine base (listed (now (kinds .entry)) (now (operands .entry))) (stands.positionOf (now (memory .entry)) s)) ⌝ }
+{
+    let item = s.item;
+    let i = item.0 as usize;
+    let kind = kinds[i];
+    let x = operands[i];
+    let ep = eps[i];
+    let form = form_of(class_of(kind), marks[i] == 1, x, lefts[i]);
+    let r = Registers {
+        ep: base + 4 * ep,
+        a: 0,
+        sp: s.sp,
+        rp: s.rp,
+    };
+    let shape = shape_of(machine, memory, r, kind, x, ep + extra_of(form), ats, base);
+    let intent = intent_of(
+        machine,
+        memory,
+        entries,
+        ats,
+        base,
+        base + 4 * cells,
+        item,
+        is_immediate(form),
+        s.sp,
+        shape,
+    );
+    perform(machine, memory, s, r, shape, intent)
+}

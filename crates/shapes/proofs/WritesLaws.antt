@@ -1,0 +1,104 @@
+-- The places that a shape writes: the first bad one of a few, and whether ROLL's cells meet a range.
+use mathlib.Core.Path.{_≡_, refl, sym, _∙_, ap}
+use mathlib.Core.Bool.{Bool, true, false, _&&_, _||_}
+use mathlib.Core.List.{List, [], _∷_}
+use Prim.Native.Nat.{ℕ, zero, suc, _+_, _*_, _%_, _<_, _≤_}
+use native.Mathlib.Decide.{decLt}
+use native.Mathlib.Omega.{arith}
+use borrow.Author.Tests.{lt-ltb, le-ltb}
+use lib.Dec.{ltb}
+use lib.ListN.{length}
+use Rattle.cell.specs.Memory.{cellAt}
+use Rattle.cell.specs.declared.Checked.{Checked}
+use Rattle.cell.specs.declared.Checked.the-variants.{Good, Bad}
+use Rattle.machine.specs.Effects.{Store, rollStores, rolled}
+use Rattle.machine.specs.Commits.{firstBad, placesOf, storedOf, stepped, commitOf, touches}
+use Rattle.machine.specs.declared.Machine.{Machine}
+use Rattle.machine.specs.declared.Registers.{Registers}
+use Rattle.machine.specs.declared.Outcome.the-variants.{Went}
+use Rattle.instruction.proofs.RollingLaws.{rolled-places}
+use Rattle.shapes.specs.Shapes.{Fits, shapeEffect}
+use Rattle.shapes.specs.declared.Rolling.{Rolling}
+use Rattle.shapes.specs.declared.Shape.the-variants.{Roll}
+
+pub first-good : (c : Checked) → firstBad c Good ≡ c
+first-good Good = refl
+first-good (Bad f) = refl
+
+pub or-false : (b : Bool) → (b || false) ≡ b
+or-false true = refl
+or-false false = refl
+
+-- the test of one range of bytes against another
+pub test-true : (a w lo hi : ℕ) → a < hi → lo < a + w → (ltb a hi && ltb lo (a + w)) ≡ true
+test-true a w lo hi h k = simp (lt-ltb _ _ h, lt-ltb _ _ k)
+
+pub test-left : (a w lo hi : ℕ) → hi ≤ a → (ltb a hi && ltb lo (a + w)) ≡ false
+test-left a w lo hi h = simp (le-ltb _ _ h)
+
+pub test-right : (a w lo hi : ℕ) → a < hi → a + w ≤ lo → (ltb a hi && ltb lo (a + w)) ≡ false
+test-right a w lo hi h k = simp (lt-ltb _ _ h, le-ltb _ _ k)
+
+or-true : (a b : Bool) → a ≡ true → (a || b) ≡ true
+or-true a b e = rw e
+
+or-left-false : (a b : Bool) → a ≡ false → (a || b) ≡ b
+or-left-false a b e = rw e
+
+module _ (order : ℕ) (m : List ℕ) (top last lo hi : ℕ) (some : lo < hi) where
+  -- one cell more, above w bytes from the top on
+  more : (w : ℕ) → ((ltb (top + w) hi && ltb lo ((top + w) + 4)) || (ltb top hi && ltb lo (top + w))) ≡ (ltb top hi && ltb lo (top + (w + 4)))
+  more w = go (decLt (top + w) hi) (decLt lo (top + w)) (decLt lo (top + w + 4)) (decLt top hi)
+    where
+      go : Dec (top + w < hi) → Dec (lo < top + w) → Dec (lo < top + w + 4) → Dec (top < hi)
+          → ((ltb (top + w) hi && ltb lo ((top + w) + 4)) || (ltb top hi && ltb lo (top + w))) ≡ (ltb top hi && ltb lo (top + (w + 4)))
+      go (yes a) b (yes c) d =
+          or-true _ _ (test-true (top + w) 4 lo hi a c) ∙ sym (test-true top (w + 4) lo hi (omega arith) (omega arith))
+      go (yes a) b (no c) d =
+          or-left-false _ _ (test-right (top + w) 4 lo hi a (omega arith))
+          ∙ test-right top w lo hi (omega arith) (omega arith)
+          ∙ sym (test-right top (w + 4) lo hi (omega arith) (omega arith))
+      go (no a) b c (no d) =
+          or-left-false _ _ (test-left (top + w) 4 lo hi (omega arith))
+          ∙ test-left top w lo hi (omega arith)
+          ∙ sym (test-left top (w + 4) lo hi (omega arith))
+      go (no a) b c (yes d) =
+          or-left-false _ _ (test-left (top + w) 4 lo hi (omega arith))
+          ∙ test-true top w lo hi d (omega arith)
+          ∙ sym (test-true top (w + 4) lo hi d (omega arith))
+
+  roll-touches : (u : ℕ) → touches lo hi (rollStores order m top last u) ≡ (ltb top hi && ltb lo (top + (4 * u + 4)))
+  unfolding touches rollStores
+  roll-touches zero = or-false _
+  roll-touches (suc u) =
+      ap (λ (b : Bool). (ltb (top + 4 * suc u) hi && ltb lo ((top + 4 * suc u) + 4)) || b)
+      (roll-touches u ∙ ap (λ (x : ℕ). ltb top hi && ltb lo (top + x)) (let e : 4 * u + 4 ≡ 4 * suc u = omega arith in e))
+      ∙ more (4 * suc u)
+
+-- ROLL writes the cells from the top one to the deepest, or none
+pub rolled-touches : (order : ℕ) (m : List ℕ) (top u lo hi : ℕ) → lo < hi
+    → (ltb 0 u && (ltb top hi && ltb lo (top + (4 * u + 4)))) ≡ touches lo hi (rolled order m top u)
+unfolding touches
+rolled-touches order m top zero lo hi h = refl
+rolled-touches order m top (suc u) lo hi h =
+    ap (λ (b : Bool). b && (ltb top hi && ltb lo (top + (4 * suc u + 4)))) (lt-ltb 0 (suc u) (omega arith))
+    ∙ sym (roll-touches order m top (cellAt order m (top + 4 * suc u)) lo hi h (suc u))
+
+-- one store more
+pub places-more : (machine : Machine) (len : ℕ) (s : Store) (ss : List Store)
+    → firstBad (placesOf machine len (s ∷ [])) (placesOf machine len ss) ≡ placesOf machine len (s ∷ ss)
+unfolding placesOf
+places-more machine len s ss = rw first-good
+
+pub touches-more : (lo hi : ℕ) (s : Store) (ss : List Store)
+    → (touches lo hi (s ∷ []) || touches lo hi ss) ≡ touches lo hi (s ∷ ss)
+unfolding touches
+touches-more lo hi s ss = rw or-false
+
+-- ROLL that fits is carried out
+pub roll-committed : (machine : Machine) (m : List ℕ) (r : Registers) (e : Rolling) → Fits (length m) (Roll e)
+    → commitOf machine m r (shapeEffect machine m (Roll e))
+    ≡ stepped (storedOf machine m (rolled (machine .order) m (e .top) (e .depth)))
+    (record { registers = record { ep = r .ep; a = r .a; sp = e .sp; rp = e .rp }; outcome = Went })
+unfolding commitOf
+roll-committed machine m r e f = rw (rolled-places machine (length m) (machine .order) m (e .top) (e .depth) (f .0) (omega (arith, f .1)))

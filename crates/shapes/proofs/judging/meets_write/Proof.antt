@@ -1,0 +1,20 @@
+-- `meets_write` meets its contract: one cell is tested.
+use borrow.Author.Needs.{needs}
+use Rattle.shapes.proofs.judging.meets_write.Statement.{statement}
+use Rattle.shapes.proofs.judging.meets_write.Tie as tie
+use Rattle.shapes.proofs.judging.meets.Reads as meets-reads
+use mathlib.Core.Path.{sym, _∙_}
+use Rattle.machine.specs.Commits as commits
+use Rattle.shapes.proofs.WritesLaws.{or-false}
+
+-- src/judging.rt:125:5
+meets-requires : tie.Need-meets-requires
+meets-requires c κs = search needs
+
+-- src/judging.rt:121:1
+returns : tie.Need-returns
+unfolding commits.touches
+returns c = c .meets .ensures ∙ sym (or-false _)
+
+pub meets-write-spec : {M : Type 1} → statement M
+meets-write-spec = tie.close (tie.spec meets-requires returns)

@@ -1,0 +1,2 @@
+-- What crate `shapes` means.
+pub mod Shapes

@@ -1,0 +1,35 @@
+// What an instruction would do, as a value: found by reading alone, so that it can be judged before anything is written.
+pub mod carrying;
+pub mod first;
+pub mod fourth;
+pub mod judging;
+pub mod roll;
+pub mod second;
+pub mod taking;
+pub mod third;
+
+use machine::ByteStore;
+use machine::MaybeStore;
+use machine::NoStore;
+use machine::OneStore;
+use machine::ThreeStores;
+use machine::TwoStores;
+
+// ROLL: `depth` items below the top one, which lies at the address `top`.
+pub struct Rolling {
+    pub sp: u32,
+    pub rp: u32,
+    pub top: u32,
+    pub depth: u32,
+}
+
+// What an instruction asks for, by the places that it writes.
+pub enum Shape {
+    None(NoStore),
+    One(OneStore),
+    Maybe(MaybeStore),
+    Two(TwoStores),
+    Three(ThreeStores),
+    Byte(ByteStore),
+    Roll(Rolling),
+}

@@ -1,0 +1,85 @@
+// Opcodes 16h to 2Bh: comparison, constants, arithmetic.
+ghost use mathlib.Core.Path.{_≡_};
+ghost use Prim.Native.Nat.{_≤_};
+ghost use lib.ListN.{length};
+ghost use Rattle.machine.specs.Places as places;
+ghost use Rattle.instruction.specs.Plain as plain;
+ghost use Rattle.dispatch.specs.Dispatch as dispatch;
+ghost use Rattle.shapes.specs.Shapes as shapes;
+use crate::Shape;
+use crate::third::propose_third;
+use instruction::arithmetic::cell_minus;
+use instruction::arithmetic::cell_plus;
+use instruction::arithmetic::minus;
+use instruction::arithmetic::modulo;
+use instruction::arithmetic::one_minus;
+use instruction::arithmetic::one_plus;
+use instruction::arithmetic::plus;
+use instruction::arithmetic::s_slash_rem;
+use instruction::arithmetic::slash;
+use instruction::arithmetic::slash_mod;
+use instruction::arithmetic::star;
+use instruction::arithmetic::swap_minus;
+use instruction::arithmetic::two_slash;
+use instruction::arithmetic::u_slash_mod;
+use instruction::comparison::u_greater;
+use instruction::comparison::u_less;
+use instruction::comparison::zero_not_equal;
+use instruction::shape::push;
+use machine::Machine;
+use machine::Registers;
+
+pub fn propose_second(machine: Machine, memory: &[u8], r: Registers, opcode: u32) -> Shape
+    requires { ⌜ places.Whole (now memory) ⌝ }
+    requires { ⌜ length (now memory) ≤ 16777216 ⌝ }
+    requires { ⌜ 22 ≤ opcode ⌝ }
+    ensures { λ s. ⌜ shapes.Proposed machine (now (memory .entry)) s (plain.plainAt machine (dispatch.decodeOf opcode) (now (memory .entry)) r) ⌝ }
+{
+    match opcode {
+        // 0<>
+        0x16 => Shape::One(zero_not_equal(machine, memory, r)),
+        // U<
+        0x17 => Shape::One(u_less(machine, memory, r)),
+        // U>
+        0x18 => Shape::One(u_greater(machine, memory, r)),
+        // 0
+        0x19 => Shape::One(push(r, 0)),
+        // 1
+        0x1A => Shape::One(push(r, 1)),
+        // -1
+        0x1B => Shape::One(push(r, 0xFFFFFFFF)),
+        // CELL
+        0x1C => Shape::One(push(r, 4)),
+        // -CELL
+        0x1D => Shape::One(push(r, 0xFFFFFFFC)),
+        // +
+        0x1E => Shape::One(plus(machine, memory, r)),
+        // -
+        0x1F => Shape::One(minus(machine, memory, r)),
+        // >-<
+        0x20 => Shape::One(swap_minus(machine, memory, r)),
+        // 1+
+        0x21 => Shape::One(one_plus(machine, memory, r)),
+        // 1-
+        0x22 => Shape::One(one_minus(machine, memory, r)),
+        // CELL+
+        0x23 => Shape::One(cell_plus(machine, memory, r)),
+        // CELL-
+        0x24 => Shape::One(cell_minus(machine, memory, r)),
+        // *
+        0x25 => Shape::One(star(machine, memory, r)),
+        // /
+        0x26 => Shape::One(slash(machine, memory, r)),
+        // MOD
+        0x27 => Shape::One(modulo(machine, memory, r)),
+        // /MOD
+        0x28 => Shape::Two(slash_mod(machine, memory, r)),
+        // U/MOD
+        0x29 => Shape::Two(u_slash_mod(machine, memory, r)),
+        // S/REM
+        0x2A => Shape::Two(s_slash_rem(machine, memory, r)),
+        // 2/
+        0x2B => Shape::One(two_slash(machine, memory, r)),
+        _ => propose_third(machine, memory, r, opcode),
+    }
+}

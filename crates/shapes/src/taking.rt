@@ -1,0 +1,37 @@
+// The instructions that take an operand.
+ghost use Prim.Native.Nat.{_≤_};
+ghost use Rattle.machine.specs.Places as places;
+ghost use Rattle.instruction.specs.Taking as taking;
+ghost use Rattle.instruction.specs.declared.Form.the-variants as form;
+ghost use Rattle.shapes.specs.Shapes as shapes;
+use crate::Shape;
+use instruction::Form;
+use instruction::control::branch;
+use instruction::control::call;
+use instruction::control::question_branch;
+use instruction::control::turn_loop;
+use instruction::control::turn_plus_loop;
+use instruction::literals::literal;
+use machine::Machine;
+use machine::Registers;
+
+// What an instruction with its operand in A would do, by its kind.
+pub fn propose_taking(machine: Machine, memory: &[u8], r: Registers, kind: u32) -> Shape
+    requires { ⌜ places.Whole (now memory) ⌝ }
+    ensures { λ s. ⌜ shapes.Proposed machine (now (memory .entry)) s (taking.takingAt machine form.Immediate (shapes.takingKind kind) (now (memory .entry)) r) ⌝ }
+{
+    match kind {
+        // BRANCH
+        0x42 => Shape::None(branch(machine, memory, r, Form::Immediate)),
+        // ?BRANCH
+        0x44 => Shape::None(question_branch(machine, memory, r, Form::Immediate)),
+        // CALL
+        0x48 => Shape::One(call(machine, memory, r, Form::Immediate)),
+        // (LOOP)
+        0x4C => Shape::Maybe(turn_loop(machine, memory, r, Form::Immediate)),
+        // (+LOOP)
+        0x4E => Shape::Maybe(turn_plus_loop(machine, memory, r, Form::Immediate)),
+        // (LITERAL)
+        _ => Shape::One(literal(machine, memory, r, Form::Immediate)),
+    }
+}

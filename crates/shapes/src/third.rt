@@ -1,0 +1,88 @@
+// Opcodes 2Ch to 41h: arithmetic, logic, memory, the stack pointers.
+ghost use mathlib.Core.Path.{_≡_};
+ghost use Prim.Native.Nat.{_≤_};
+ghost use lib.ListN.{length};
+ghost use Rattle.machine.specs.Places as places;
+ghost use Rattle.instruction.specs.Plain as plain;
+ghost use Rattle.dispatch.specs.Dispatch as dispatch;
+ghost use Rattle.shapes.specs.Shapes as shapes;
+use crate::Shape;
+use crate::fourth::propose_fourth;
+use instruction::arithmetic::abs;
+use instruction::arithmetic::cells;
+use instruction::arithmetic::max;
+use instruction::arithmetic::min;
+use instruction::arithmetic::negate;
+use instruction::logic::and;
+use instruction::logic::invert;
+use instruction::logic::l_shift;
+use instruction::logic::one_l_shift;
+use instruction::logic::one_r_shift;
+use instruction::logic::or;
+use instruction::logic::r_shift;
+use instruction::logic::xor;
+use instruction::memory::c_fetch;
+use instruction::memory::c_store;
+use instruction::memory::fetch_named;
+use instruction::memory::plus_store;
+use instruction::memory::store_named;
+use instruction::registers::rp_store;
+use instruction::registers::sp_store;
+use instruction::shape::push;
+use machine::Machine;
+use machine::Registers;
+
+pub fn propose_third(machine: Machine, memory: &[u8], r: Registers, opcode: u32) -> Shape
+    requires { ⌜ places.Whole (now memory) ⌝ }
+    requires { ⌜ length (now memory) ≤ 16777216 ⌝ }
+    requires { ⌜ 44 ≤ opcode ⌝ }
+    ensures { λ s. ⌜ shapes.Proposed machine (now (memory .entry)) s (plain.plainAt machine (dispatch.decodeOf opcode) (now (memory .entry)) r) ⌝ }
+{
+    match opcode {
+        // CELLS
+        0x2C => Shape::One(cells(machine, memory, r)),
+        // ABS
+        0x2D => Shape::One(abs(machine, memory, r)),
+        // NEGATE
+        0x2E => Shape::One(negate(machine, memory, r)),
+        // MAX
+        0x2F => Shape::One(max(machine, memory, r)),
+        // MIN
+        0x30 => Shape::One(min(machine, memory, r)),
+        // INVERT
+        0x31 => Shape::One(invert(machine, memory, r)),
+        // AND
+        0x32 => Shape::One(and(machine, memory, r)),
+        // OR
+        0x33 => Shape::One(or(machine, memory, r)),
+        // XOR
+        0x34 => Shape::One(xor(machine, memory, r)),
+        // LSHIFT
+        0x35 => Shape::One(l_shift(machine, memory, r)),
+        // RSHIFT
+        0x36 => Shape::One(r_shift(machine, memory, r)),
+        // 1LSHIFT
+        0x37 => Shape::One(one_l_shift(machine, memory, r)),
+        // 1RSHIFT
+        0x38 => Shape::One(one_r_shift(machine, memory, r)),
+        // @
+        0x39 => Shape::One(fetch_named(machine, memory, r)),
+        // !
+        0x3A => Shape::One(store_named(machine, memory, r)),
+        // C@
+        0x3B => Shape::One(c_fetch(machine, memory, r)),
+        // C!
+        0x3C => Shape::Byte(c_store(machine, memory, r)),
+        // +!
+        0x3D => Shape::One(plus_store(machine, memory, r)),
+        // SP@
+        0x3E => Shape::One(push(r, r.sp)),
+        // SP!
+        0x3F => Shape::None(sp_store(machine, memory, r)),
+        // RP@
+        0x40 => Shape::One(push(r, r.rp)),
+        // RP!
+        0x41 => Shape::None(rp_store(machine, memory, r)),
+        _ => propose_fourth(machine, memory, r, opcode),
+    }
+}
