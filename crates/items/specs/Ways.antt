@@ -17,12 +17,10 @@ use Rattle.cell.specs.declared.Fetched.the-variants.{Cell}
 use Rattle.machine.specs.Places.{oneCell, placeOf}
 use Rattle.machine.specs.Effects.{Store, Effect, raise}
 use Rattle.cell.specs.declared.Fault.the-variants.{Illegal}
-use Rattle.machine.specs.Commits.{Stepped, stepped, commitOf, touches}
-use Rattle.machine.specs.Throws.{badStack, badHandler, handlerCell, finishOf}
+use Rattle.machine.specs.Commits.{Stepped, commitOf, touches}
+use Rattle.machine.specs.Throws.{Turned, badStack, badHandler, handlerCell, throwOf, throwingOf}
 use Rattle.machine.specs.declared.Machine.{Machine}
 use Rattle.machine.specs.declared.Registers.{Registers}
-use Rattle.machine.specs.declared.Outcome.{Outcome}
-use Rattle.machine.specs.declared.Outcome.the-variants as outcome
 use Rattle.machine.specs.declared.Then.{Then}
 use Rattle.machine.specs.declared.Then.the-variants as then
 use Rattle.machine.specs.declared.Access.the-variants.{Push, Stream}
@@ -37,6 +35,8 @@ use Rattle.shapes.specs.Shapes.{shapeStores, shapeThen, shapeFault}
 use Rattle.shapes.specs.declared.Shape.{Shape}
 use Rattle.items.specs.declared.Way.{Way}
 use Rattle.items.specs.declared.Way.the-variants.{To, Halt, Outside}
+use Rattle.items.specs.declared.Cause.{Cause}
+use Rattle.items.specs.declared.Cause.the-variants as cause
 use Rattle.items.specs.declared.Intent.{Intent}
 use Rattle.items.specs.declared.Intent.the-variants.{Act, End}
 
@@ -85,13 +85,13 @@ module _ (machine : Machine) (m : List ℕ) (find : ℕ → Entry) where
   intentThen n item immediate sp then.GoOn = Act (nextWay n item immediate)
   intentThen n item immediate sp (then.Jump a) = Act (toEntry (find (a .0)))
   intentThen n item immediate sp (then.Halt x) = Act (Halt x)
-  intentThen n item immediate sp then.Throw = End outcome.Throw (givenWay sp)
+  intentThen n item immediate sp then.Throw = End cause.Given (givenWay sp)
   intentThen n item immediate sp (then.Raise f) = Act Outside
 
   module _ (lo hi n item : ℕ) (immediate : Bool) (sp : ℕ) where
     -- an item whose reading and places were judged. "an item that would write a byte of the image": outside
     abbrev pub intentBy : List Store → Then → Checked → Intent
-    intentBy ss t (Bad f) = End (outcome.Raise f) (throwWay lo hi sp f)
+    intentBy ss t (Bad f) = End (cause.Raised f) (throwWay lo hi sp f)
     intentBy ss t Good = if (touches lo hi ss) (Act Outside) (intentThen n item immediate sp t)
 
     unfoldable pub intentOf : Shape → Intent
@@ -114,11 +114,15 @@ steppedTo p s =
       rp = s .step .registers .rp;
     }
 
+-- the processor's throw, by what it comes from
+abbrev pub endOf : Machine → List ℕ → Registers → Cause → Turned
+endOf machine m r (cause.Raised f) = throwOf machine m r f
+endOf machine m r cause.Given = throwingOf machine m r
+
 -- an item with the effect e, carried out as it was meant to be
 abbrev pub performed : Machine → lists.Position → Registers → Effect → Intent → lists.Carried
 performed machine p r e (Act way) = along way (steppedTo p (commitOf machine (p .memory) r e))
-performed machine p r e (End o way) =
-    along way (lists.thrownTo p (finishOf machine (stepped (p .memory) (record { registers = r; outcome = o }))))
+performed machine p r e (End c way) = along way (lists.thrownTo p (endOf machine (p .memory) r c))
 
 -- the operand of a kind: a literal's is x, a branch's the address of its target
 abbrev pub operandFor : Taking → ℕ → ℕ → ℕ

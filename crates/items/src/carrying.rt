@@ -12,6 +12,7 @@ ghost use Rattle.items.specs.Arrays as arrays;
 ghost use Rattle.items.specs.Stands as stands;
 ghost use Rattle.items.specs.Ways as ways;
 use crate::Carried;
+use crate::Cause;
 use crate::Intent;
 use crate::Stand;
 use crate::Way;
@@ -20,10 +21,12 @@ use crate::proposing::extra_of;
 use crate::proposing::is_immediate;
 use crate::proposing::shape_of;
 use layout::ItemNumber;
+use machine::Ended;
 use machine::Machine;
 use machine::Registers;
-use machine::Step;
-use machine::ending::finish;
+use machine::Turn;
+use machine::ending::handle;
+use machine::ending::throw;
 use packing::kinds::class_of;
 use packing::place::form_of;
 use shapes::Shape;
@@ -70,20 +73,47 @@ fn act_along(
     }
 }
 
-// The throw of an item, unless its way leads outside.
-fn end_along(machine: Machine, memory: &mut [u8], s: Stand, step: Step, way: Way) -> Carried
+// A throw, made.
+fn end(machine: Machine, memory: &mut [u8], r: Registers, cause: Cause) -> Turn
     requires { ⌜ places.Whole (now memory) ⌝ }
     requires { ⌜ 16 ≤ length (now memory) ⌝ }
-    ensures { λ c. ⌜ stands.left (now (memory .exit)) c ≡ stands.leaves (now (memory .entry)) (ways.along way (lists.thrownTo (stands.positionOf (now (memory .entry)) s) (throws.finishOf machine (commits.stepped (now (memory .entry)) step)))) ⌝ }
+    ensures { λ t. ⌜ throws.turnedTo (now (memory .exit)) t ≡ ways.endOf machine (now (memory .entry)) r cause ⌝ }
+{
+    match cause {
+        Cause::Raised(f) => throw(machine, memory, r, f),
+        Cause::Given => {
+            if r.sp % 4 == 0 {
+                return handle(machine, memory, r, Ended::Went);
+            }
+            Turn {
+                registers: r,
+                ended: Ended::Stopped(0xFFFFFEFE),
+            }
+        }
+    }
+}
+
+// The throw of an item, unless its way leads outside.
+fn end_along(
+    machine: Machine,
+    memory: &mut [u8],
+    s: Stand,
+    r: Registers,
+    cause: Cause,
+    way: Way,
+) -> Carried
+    requires { ⌜ places.Whole (now memory) ⌝ }
+    requires { ⌜ 16 ≤ length (now memory) ⌝ }
+    ensures { λ c. ⌜ stands.left (now (memory .exit)) c ≡ stands.leaves (now (memory .entry)) (ways.along way (lists.thrownTo (stands.positionOf (now (memory .entry)) s) (ways.endOf machine (now (memory .entry)) r cause))) ⌝ }
 {
     match way {
         Way::To(i, ran) => {
-            let t = finish(machine, memory, step);
+            let t = end(machine, memory, r, cause);
             let after = t.registers;
             Carried::On(arrive(i, ran, after))
         }
         Way::Halt(x) => {
-            let t = finish(machine, memory, step);
+            let t = end(machine, memory, r, cause);
             let after = t.registers;
             let item = s.item;
             Carried::Stopped(arrive(item, s.ran, after), x)
@@ -107,13 +137,7 @@ fn perform(
 {
     match intent {
         Intent::Act(way) => act_along(machine, memory, s, r, shape, way),
-        Intent::End(o, way) => {
-            let step = Step {
-                registers: r,
-                outcome: o,
-            };
-            end_along(machine, memory, s, step, way)
-        }
+        Intent::End(cause, way) => end_along(machine, memory, s, r, cause, way),
     }
 }
 

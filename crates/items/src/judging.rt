@@ -5,6 +5,7 @@ ghost use lib.ListN.{length};
 ghost use Rattle.machine.specs.Places as places;
 ghost use Rattle.shapes.specs.Shapes as shapes;
 ghost use Rattle.items.specs.Ways as ways;
+use crate::Cause;
 use crate::Intent;
 use crate::Way;
 use crate::finding::entry_at;
@@ -18,7 +19,6 @@ use cell::place::fault_code;
 use layout::ItemNumber;
 use machine::Access;
 use machine::Machine;
-use machine::Outcome;
 use machine::Then;
 use machine::places::check_place;
 use shapes::Shape;
@@ -142,7 +142,7 @@ fn intent_then(
         Then::Halt(x) => Intent::Act(Way::Halt(x)),
         Then::Throw => {
             let way = given_way(machine, memory, entries, ats, base, sp);
-            Intent::End(Outcome::Throw, way)
+            Intent::End(Cause::Given, way)
         }
         Then::Raise(_) => Intent::Act(Way::Outside),
     }
@@ -171,7 +171,7 @@ pub fn intent_of(
     match checked {
         Checked::Bad(f) => {
             let way = throw_way(machine, memory, entries, ats, base, end, sp, f);
-            Intent::End(Outcome::Raise(f), way)
+            Intent::End(Cause::Raised(f), way)
         }
         Checked::Good => {
             if writes(machine, memory, shape, base, end) {

@@ -6,8 +6,8 @@ pub mod judging;
 pub mod proposing;
 pub mod running;
 
+use cell::Fault;
 use layout::ItemNumber;
-use machine::Outcome;
 
 // In front of an item: whether it was run on into from an item not in its immediate form, and the stack pointers.
 pub struct Stand {
@@ -31,10 +31,16 @@ pub enum Way {
     Outside,
 }
 
+// What a throw comes from: a fault, or THROW itself.
+pub enum Cause {
+    Raised(Fault),
+    Given,
+}
+
 // How an item is to be carried out: by its writes, or by a throw.
 pub enum Intent {
     Act(Way),
-    End(Outcome, Way),
+    End(Cause, Way),
 }
 
 // How a run stands.

@@ -2,34 +2,25 @@
 use borrow.Author.Needs.{needs}
 use Rattle.exports.proofs.listings.note_packed.Statement.{statement}
 use Rattle.exports.proofs.listings.note_packed.Tie as tie
-use Rattle.cell.proofs.judgement.refusal_number.Reads as refusal-number-reads
-use Rattle.exports.proofs.lending.write_one.Reads as write-one-reads
 
--- src/listings.rt:23:25
 enum-known-answer : tie.Need-enum-known-answer
 enum-known-answer c = search needs
 
--- src/listings.rt:23:31
 refusal-number-requires : tie.Need-refusal-number-requires
 refusal-number-requires c κs = search needs
 
--- src/listings.rt:24:23
 enum-known-answer-2 : tie.Need-enum-known-answer-2
 enum-known-answer-2 c = search needs
 
--- src/listings.rt:25:13
 write-one-requires : tie.Need-write-one-requires
 write-one-requires c κs = search needs
 
--- src/listings.rt:18:1
 returns : tie.Need-returns
 returns c = rw (c .before .before .answer .given .1, c .refusal-number .ensures)
 
--- src/listings.rt:18:1
 same-length : tie.Need-same-length
 same-length c = search needs
 
--- src/listings.rt:18:1
 returns-2 : tie.Need-returns-2
 returns-2 c = rw (c .before .before .before .before .before .answer2 .given .1, c .before .before .write-one .ensures)
 

@@ -2,38 +2,28 @@
 use borrow.Author.Needs.{needs}
 use Rattle.exports.proofs.lists.note_followed.Statement.{statement}
 use Rattle.exports.proofs.lists.note_followed.Tie as tie
-use Rattle.cell.proofs.judgement.refusal_number.Reads as refusal-number-reads
-use Rattle.exports.proofs.lists.note_run.Reads as note-run-reads
 
--- src/lists.rt:73:27
 enum-known-answer : tie.Need-enum-known-answer
 enum-known-answer c = search needs
 
--- src/lists.rt:73:33
 refusal-number-requires : tie.Need-refusal-number-requires
 refusal-number-requires c κs = search needs
 
--- src/lists.rt:74:23
 enum-known-answer-2 : tie.Need-enum-known-answer-2
 enum-known-answer-2 c = search needs
 
--- src/lists.rt:74:31
 note-run-requires : tie.Need-note-run-requires
 note-run-requires c κs = search needs
 
--- src/lists.rt:68:1
 returns : tie.Need-returns
 returns c = rw (c .before .before .answer .given .1, c .refusal-number .ensures)
 
--- src/lists.rt:68:1
 same-length : tie.Need-same-length
 same-length c = search needs
 
--- src/lists.rt:68:1
 same-length-2 : tie.Need-same-length-2
 same-length-2 c = search needs
 
--- src/lists.rt:68:1
 returns-2 : tie.Need-returns-2
 returns-2 c = rw (c .before .before .before .before .before .before .before .before .answer2 .given .1) (c .before .before .before .before .note-run .ensures)
 

@@ -6,31 +6,24 @@ use lib.ListN.{length-set}
 use native.Mathlib.Omega.{arith}
 use Rattle.exports.proofs.ListLaws.{five-written}
 
--- src/lists.rt:46:5
 slice-write-lent : tie.Need-slice-write-lent
 slice-write-lent c = search needs
 
--- src/lists.rt:47:5
 slice-write-lent-2 : tie.Need-slice-write-lent-2
 slice-write-lent-2 c = simp length-set (omega arith)
 
--- src/lists.rt:48:5
 slice-write-lent-3 : tie.Need-slice-write-lent-3
 slice-write-lent-3 c = simp length-set (omega arith)
 
--- src/lists.rt:49:5
 slice-write-lent-4 : tie.Need-slice-write-lent-4
 slice-write-lent-4 c = simp length-set (omega arith)
 
--- src/lists.rt:50:5
 slice-write-lent-5 : tie.Need-slice-write-lent-5
 slice-write-lent-5 c = search needs
 
--- src/lists.rt:42:1
 same-length : tie.Need-same-length
 same-length c = search needs
 
--- src/lists.rt:42:1
 returns : tie.Need-returns
 returns c = let a = c .args in five-written (a .lent .now) (a .p) (a .q) (a .r) (a .s) (a .t) (c .pre)
 

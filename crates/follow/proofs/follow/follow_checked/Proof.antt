@@ -2,18 +2,14 @@
 use borrow.Author.Needs.{needs}
 use Rattle.follow.proofs.follow.follow_checked.Statement.{statement}
 use Rattle.follow.proofs.follow.follow_checked.Tie as tie
-use Rattle.items.proofs.running.run_items.Reads as run-items-reads
-use Rattle.packer.proofs.prepare.prepare.Reads as prepare-reads
 use mathlib.Core.Path.{_∙_, ap}
 use mathlib.Core.Path.{sym}
 use Rattle.cell.specs.declared.CellCount.{CellCount}
 use Rattle.layout.specs.Packing.{judgedPlace}
 
--- src/follow.rt:43:9
 prepare-requires : tie.Need-prepare-requires
 prepare-requires c κs = search needs
 
--- src/follow.rt:44:5
 run-items-requires : tie.Need-run-items-requires
 run-items-requires c κs = let pre = c .before .before .before .before .before .before .before .before .before .before .before .before .before .before .before .before .before .before .before .before .before .before .before .before .before .before .before .before .before .before .pre in let prepare = c .before .before .before .before .before .before .before .before .before .before .before .before .before .before .before .before .prepare in let args = c .before .before .before .before .before .before .before .before .before .before .before .before .before .before .before .before .before .before .before .before .before .before .before .before .before .before .before .before .before .before .args in
     let size = ap (λ (x : CellCount). x .0) (prepare .ensures .0) in (
@@ -33,31 +29,24 @@ run-items-requires c κs = let pre = c .before .before .before .before .before .
       },
     )
 
--- src/follow.rt:22:1
 same-length : tie.Need-same-length
 same-length c = search needs
 
--- src/follow.rt:22:1
 same-length-2 : tie.Need-same-length-2
 same-length-2 c = search needs
 
--- src/follow.rt:22:1
 same-length-3 : tie.Need-same-length-3
 same-length-3 c = search needs
 
--- src/follow.rt:22:1
 same-length-4 : tie.Need-same-length-4
 same-length-4 c = search needs
 
--- src/follow.rt:22:1
 same-length-5 : tie.Need-same-length-5
 same-length-5 c = search needs
 
--- src/follow.rt:22:1
 same-length-6 : tie.Need-same-length-6
 same-length-6 c = search needs
 
--- src/follow.rt:22:1
 returns : tie.Need-returns
 returns c = search needs
 

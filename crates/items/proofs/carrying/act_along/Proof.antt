@@ -2,54 +2,40 @@
 use borrow.Author.Needs.{needs}
 use Rattle.items.proofs.carrying.act_along.Statement.{statement}
 use Rattle.items.proofs.carrying.act_along.Tie as tie
-use Rattle.items.proofs.carrying.arrive.Reads as arrive-reads
-use Rattle.shapes.proofs.carrying.commit_shape.Reads as commit-shape-reads
 
--- src/carrying.rt:50:17
 enum-known-way : tie.Need-enum-known-way
 enum-known-way c = search needs
 
--- src/carrying.rt:51:17
 commit-shape-requires : tie.Need-commit-shape-requires
 commit-shape-requires c κs = search needs
 
--- src/carrying.rt:53:25
 arrive-requires : tie.Need-arrive-requires
 arrive-requires c κs = search needs
 
--- src/carrying.rt:55:19
 enum-known-way-2 : tie.Need-enum-known-way-2
 enum-known-way-2 c = search needs
 
--- src/carrying.rt:56:17
 commit-shape-requires-2 : tie.Need-commit-shape-requires-2
 commit-shape-requires-2 c κs = search needs
 
--- src/carrying.rt:59:30
 arrive-requires-2 : tie.Need-arrive-requires-2
 arrive-requires-2 c κs = search needs
 
--- src/carrying.rt:61:25
 enum-told : tie.Need-enum-told
 enum-told c = search needs
 
--- src/carrying.rt:37:1
 same-length : tie.Need-same-length
 same-length c = search needs
 
--- src/carrying.rt:37:1
 returns : tie.Need-returns
 returns c = rw (c .before .before .before .before .before .before .before .way .given .1, ← c .before .before .before .before .commit-shape .ensures, c .arrive .ensures)
 
--- src/carrying.rt:37:1
 same-length-2 : tie.Need-same-length-2
 same-length-2 c = search needs
 
--- src/carrying.rt:37:1
 returns-2 : tie.Need-returns-2
 returns-2 c = rw (c .before .before .before .before .before .before .before .before .way2 .given .1, ← c .before .before .before .before .before .commit-shape2 .ensures, c .arrive2 .ensures)
 
--- src/carrying.rt:37:1
 returns-3 : tie.Need-returns-3
 returns-3 c = rw (c .enum-told .given .1)
 

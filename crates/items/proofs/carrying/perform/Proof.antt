@@ -2,38 +2,28 @@
 use borrow.Author.Needs.{needs}
 use Rattle.items.proofs.carrying.perform.Statement.{statement}
 use Rattle.items.proofs.carrying.perform.Tie as tie
-use Rattle.items.proofs.carrying.act_along.Reads as act-along-reads
-use Rattle.items.proofs.carrying.end_along.Reads as end-along-reads
 
--- src/carrying.rt:101:21
 enum-known-intent : tie.Need-enum-known-intent
 enum-known-intent c = search needs
 
--- src/carrying.rt:101:29
 act-along-requires : tie.Need-act-along-requires
 act-along-requires c κs = search needs
 
--- src/carrying.rt:102:21
 enum-known-intent-2 : tie.Need-enum-known-intent-2
 enum-known-intent-2 c = search needs
 
--- src/carrying.rt:107:13
 end-along-requires : tie.Need-end-along-requires
 end-along-requires c κs = search needs
 
--- src/carrying.rt:87:1
 same-length : tie.Need-same-length
 same-length c = search needs
 
--- src/carrying.rt:87:1
 returns : tie.Need-returns
 returns c = rw (c .before .before .before .before .before .intent .given .1) (c .before .before .act-along .ensures)
 
--- src/carrying.rt:87:1
 same-length-2 : tie.Need-same-length-2
 same-length-2 c = search needs
 
--- src/carrying.rt:87:1
 returns-2 : tie.Need-returns-2
 returns-2 c = rw (c .before .before .before .before .before .intent2 .given .1) (c .before .before .end-along .ensures)
 

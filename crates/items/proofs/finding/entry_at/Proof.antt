@@ -1,9 +1,7 @@
 -- `entry_at` meets its contract: the search goes from the last item down.
 use Rattle.items.proofs.finding.entry_at.Statement.{statement}
 use Rattle.items.proofs.finding.entry_at.Tie as tie
-use Rattle.items.proofs.finding.entry_at.Reads as reads
 use Rattle.items.proofs.finding.entry_at.Lts as lts
-use Rattle.items.proofs.finding.is_placed.Reads as is-placed-reads
 use Prim.Native.Nat.{_-_}
 use native.Mathlib.Omega.{arith}
 use denote.Ref.{now}
@@ -16,47 +14,36 @@ Inv-loop entries ats base a i₀ i = Seeking entries ats base a i
 abbrev μ-loop : tie.MeasureT-loop
 μ-loop entries ats base a i₀ i = i
 
--- src/finding.rt:26:5
 loop-holds : tie.Need-loop-holds Inv-loop μ-loop
 loop-holds c = seek-begins _ _ _ _
 
--- src/finding.rt:27:9
 sub-i : tie.Need-sub-i Inv-loop μ-loop
 sub-i c = omega arith
 
--- src/finding.rt:28:22
 shared-slice-read-is-placed : tie.Need-shared-slice-read-is-placed Inv-loop μ-loop
 shared-slice-read-is-placed c = omega (arith, c .before .before .loop .inv .inside)
 
--- src/finding.rt:28:40
 mul-is-placed : tie.Need-mul-is-placed Inv-loop μ-loop
 mul-is-placed c = omega (arith, c .before .before .loop .inv .inside, c .before .before .before .before .before .pre .1)
 
--- src/finding.rt:28:40
 shared-slice-read-is-placed-2 : tie.Need-shared-slice-read-is-placed-2 Inv-loop μ-loop
 shared-slice-read-is-placed-2 c = omega (arith, c .before .before .before .loop .inv .inside, c .before .before .before .before .before .before .pre .0)
 
--- src/finding.rt:28:12
 is-placed-requires : tie.Need-is-placed-requires Inv-loop μ-loop
 is-placed-requires c κs = tt
 
--- src/finding.rt:29:43
 cast-t13 : tie.Need-cast-t13 Inv-loop μ-loop
 cast-t13 c = omega (arith, c .before .before .before .before .before .loop .inv .inside, c .before .before .before .before .before .before .before .before .pre .1)
 
--- src/finding.rt:29:13
 returns : tie.Need-returns Inv-loop μ-loop
 returns c = seek-finds _ _ _ _ _ (c .before .before .before .before .before .loop .inv) _ (c .before .before .before .before .loop-test .taken) (c .before .is-placed .ensures) (c .if1 .taken)
 
--- src/finding.rt:26:5
 loop-less : tie.Need-loop-less Inv-loop μ-loop
 loop-less c = omega arith
 
--- src/finding.rt:26:5
 loop-again : tie.Need-loop-again Inv-loop μ-loop
 loop-again c = seek-turns _ _ _ _ _ (c .before .before .before .before .before .loop .inv) _ (c .before .before .before .before .loop-test .taken) (c .before .is-placed .ensures) (c .if1 .left)
 
--- src/finding.rt:21:1
 returns-2 : tie.Need-returns-2 Inv-loop μ-loop
 returns-2 c = seek-ends _ _ _ _ _ (c .before .loop .inv) (c .loop-test .left)
 

@@ -4,19 +4,15 @@ use Rattle.items.proofs.finding.is_placed.Statement.{statement}
 use Rattle.items.proofs.finding.is_placed.Tie as tie
 use borrow.Author.Tests.{eq-eqb, ne-eqb}
 
--- src/finding.rt:16:30
 mul-result : tie.Need-mul-result
 mul-result c = search needs
 
--- src/finding.rt:16:16
 add-result : tie.Need-add-result
 add-result c = search needs
 
--- src/finding.rt:16:9
 returns : tie.Need-returns
 returns c = simp (eq-eqb _ _ (c .if1 .taken))
 
--- src/finding.rt:12:1
 returns-2 : tie.Need-returns-2
 returns-2 c = simp (ne-eqb _ _ (c .if1 .left))
 

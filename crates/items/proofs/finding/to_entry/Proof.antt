@@ -3,19 +3,15 @@ use borrow.Author.Needs.{needs}
 use Rattle.items.proofs.finding.to_entry.Statement.{statement}
 use Rattle.items.proofs.finding.to_entry.Tie as tie
 
--- src/finding.rt:39:21
 enum-known-e : tie.Need-enum-known-e
 enum-known-e c = search needs
 
--- src/finding.rt:40:27
 enum-told : tie.Need-enum-told
 enum-told c = search needs
 
--- src/finding.rt:35:1
 returns : tie.Need-returns
 returns c = rw (c .before .e .given .1)
 
--- src/finding.rt:35:1
 returns-2 : tie.Need-returns-2
 returns-2 c = search needs
 

@@ -2,36 +2,27 @@
 use borrow.Author.Needs.{needs}
 use Rattle.items.proofs.judging.handler_way.Statement.{statement}
 use Rattle.items.proofs.judging.handler_way.Tie as tie
-use Rattle.items.proofs.finding.entry_at.Reads as entry-at-reads
-use Rattle.items.proofs.finding.to_entry.Reads as to-entry-reads
-use Rattle.machine.proofs.places.check_place.Reads as check-place-reads
 use mathlib.Core.Path.{sym, _∙_, ap}
 use Rattle.items.specs.Ways as ways
 
--- src/judging.rt:42:9
 check-place-requires : tie.Need-check-place-requires
 check-place-requires c κs = search needs
 
 enum-told : tie.Need-enum-told
 enum-told c = search needs
 
--- src/judging.rt:44:9
 enum-told-2 : tie.Need-enum-told-2
 enum-told-2 c = search needs
 
--- src/judging.rt:44:9
 returns : tie.Need-returns
 returns c = simp (sym (c .before .before .check-place .ensures) ∙ c .enum-told2 .given .1)
 
--- src/judging.rt:46:14
 entry-at-requires : tie.Need-entry-at-requires
 entry-at-requires c κs = search needs
 
--- src/judging.rt:46:5
 to-entry-requires : tie.Need-to-entry-requires
 to-entry-requires c κs = search needs
 
--- src/judging.rt:31:1
 returns-2 : tie.Need-returns-2
 returns-2 c = simp (sym (c .before .before .before .before .check-place .ensures) ∙ c .before .before .enum-told .given .1) (c .to-entry .ensures ∙ ap ways.toEntry (c .before .entry-at .ensures))
 

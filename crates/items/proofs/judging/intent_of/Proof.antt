@@ -2,53 +2,38 @@
 use borrow.Author.Needs.{needs}
 use Rattle.items.proofs.judging.intent_of.Statement.{statement}
 use Rattle.items.proofs.judging.intent_of.Tie as tie
-use Rattle.items.proofs.judging.intent_then.Reads as intent-then-reads
-use Rattle.items.proofs.judging.throw_way.Reads as throw-way-reads
-use Rattle.shapes.proofs.judging.check_shape.Reads as check-shape-reads
-use Rattle.shapes.proofs.judging.then_of.Reads as then-of-reads
-use Rattle.shapes.proofs.judging.writes.Reads as writes-reads
 use mathlib.Core.Path.{sym, _∙_, ap}
 use Rattle.items.specs.Ways as ways
 
--- src/judging.rt:156:9
 check-shape-requires : tie.Need-check-shape-requires
 check-shape-requires c κs = search needs
 
--- src/judging.rt:158:22
 enum-known-checked : tie.Need-enum-known-checked
 enum-known-checked c = search needs
 
--- src/judging.rt:159:17
 throw-way-requires : tie.Need-throw-way-requires
 throw-way-requires c κs = search needs
 
--- src/judging.rt:163:16
 enum-told : tie.Need-enum-told
 enum-told c = search needs
 
--- src/judging.rt:163:16
 writes-requires : tie.Need-writes-requires
 writes-requires c κs = search needs
 
--- src/judging.rt:164:17
 returns : tie.Need-returns
 unfolding ways.intentOf
 returns c = simp (sym (c .before .before .before .before .check-shape .ensures) ∙ c .before .before .enum-told .given .1, sym (c .before .writes .ensures) ∙ c .if1 .taken)
 
--- src/judging.rt:175:17
 then-of-requires : tie.Need-then-of-requires
 then-of-requires c κs = search needs
 
--- src/judging.rt:166:13
 intent-then-requires : tie.Need-intent-then-requires
 intent-then-requires c κs = search needs
 
--- src/judging.rt:138:1
 returns-2 : tie.Need-returns-2
 unfolding ways.intentOf
 returns-2 c = simp (sym (c .before .before .before .before .check-shape .ensures) ∙ c .before .before .checked .given .1, c .throw-way .ensures)
 
--- src/judging.rt:138:1
 returns-3 : tie.Need-returns-3
 unfolding ways.intentOf
 returns-3 c = simp (sym (c .before .before .before .before .before .before .check-shape .ensures) ∙ c .before .before .before .before .enum-told .given .1, sym (c .before .before .before .writes .ensures) ∙ c .before .before .if1 .left) (c .intent-then .ensures ∙ rw (c .before .then-of .ensures))

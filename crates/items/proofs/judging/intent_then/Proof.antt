@@ -2,68 +2,50 @@
 use borrow.Author.Needs.{needs}
 use Rattle.items.proofs.judging.intent_then.Statement.{statement}
 use Rattle.items.proofs.judging.intent_then.Tie as tie
-use Rattle.items.proofs.finding.entry_at.Reads as entry-at-reads
-use Rattle.items.proofs.finding.to_entry.Reads as to-entry-reads
-use Rattle.items.proofs.judging.given_way.Reads as given-way-reads
-use Rattle.items.proofs.judging.next_way.Reads as next-way-reads
 use mathlib.Core.Path.{sym, _∙_, ap}
 use Rattle.items.specs.Ways as ways
 use Rattle.items.specs.declared.Intent.the-variants.{Act, End}
-use Rattle.machine.specs.declared.Outcome.the-variants as outcome
+use Rattle.items.specs.declared.Cause.the-variants as cause
 
--- src/judging.rt:126:44
 enum-told : tie.Need-enum-told
 enum-told c = search needs
 
--- src/judging.rt:126:35
 next-way-requires : tie.Need-next-way-requires
 next-way-requires c κs = search needs
 
--- src/judging.rt:127:20
 enum-known-then : tie.Need-enum-known-then
 enum-known-then c = search needs
 
--- src/judging.rt:127:47
 entry-at-requires : tie.Need-entry-at-requires
 entry-at-requires c κs = search needs
 
--- src/judging.rt:127:38
 to-entry-requires : tie.Need-to-entry-requires
 to-entry-requires c κs = search needs
 
--- src/judging.rt:128:20
 enum-known-then-2 : tie.Need-enum-known-then-2
 enum-known-then-2 c = search needs
 
--- src/judging.rt:130:17
 enum-told-2 : tie.Need-enum-told-2
 enum-told-2 c = search needs
 
--- src/judging.rt:130:17
 given-way-requires : tie.Need-given-way-requires
 given-way-requires c κs = search needs
 
--- src/judging.rt:133:39
 enum-told-3 : tie.Need-enum-told-3
 enum-told-3 c = search needs
 
--- src/judging.rt:109:1
 returns : tie.Need-returns
 returns c = rw (c .before .enum-told .given .1, c .next-way .ensures)
 
--- src/judging.rt:109:1
 returns-2 : tie.Need-returns-2
 returns-2 c = rw (c .before .before .before .then .given .1, c .to-entry .ensures, c .before .entry-at .ensures)
 
--- src/judging.rt:109:1
 returns-3 : tie.Need-returns-3
 returns-3 c = rw (c .before .then2 .given .1)
 
--- src/judging.rt:109:1
 returns-4 : tie.Need-returns-4
 returns-4 c = rw (c .before .enum-told2 .given .1, c .given-way .ensures)
 
--- src/judging.rt:109:1
 returns-5 : tie.Need-returns-5
 returns-5 c = rw (c .enum-told3 .given .1)
 

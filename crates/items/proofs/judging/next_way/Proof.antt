@@ -4,19 +4,15 @@ use Rattle.items.proofs.judging.next_way.Statement.{statement}
 use Rattle.items.proofs.judging.next_way.Tie as tie
 use borrow.Author.Tests.{lt-ltb, le-ltb}
 
--- src/judging.rt:102:16
 add-next : tie.Need-add-next
 add-next c = search needs
 
--- src/judging.rt:103:9
 cast-if1 : tie.Need-cast-if1
 cast-if1 c = search needs
 
--- src/judging.rt:104:9
 returns : tie.Need-returns
 returns c = simp (lt-ltb _ _ (c .if1 .taken))
 
--- src/judging.rt:98:1
 returns-2 : tie.Need-returns-2
 returns-2 c = simp (le-ltb _ _ (c .if1 .left))
 

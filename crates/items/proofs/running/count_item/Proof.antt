@@ -3,43 +3,33 @@ use borrow.Author.Needs.{needs}
 use Rattle.items.proofs.running.count_item.Statement.{statement}
 use Rattle.items.proofs.running.count_item.Tie as tie
 
--- src/running.rt:41:21
 enum-known-c : tie.Need-enum-known-c
 enum-known-c c = search needs
 
--- src/running.rt:43:20
 add-t9 : tie.Need-add-t9
 add-t9 c = search needs
 
--- src/running.rt:44:21
 add-t10 : tie.Need-add-t10
 add-t10 c = search needs
 
--- src/running.rt:47:26
 enum-known-c-2 : tie.Need-enum-known-c-2
 enum-known-c-2 c = search needs
 
--- src/running.rt:49:20
 add-t12 : tie.Need-add-t12
 add-t12 c = search needs
 
--- src/running.rt:50:21
 add-t13 : tie.Need-add-t13
 add-t13 c = search needs
 
--- src/running.rt:54:17
 enum-told : tie.Need-enum-told
 enum-told c = search needs
 
--- src/running.rt:36:1
 returns : tie.Need-returns
 returns c = rw (c .before .before .before .c .given .1)
 
--- src/running.rt:36:1
 returns-2 : tie.Need-returns-2
 returns-2 c = rw (c .before .before .before .c2 .given .1)
 
--- src/running.rt:36:1
 returns-3 : tie.Need-returns-3
 returns-3 c = rw (c .before .enum-told .given .1)
 

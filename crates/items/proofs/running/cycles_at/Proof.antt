@@ -4,27 +4,21 @@ use Rattle.items.proofs.running.cycles_at.Statement.{statement}
 use Rattle.items.proofs.running.cycles_at.Tie as tie
 use borrow.Author.Tests.{eq-eqb, ne-eqb}
 
--- src/running.rt:26:13
 cast-i : tie.Need-cast-i
 cast-i c = search needs
 
--- src/running.rt:28:12
 mul-if2 : tie.Need-mul-if2
 mul-if2 c = search needs
 
--- src/running.rt:28:12
 shared-slice-read-if2 : tie.Need-shared-slice-read-if2
 shared-slice-read-if2 c = search needs
 
--- src/running.rt:29:13
 returns : tie.Need-returns
 returns c = simp (c .before .before .if1 .taken, eq-eqb _ _ (c .if2 .taken))
 
--- src/running.rt:21:1
 returns-2 : tie.Need-returns-2
 returns-2 c = simp (c .before .before .if1 .taken, ne-eqb _ _ (c .if2 .left))
 
--- src/running.rt:21:1
 returns-3 : tie.Need-returns-3
 returns-3 c = search needs
 

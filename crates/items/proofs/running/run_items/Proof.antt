@@ -1,10 +1,6 @@
 -- `run_items` meets its contract. The invariant is `Going`; the measure is what is left of the items that are asked for.
 use Rattle.items.proofs.running.run_items.Statement.{statement}
 use Rattle.items.proofs.running.run_items.Tie as tie
-use Rattle.items.proofs.carrying.carry_out.Reads as carry-out-reads
-use Rattle.items.proofs.running.count_item.Reads as count-item-reads
-use Rattle.items.proofs.running.cycles_at.Reads as cycles-at-reads
-use Rattle.items.proofs.running.is_over.Reads as is-over-reads
 use mathlib.Core.Path.{sym, ap, _∙_}
 use native.Mathlib.Omega.{arith}
 use denote.Ref.{now}
@@ -23,51 +19,39 @@ Inv-loop machine memory₀ kinds operands entries marks ats eps lefts base cells
 abbrev μ-loop : tie.MeasureT-loop
 μ-loop machine memory₀ kinds operands entries marks ats eps lefts base cells sp rp items ran₀ rest₀ memory ran rest = rest
 
--- src/running.rt:109:5
 loop-holds : tie.Need-loop-holds Inv-loop μ-loop
 loop-holds c = run-begins (c .before .before .before .before .before .before .before .before .args .machine) (c .before .before .before .before .before .before .before .before .args .base) (listed (c .before .before .before .before .before .before .before .before .args .kinds .now) (c .before .before .before .before .before .before .before .before .args .operands .now)) (now (c .before .before .before .before .before .before .before .before .args .memory)) (c .before .before .before .before .before .before .before .before .args .sp) (c .before .before .before .before .before .before .before .before .args .rp) (c .before .before .before .before .before .before .before .before .args .items) (some-item (listed (c .before .before .before .before .before .before .before .before .args .kinds .now) (c .before .before .before .before .before .before .before .before .args .operands .now)) (c .before .before .before .before .before .before .before .before .pre .1 .checked .input) .0)
 
--- src/running.rt:111:13
 cycles-at-requires : tie.Need-cycles-at-requires Inv-loop μ-loop
 cycles-at-requires c κs = (omega (arith, c .before .before .loop .inv .item, c .before .before .before .before .before .before .before .before .before .before .before .pre .1 .lefts-length), omega (arith, c .before .before .before .before .before .before .before .before .before .before .before .pre .1 .lefts-length, some-item (listed (c .before .before .before .before .before .before .before .before .before .before .before .args .kinds .now) (c .before .before .before .before .before .before .before .before .before .before .before .args .operands .now)) (c .before .before .before .before .before .before .before .before .before .before .before .pre .1 .checked .input) .1))
 
--- src/running.rt:112:13
 carry-out-requires : tie.Need-carry-out-requires Inv-loop μ-loop
 carry-out-requires c κs = (lent-still _ _ (c .before .before .before .before .loop .inv .long) (c .before .before .before .before .before .before .before .before .before .before .before .before .before .pre .0), (c .before .before .before .before .before .before .before .before .before .before .before .before .before .pre .1, c .before .before .before .before .loop .inv .item))
 
--- src/running.rt:126:9
 count-item-requires : tie.Need-count-item-requires Inv-loop μ-loop
 count-item-requires c κs = let s = c .before .before .before .before .before .before .before .loop .inv .sum in let f = c .before .before .before .before .before .before .before .loop .inv .few in let h = c .before .before .before .before .before .before .loop-test .taken in (omega arith, omega arith, few-cycles (c .before .before .before .before .before .before .before .loop .ran .stand .ran && eqb (getD (c .before .before .before .before .before .before .before .before .before .before .before .before .before .before .before .before .args .lefts .now) (c .before .before .before .before .before .before .before .loop .ran .stand .item .0) 0) 3) _ (c .before .before .before .before .cycles-at .ensures))
 
--- src/running.rt:128:12
 is-over-requires : tie.Need-is-over-requires Inv-loop μ-loop
 is-over-requires c κs = tt
 
--- src/running.rt:129:13
 same-length : tie.Need-same-length Inv-loop μ-loop
 same-length c = c .before .before .before .before .before .carry-out .kept .1 .0 ∙ c .before .before .before .before .before .before .before .before .before .before .loop .inv .long
 
--- src/running.rt:129:13
 returns : tie.Need-returns Inv-loop μ-loop
 returns c = run-stops (c .before .before .before .before .before .before .before .before .before .before .before .before .before .before .before .before .before .before .before .args .machine) (c .before .before .before .before .before .before .before .before .before .before .before .before .before .before .before .before .before .before .before .args .base) (listed (c .before .before .before .before .before .before .before .before .before .before .before .before .before .before .before .before .before .before .before .args .kinds .now) (c .before .before .before .before .before .before .before .before .before .before .before .before .before .before .before .before .before .before .before .args .operands .now)) (now (c .before .before .before .before .before .before .before .before .before .before .before .before .before .before .before .before .before .before .before .args .memory)) (c .before .before .before .before .before .before .before .before .before .before .before .before .before .before .before .before .before .before .before .args .sp) (c .before .before .before .before .before .before .before .before .before .before .before .before .before .before .before .before .before .before .before .args .rp) (c .before .before .before .before .before .before .before .before .before .before .before .before .before .before .before .before .before .before .before .args .items) (c .before .before .before .before .before .before .before .before .before .before .loop .memory) (c .before .before .before .before .before .before .before .before .before .before .loop .ran) (c .before .before .before .before .before .before .before .before .before .before .loop .rest) (c .before .before .before .before .before .before .before .before .before .before .loop .inv) (c .before .before .before .before .before .before .before .before .before .loop-test .taken) _ (c .before .before .before .before .before .before .before .cycles-at .result) (c .before .before .before .before .before .carry-out .result) (c .before .before .count-item .result) (cycles-is (c .before .before .before .before .before .before .before .before .before .before .before .before .before .before .before .before .before .before .before .args .kinds .now) (c .before .before .before .before .before .before .before .before .before .before .before .before .before .before .before .before .before .before .before .args .operands .now) (c .before .before .before .before .before .before .before .before .before .before .before .before .before .before .before .before .before .before .before .args .entries .now) (c .before .before .before .before .before .before .before .before .before .before .before .before .before .before .before .before .before .before .before .args .marks .now) (c .before .before .before .before .before .before .before .before .before .before .before .before .before .before .before .before .before .before .before .args .ats .now) (c .before .before .before .before .before .before .before .before .before .before .before .before .before .before .before .before .before .before .before .args .eps .now) (c .before .before .before .before .before .before .before .before .before .before .before .before .before .before .before .before .before .before .before .args .lefts .now) (c .before .before .before .before .before .before .before .before .before .before .before .before .before .before .before .before .before .before .before .args .base) (c .before .before .before .before .before .before .before .before .before .before .before .before .before .before .before .before .before .before .before .args .cells) (c .before .before .before .before .before .before .before .before .before .before .before .before .before .before .before .before .before .before .before .pre .1) (c .before .before .before .before .before .before .before .before .before .before .before .before .before .before .before .before .before .before .before .args .machine) (c .before .before .before .before .before .before .before .before .before .before .loop .memory) (c .before .before .before .before .before .before .before .before .before .before .loop .ran .stand) (c .before .before .before .before .before .before .before .before .before .before .loop .inv .item) (c .before .before .before .before .before .before .before .cycles-at .result) (c .before .before .before .before .before .before .before .cycles-at .ensures)) (c .before .before .before .before .before .carry-out .ensures) (c .before .before .count-item .ensures) (sym (c .before .is-over .ensures) ∙ c .if1 .taken)
 
--- src/running.rt:131:9
 sub-rest : tie.Need-sub-rest Inv-loop μ-loop
 sub-rest c = omega (arith, c .before .before .before .before .before .before .before .before .before .loop-test .taken)
 
--- src/running.rt:109:5
 loop-less : tie.Need-loop-less Inv-loop μ-loop
 loop-less c = omega (arith, c .before .before .before .before .before .before .before .before .before .loop-test .taken)
 
--- src/running.rt:109:5
 loop-again : tie.Need-loop-again Inv-loop μ-loop
 loop-again c = run-turns (c .before .before .before .before .before .before .before .before .before .before .before .before .before .before .before .before .before .before .before .args .machine) (c .before .before .before .before .before .before .before .before .before .before .before .before .before .before .before .before .before .before .before .args .base) (listed (c .before .before .before .before .before .before .before .before .before .before .before .before .before .before .before .before .before .before .before .args .kinds .now) (c .before .before .before .before .before .before .before .before .before .before .before .before .before .before .before .before .before .before .before .args .operands .now)) (now (c .before .before .before .before .before .before .before .before .before .before .before .before .before .before .before .before .before .before .before .args .memory)) (c .before .before .before .before .before .before .before .before .before .before .before .before .before .before .before .before .before .before .before .args .sp) (c .before .before .before .before .before .before .before .before .before .before .before .before .before .before .before .before .before .before .before .args .rp) (c .before .before .before .before .before .before .before .before .before .before .before .before .before .before .before .before .before .before .before .args .items) (c .before .before .before .before .before .before .before .before .before .before .loop .memory) (c .before .before .before .before .before .before .before .before .before .before .loop .ran) (c .before .before .before .before .before .before .before .before .before .before .loop .rest) (c .before .before .before .before .before .before .before .before .before .before .loop .inv) (c .before .before .before .before .before .before .before .before .before .loop-test .taken) _ (c .before .before .before .before .before .before .before .cycles-at .result) (c .before .before .before .before .before .carry-out .result) (c .before .before .count-item .result) (cycles-is (c .before .before .before .before .before .before .before .before .before .before .before .before .before .before .before .before .before .before .before .args .kinds .now) (c .before .before .before .before .before .before .before .before .before .before .before .before .before .before .before .before .before .before .before .args .operands .now) (c .before .before .before .before .before .before .before .before .before .before .before .before .before .before .before .before .before .before .before .args .entries .now) (c .before .before .before .before .before .before .before .before .before .before .before .before .before .before .before .before .before .before .before .args .marks .now) (c .before .before .before .before .before .before .before .before .before .before .before .before .before .before .before .before .before .before .before .args .ats .now) (c .before .before .before .before .before .before .before .before .before .before .before .before .before .before .before .before .before .before .before .args .eps .now) (c .before .before .before .before .before .before .before .before .before .before .before .before .before .before .before .before .before .before .before .args .lefts .now) (c .before .before .before .before .before .before .before .before .before .before .before .before .before .before .before .before .before .before .before .args .base) (c .before .before .before .before .before .before .before .before .before .before .before .before .before .before .before .before .before .before .before .args .cells) (c .before .before .before .before .before .before .before .before .before .before .before .before .before .before .before .before .before .before .before .pre .1) (c .before .before .before .before .before .before .before .before .before .before .before .before .before .before .before .before .before .before .before .args .machine) (c .before .before .before .before .before .before .before .before .before .before .loop .memory) (c .before .before .before .before .before .before .before .before .before .before .loop .ran .stand) (c .before .before .before .before .before .before .before .before .before .before .loop .inv .item) (c .before .before .before .before .before .before .before .cycles-at .result) (c .before .before .before .before .before .before .before .cycles-at .ensures)) (c .before .before .before .before .before .carry-out .ensures) (c .before .before .count-item .ensures) (c .before .before .before .before .before .carry-out .kept .1 .0) (few-cycles (c .before .before .before .before .before .before .before .before .before .before .loop .ran .stand .ran && eqb (getD (c .before .before .before .before .before .before .before .before .before .before .before .before .before .before .before .before .before .before .before .args .lefts .now) (c .before .before .before .before .before .before .before .before .before .before .loop .ran .stand .item .0) 0) 3) _ (c .before .before .before .before .before .before .before .cycles-at .ensures)) (sym (c .before .is-over .ensures) ∙ c .if1 .left)
 
--- src/running.rt:76:1
 same-length-2 : tie.Need-same-length-2 Inv-loop μ-loop
 same-length-2 c = c .before .loop .inv .long
 
--- src/running.rt:76:1
 returns-2 : tie.Need-returns-2 Inv-loop μ-loop
 returns-2 c = run-ends (c .before .before .before .before .before .before .before .before .before .before .args .machine) (c .before .before .before .before .before .before .before .before .before .before .args .base) (listed (c .before .before .before .before .before .before .before .before .before .before .args .kinds .now) (c .before .before .before .before .before .before .before .before .before .before .args .operands .now)) (now (c .before .before .before .before .before .before .before .before .before .before .args .memory)) (c .before .before .before .before .before .before .before .before .before .before .args .sp) (c .before .before .before .before .before .before .before .before .before .before .args .rp) (c .before .before .before .before .before .before .before .before .before .before .args .items) (c .before .loop .memory) (c .before .loop .ran) (c .before .loop .rest) (c .before .loop .inv) (c .loop-test .left)
 

@@ -2,123 +2,88 @@
 use borrow.Author.Needs.{needs}
 use Rattle.shapes.proofs.carrying.commit_shape.Statement.{statement}
 use Rattle.shapes.proofs.carrying.commit_shape.Tie as tie
-use Rattle.machine.proofs.commit.commit_byte.Reads as commit-byte-reads
-use Rattle.machine.proofs.commit.commit_maybe.Reads as commit-maybe-reads
-use Rattle.machine.proofs.commit.commit_none.Reads as commit-none-reads
-use Rattle.machine.proofs.commit.commit_one.Reads as commit-one-reads
-use Rattle.machine.proofs.commit.commit_three.Reads as commit-three-reads
-use Rattle.machine.proofs.commit.commit_two.Reads as commit-two-reads
-use Rattle.shapes.proofs.carrying.commit_roll.Reads as commit-roll-reads
 
--- src/carrying.rt:43:21
 enum-known-shape : tie.Need-enum-known-shape
 enum-known-shape c = search needs
 
--- src/carrying.rt:43:27
 commit-none-requires : tie.Need-commit-none-requires
 commit-none-requires c κs = search needs
 
--- src/carrying.rt:44:20
 enum-known-shape-2 : tie.Need-enum-known-shape-2
 enum-known-shape-2 c = search needs
 
--- src/carrying.rt:44:26
 commit-one-requires : tie.Need-commit-one-requires
 commit-one-requires c κs = search needs
 
--- src/carrying.rt:45:22
 enum-known-shape-3 : tie.Need-enum-known-shape-3
 enum-known-shape-3 c = search needs
 
--- src/carrying.rt:45:28
 commit-maybe-requires : tie.Need-commit-maybe-requires
 commit-maybe-requires c κs = search needs
 
--- src/carrying.rt:46:20
 enum-known-shape-4 : tie.Need-enum-known-shape-4
 enum-known-shape-4 c = search needs
 
--- src/carrying.rt:46:26
 commit-two-requires : tie.Need-commit-two-requires
 commit-two-requires c κs = search needs
 
--- src/carrying.rt:47:22
 enum-known-shape-5 : tie.Need-enum-known-shape-5
 enum-known-shape-5 c = search needs
 
--- src/carrying.rt:47:28
 commit-three-requires : tie.Need-commit-three-requires
 commit-three-requires c κs = search needs
 
--- src/carrying.rt:48:21
 enum-known-shape-6 : tie.Need-enum-known-shape-6
 enum-known-shape-6 c = search needs
 
--- src/carrying.rt:48:27
 commit-byte-requires : tie.Need-commit-byte-requires
 commit-byte-requires c κs = search needs
 
--- src/carrying.rt:49:21
 enum-known-shape-7 : tie.Need-enum-known-shape-7
 enum-known-shape-7 c = search needs
 
--- src/carrying.rt:49:27
 commit-roll-requires : tie.Need-commit-roll-requires
 commit-roll-requires c κs = rw (c .before .before .shape7 .given .1) at (c .before .before .before .before .before .pre .1)
 
--- src/carrying.rt:37:1
 same-length : tie.Need-same-length
 same-length c = search needs
 
--- src/carrying.rt:37:1
 returns : tie.Need-returns
 returns c = rw (c .before .before .before .shape .given .1) (c .commit-none .ensures)
 
--- src/carrying.rt:37:1
 same-length-2 : tie.Need-same-length-2
 same-length-2 c = search needs
 
--- src/carrying.rt:37:1
 returns-2 : tie.Need-returns-2
 returns-2 c = rw (c .before .before .before .before .before .shape2 .given .1) (c .before .before .commit-one .ensures)
 
--- src/carrying.rt:37:1
 same-length-3 : tie.Need-same-length-3
 same-length-3 c = search needs
 
--- src/carrying.rt:37:1
 returns-3 : tie.Need-returns-3
 returns-3 c = rw (c .before .before .before .before .before .shape3 .given .1) (c .before .before .commit-maybe .ensures)
 
--- src/carrying.rt:37:1
 same-length-4 : tie.Need-same-length-4
 same-length-4 c = search needs
 
--- src/carrying.rt:37:1
 returns-4 : tie.Need-returns-4
 returns-4 c = rw (c .before .before .before .before .before .shape4 .given .1) (c .before .before .commit-two .ensures)
 
--- src/carrying.rt:37:1
 same-length-5 : tie.Need-same-length-5
 same-length-5 c = search needs
 
--- src/carrying.rt:37:1
 returns-5 : tie.Need-returns-5
 returns-5 c = rw (c .before .before .before .before .before .shape5 .given .1) (c .before .before .commit-three .ensures)
 
--- src/carrying.rt:37:1
 same-length-6 : tie.Need-same-length-6
 same-length-6 c = search needs
 
--- src/carrying.rt:37:1
 returns-6 : tie.Need-returns-6
 returns-6 c = rw (c .before .before .before .before .before .shape6 .given .1) (c .before .before .commit-byte .ensures)
 
--- src/carrying.rt:37:1
 same-length-7 : tie.Need-same-length-7
 same-length-7 c = search needs
 
--- src/carrying.rt:37:1
 returns-7 : tie.Need-returns-7
 returns-7 c = rw (c .before .before .before .before .before .shape7 .given .1) (c .before .before .commit-roll .ensures)
 

@@ -2,9 +2,6 @@
 use borrow.Author.Needs.{needs}
 use Rattle.shapes.proofs.judging.check_places.Statement.{statement}
 use Rattle.shapes.proofs.judging.check_places.Tie as tie
-use Rattle.machine.proofs.places.check_byte_place.Reads as check-byte-place-reads
-use Rattle.shapes.proofs.judging.check_write.Reads as check-write-reads
-use Rattle.shapes.proofs.judging.first_bad.Reads as first-bad-reads
 use mathlib.Core.Path.{sym, _∙_, ap}
 use native.Mathlib.Omega.{arith}
 use Rattle.machine.specs.Commits as commits
@@ -15,110 +12,84 @@ use Rattle.shapes.proofs.WritesLaws.{places-more}
 use denote.Ref.{now}
 use lib.ListN.{length}
 
--- src/judging.rt:62:27
 enum-told : tie.Need-enum-told
 enum-told c = search needs
 
--- src/judging.rt:63:20
 enum-known-shape : tie.Need-enum-known-shape
 enum-known-shape c = search needs
 
--- src/judging.rt:65:13
 check-write-requires : tie.Need-check-write-requires
 check-write-requires c κs = search needs
 
--- src/judging.rt:67:22
 enum-known-shape-2 : tie.Need-enum-known-shape-2
 enum-known-shape-2 c = search needs
 
--- src/judging.rt:70:17
 check-write-requires-2 : tie.Need-check-write-requires-2
 check-write-requires-2 c κs = search needs
 
--- src/judging.rt:70:17
 returns : tie.Need-returns
 returns c = rw (c .before .before .before .before .shape2 .given .1, c .before .if1 .taken) (c .check-write2 .ensures)
 
--- src/judging.rt:74:20
 enum-known-shape-3 : tie.Need-enum-known-shape-3
 enum-known-shape-3 c = search needs
 
--- src/judging.rt:77:23
 check-write-requires-3 : tie.Need-check-write-requires-3
 check-write-requires-3 c κs = search needs
 
--- src/judging.rt:77:51
 check-write-requires-4 : tie.Need-check-write-requires-4
 check-write-requires-4 c κs = search needs
 
--- src/judging.rt:77:13
 first-bad-requires : tie.Need-first-bad-requires
 first-bad-requires c κs = search needs
 
--- src/judging.rt:79:22
 enum-known-shape-4 : tie.Need-enum-known-shape-4
 enum-known-shape-4 c = search needs
 
--- src/judging.rt:84:17
 check-write-requires-5 : tie.Need-check-write-requires-5
 check-write-requires-5 c κs = search needs
 
--- src/judging.rt:85:27
 check-write-requires-6 : tie.Need-check-write-requires-6
 check-write-requires-6 c κs = search needs
 
--- src/judging.rt:85:56
 check-write-requires-7 : tie.Need-check-write-requires-7
 check-write-requires-7 c κs = search needs
 
--- src/judging.rt:85:17
 first-bad-requires-2 : tie.Need-first-bad-requires-2
 first-bad-requires-2 c κs = search needs
 
--- src/judging.rt:83:13
 first-bad-requires-3 : tie.Need-first-bad-requires-3
 first-bad-requires-3 c κs = search needs
 
--- src/judging.rt:88:21
 enum-known-shape-5 : tie.Need-enum-known-shape-5
 enum-known-shape-5 c = search needs
 
--- src/judging.rt:90:13
 check-byte-place-requires : tie.Need-check-byte-place-requires
 check-byte-place-requires c κs = search needs
 
--- src/judging.rt:92:27
 enum-told-2 : tie.Need-enum-told-2
 enum-told-2 c = search needs
 
--- src/judging.rt:56:1
 returns-2 : tie.Need-returns-2
 unfolding commits.placesOf
 returns-2 c = rw (c .enum-told .given .1)
 
--- src/judging.rt:56:1
 returns-3 : tie.Need-returns-3
 returns-3 c = rw (c .before .before .before .shape .given .1) (c .check-write .ensures)
 
--- src/judging.rt:56:1
 returns-4 : tie.Need-returns-4
 unfolding commits.placesOf
 returns-4 c = rw (c .before .before .before .shape2 .given .1, c .if1 .left)
 
--- src/judging.rt:56:1
 returns-5 : tie.Need-returns-5
 returns-5 c = rw (c .before .before .before .before .before .before .shape3 .given .1) (c .first-bad .ensures ∙ ap₂ commits.firstBad (c .before .before .check-write3 .ensures) (c .before .check-write4 .ensures) ∙ places-more _ _ _ _)
 
--- src/judging.rt:56:1
 returns-6 : tie.Need-returns-6
 returns-6 c = rw (c .before .before .before .before .before .before .before .before .before .shape4 .given .1) (c .first-bad3 .ensures ∙ ap₂ commits.firstBad (c .before .before .before .before .check-write5 .ensures) (c .before .first-bad2 .ensures ∙ ap₂ commits.firstBad (c .before .before .before .check-write6 .ensures) (c .before .before .check-write7 .ensures) ∙ places-more _ _ _ _) ∙ places-more _ _ _ _)
 
--- src/judging.rt:56:1
 returns-7 : tie.Need-returns-7
 unfolding commits.placesOf
 returns-7 c = rw (c .before .before .before .shape5 .given .1) (c .check-byte-place .ensures ∙ sym (first-good _))
 
--- src/judging.rt:56:1
 returns-8 : tie.Need-returns-8
 returns-8 c = let f = rw (c .enum-told2 .given .1) at (c .before .before .before .pre) in rw (c .enum-told2 .given .1) (sym (rolled-places (c .before .before .before .args .machine) (length (now (c .before .before .before .args .memory))) (c .before .before .before .args .machine .order) (now (c .before .before .before .args .memory)) (c .enum-told2 .given .0 .0 .top) (c .enum-told2 .given .0 .0 .depth) (f .0) (omega (arith, f .1))))
 

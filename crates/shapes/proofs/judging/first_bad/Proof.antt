@@ -4,19 +4,15 @@ use Rattle.shapes.proofs.judging.first_bad.Statement.{statement}
 use Rattle.shapes.proofs.judging.first_bad.Tie as tie
 use mathlib.Core.Path.{sym}
 
--- src/judging.rt:42:26
 enum-told : tie.Need-enum-told
 enum-told c = search needs
 
--- src/judging.rt:43:22
 enum-known-a : tie.Need-enum-known-a
 enum-known-a c = search needs
 
--- src/judging.rt:38:1
 returns : tie.Need-returns
 returns c = search needs
 
--- src/judging.rt:38:1
 returns-2 : tie.Need-returns-2
 returns-2 c = rw (c .before .a .given .1)
 

@@ -4,15 +4,12 @@ use Rattle.shapes.proofs.judging.meets.Statement.{statement}
 use Rattle.shapes.proofs.judging.meets.Tie as tie
 use borrow.Author.Tests.{lt-ltb, le-ltb}
 
--- src/judging.rt:116:30
 add-result : tie.Need-add-result
 add-result c = search needs
 
--- src/judging.rt:116:9
 returns : tie.Need-returns
 returns c = simp (lt-ltb _ _ (c .if1 .taken))
 
--- src/judging.rt:111:1
 returns-2 : tie.Need-returns-2
 returns-2 c = simp (le-ltb _ _ (c .if1 .left))
 

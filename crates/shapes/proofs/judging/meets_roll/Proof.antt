@@ -2,26 +2,20 @@
 use borrow.Author.Needs.{needs}
 use Rattle.shapes.proofs.judging.meets_roll.Statement.{statement}
 use Rattle.shapes.proofs.judging.meets_roll.Tie as tie
-use Rattle.shapes.proofs.judging.meets.Reads as meets-reads
 use borrow.Author.Tests.{lt-ltb, le-ltb}
 
--- src/judging.rt:132:27
 mul-meets : tie.Need-mul-meets
 mul-meets c = search needs
 
--- src/judging.rt:132:27
 add-meets : tie.Need-add-meets
 add-meets c = search needs
 
--- src/judging.rt:132:9
 meets-requires : tie.Need-meets-requires
 meets-requires c κs = search needs
 
--- src/judging.rt:132:9
 returns : tie.Need-returns
 returns c = simp (lt-ltb _ _ (c .before .if1 .taken)) (c .meets .ensures)
 
--- src/judging.rt:128:1
 returns-2 : tie.Need-returns-2
 returns-2 c = simp (le-ltb _ _ (c .if1 .left))
 

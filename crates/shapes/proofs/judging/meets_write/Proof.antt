@@ -2,16 +2,13 @@
 use borrow.Author.Needs.{needs}
 use Rattle.shapes.proofs.judging.meets_write.Statement.{statement}
 use Rattle.shapes.proofs.judging.meets_write.Tie as tie
-use Rattle.shapes.proofs.judging.meets.Reads as meets-reads
 use mathlib.Core.Path.{sym, _∙_}
 use Rattle.machine.specs.Commits as commits
 use Rattle.shapes.proofs.WritesLaws.{or-false}
 
--- src/judging.rt:125:5
 meets-requires : tie.Need-meets-requires
 meets-requires c κs = search needs
 
--- src/judging.rt:121:1
 returns : tie.Need-returns
 unfolding commits.touches
 returns c = c .meets .ensures ∙ sym (or-false _)

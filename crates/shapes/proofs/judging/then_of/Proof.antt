@@ -5,59 +5,45 @@ use Rattle.shapes.proofs.judging.then_of.Tie as tie
 use mathlib.Core.Path.{sym, ap}
 use Rattle.shapes.specs.Shapes as shapes
 
--- src/judging.rt:27:21
 enum-known-shape : tie.Need-enum-known-shape
 enum-known-shape c = search needs
 
--- src/judging.rt:28:20
 enum-known-shape-2 : tie.Need-enum-known-shape-2
 enum-known-shape-2 c = search needs
 
--- src/judging.rt:29:22
 enum-known-shape-3 : tie.Need-enum-known-shape-3
 enum-known-shape-3 c = search needs
 
--- src/judging.rt:30:20
 enum-known-shape-4 : tie.Need-enum-known-shape-4
 enum-known-shape-4 c = search needs
 
--- src/judging.rt:31:22
 enum-known-shape-5 : tie.Need-enum-known-shape-5
 enum-known-shape-5 c = search needs
 
--- src/judging.rt:32:21
 enum-known-shape-6 : tie.Need-enum-known-shape-6
 enum-known-shape-6 c = search needs
 
--- src/judging.rt:33:27
 enum-told : tie.Need-enum-told
 enum-told c = search needs
 
--- src/judging.rt:23:1
 returns : tie.Need-returns
 returns c = search needs
 
--- src/judging.rt:23:1
 returns-2 : tie.Need-returns-2
 returns-2 c = search needs
 
--- src/judging.rt:23:1
 returns-3 : tie.Need-returns-3
 returns-3 c = search needs
 
--- src/judging.rt:23:1
 returns-4 : tie.Need-returns-4
 returns-4 c = ap shapes.shapeThen (sym (c .before .shape4 .given .1))
 
--- src/judging.rt:23:1
 returns-5 : tie.Need-returns-5
 returns-5 c = ap shapes.shapeThen (sym (c .before .shape5 .given .1))
 
--- src/judging.rt:23:1
 returns-6 : tie.Need-returns-6
 returns-6 c = search needs
 
--- src/judging.rt:23:1
 returns-7 : tie.Need-returns-7
 returns-7 c = search needs
 

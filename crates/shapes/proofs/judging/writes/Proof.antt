@@ -2,10 +2,6 @@
 use borrow.Author.Needs.{needs}
 use Rattle.shapes.proofs.judging.writes.Statement.{statement}
 use Rattle.shapes.proofs.judging.writes.Tie as tie
-use Rattle.shapes.proofs.judging.either.Reads as either-reads
-use Rattle.shapes.proofs.judging.meets.Reads as meets-reads
-use Rattle.shapes.proofs.judging.meets_roll.Reads as meets-roll-reads
-use Rattle.shapes.proofs.judging.meets_write.Reads as meets-write-reads
 use mathlib.Core.Path.{sym, _∙_, ap}
 use Rattle.machine.specs.Commits as commits
 use Rattle.shapes.proofs.WritesLaws.{or-false, rolled-touches}
@@ -14,114 +10,87 @@ use mathlib.Core.Bool.{_||_}
 use Rattle.shapes.proofs.WritesLaws.{touches-more}
 use denote.Ref.{now}
 
--- src/judging.rt:143:27
 enum-told : tie.Need-enum-told
 enum-told c = search needs
 
--- src/judging.rt:144:20
 enum-known-shape : tie.Need-enum-known-shape
 enum-known-shape c = search needs
 
--- src/judging.rt:146:13
 meets-write-requires : tie.Need-meets-write-requires
 meets-write-requires c κs = search needs
 
--- src/judging.rt:148:22
 enum-known-shape-2 : tie.Need-enum-known-shape-2
 enum-known-shape-2 c = search needs
 
--- src/judging.rt:151:17
 meets-write-requires-2 : tie.Need-meets-write-requires-2
 meets-write-requires-2 c κs = search needs
 
--- src/judging.rt:151:17
 returns : tie.Need-returns
 returns c = rw (c .before .before .before .before .shape2 .given .1, c .before .if1 .taken) (c .meets-write2 .ensures)
 
--- src/judging.rt:155:20
 enum-known-shape-3 : tie.Need-enum-known-shape-3
 enum-known-shape-3 c = search needs
 
--- src/judging.rt:158:20
 meets-write-requires-3 : tie.Need-meets-write-requires-3
 meets-write-requires-3 c κs = search needs
 
--- src/judging.rt:158:44
 meets-write-requires-4 : tie.Need-meets-write-requires-4
 meets-write-requires-4 c κs = search needs
 
--- src/judging.rt:158:13
 either-requires : tie.Need-either-requires
 either-requires c κs = search needs
 
--- src/judging.rt:160:22
 enum-known-shape-4 : tie.Need-enum-known-shape-4
 enum-known-shape-4 c = search needs
 
--- src/judging.rt:165:17
 meets-write-requires-5 : tie.Need-meets-write-requires-5
 meets-write-requires-5 c κs = search needs
 
--- src/judging.rt:166:24
 meets-write-requires-6 : tie.Need-meets-write-requires-6
 meets-write-requires-6 c κs = search needs
 
--- src/judging.rt:166:49
 meets-write-requires-7 : tie.Need-meets-write-requires-7
 meets-write-requires-7 c κs = search needs
 
--- src/judging.rt:166:17
 either-requires-2 : tie.Need-either-requires-2
 either-requires-2 c κs = search needs
 
--- src/judging.rt:164:13
 either-requires-3 : tie.Need-either-requires-3
 either-requires-3 c κs = search needs
 
--- src/judging.rt:169:21
 enum-known-shape-5 : tie.Need-enum-known-shape-5
 enum-known-shape-5 c = search needs
 
--- src/judging.rt:171:13
 meets-requires : tie.Need-meets-requires
 meets-requires c κs = search needs
 
--- src/judging.rt:173:21
 enum-known-shape-6 : tie.Need-enum-known-shape-6
 enum-known-shape-6 c = search needs
 
--- src/judging.rt:173:27
 meets-roll-requires : tie.Need-meets-roll-requires
 meets-roll-requires c κs = search needs
 
--- src/judging.rt:138:1
 returns-2 : tie.Need-returns-2
 unfolding commits.touches
 returns-2 c = rw (c .enum-told .given .1)
 
--- src/judging.rt:138:1
 returns-3 : tie.Need-returns-3
 returns-3 c = rw (c .before .before .before .shape .given .1) (c .meets-write .ensures)
 
--- src/judging.rt:138:1
 returns-4 : tie.Need-returns-4
 unfolding commits.touches
 returns-4 c = rw (c .before .before .before .shape2 .given .1, c .if1 .left)
 
--- src/judging.rt:138:1
 returns-5 : tie.Need-returns-5
 returns-5 c = rw (c .before .before .before .before .before .before .shape3 .given .1) (c .either .ensures ∙ ap₂ _||_ (c .before .before .meets-write3 .ensures) (c .before .meets-write4 .ensures) ∙ touches-more _ _ _ _)
 
--- src/judging.rt:138:1
 returns-6 : tie.Need-returns-6
 returns-6 c = rw (c .before .before .before .before .before .before .before .before .before .shape4 .given .1) (c .either3 .ensures ∙ ap₂ _||_ (c .before .before .before .before .meets-write5 .ensures) (c .before .either2 .ensures ∙ ap₂ _||_ (c .before .before .before .meets-write6 .ensures) (c .before .before .meets-write7 .ensures) ∙ touches-more _ _ _ _) ∙ touches-more _ _ _ _)
 
--- src/judging.rt:138:1
 returns-7 : tie.Need-returns-7
 unfolding commits.touches
 returns-7 c = rw (c .before .before .before .shape5 .given .1) (c .meets .ensures ∙ sym (or-false _))
 
--- src/judging.rt:138:1
 returns-8 : tie.Need-returns-8
 returns-8 c = rw (c .before .before .shape6 .given .1) (c .meets-roll .ensures ∙ rolled-touches (c .before .before .before .before .before .args .machine .order) (now (c .before .before .before .before .before .args .memory)) (c .before .before .shape6 .given .0 .0 .top) (c .before .before .shape6 .given .0 .0 .depth) (c .before .before .before .before .before .args .lo) (c .before .before .before .before .before .args .hi) (c .before .before .before .before .before .pre))
 

@@ -2,10 +2,6 @@
 use borrow.Author.Needs.{needs}
 use Rattle.shapes.proofs.roll.propose_roll.Statement.{statement}
 use Rattle.shapes.proofs.roll.propose_roll.Tie as tie
-use Rattle.cell.proofs.number.add.Reads as add-reads
-use Rattle.instruction.proofs.shape.fail_none.Reads as fail-none-reads
-use Rattle.instruction.proofs.shape.fetch_deep.Reads as fetch-deep-reads
-use Rattle.machine.proofs.places.fetch.Reads as fetch-reads
 use mathlib.Core.Path.{sym, _∙_, ap}
 use Prim.{tt}
 use denote.Ref.{now}
@@ -14,56 +10,44 @@ use Rattle.machine.specs.declared.Access.the-variants.{DataRead}
 use Rattle.instruction.specs.Plain as plain
 use Rattle.instruction.proofs.RollingLaws.{fetched-place, deep-place}
 
--- src/roll.rt:26:9
 fetch-requires : tie.Need-fetch-requires
 fetch-requires c κs = search needs
 
--- src/roll.rt:27:23
 enum-known-got : tie.Need-enum-known-got
 enum-known-got c = search needs
 
--- src/roll.rt:28:28
 enum-told : tie.Need-enum-told
 enum-told c = search needs
 
--- src/roll.rt:28:28
 fail-none-requires : tie.Need-fail-none-requires
 fail-none-requires c κs = search needs
 
--- src/roll.rt:28:9
 returns : tie.Need-returns
 unfolding plain.plainOf
 returns c = record { effect = simp (sym (c .before .before .before .fetch .ensures) ∙ c .before .enum-told .given .1) (c .fail-none .ensures ∙ ap plain.failed (c .before .enum-told .given .1)); fits = tt }
 
--- src/roll.rt:30:9
 fetch-deep-requires : tie.Need-fetch-deep-requires
 fetch-deep-requires c κs = search needs
 
 enum-told-2 : tie.Need-enum-told-2
 enum-told-2 c = search needs
 
--- src/roll.rt:32:28
 enum-told-3 : tie.Need-enum-told-3
 enum-told-3 c = search needs
 
--- src/roll.rt:32:28
 fail-none-requires-2 : tie.Need-fail-none-requires-2
 fail-none-requires-2 c κs = search needs
 
--- src/roll.rt:32:9
 returns-2 : tie.Need-returns-2
 unfolding plain.plainOf
 returns-2 c = record { effect = simp (sym (c .before .before .before .before .before .before .before .fetch .ensures) ∙ c .before .before .before .before .before .got .given .1, sym (c .before .before .before .fetch-deep .ensures) ∙ c .before .enum-told3 .given .1) (c .fail-none2 .ensures ∙ ap plain.failed (c .before .enum-told3 .given .1)); fits = tt }
 
--- src/roll.rt:35:13
 add-requires : tie.Need-add-requires
 add-requires c κs = search needs
 
--- src/roll.rt:37:14
 add-t12 : tie.Need-add-t12
 add-t12 c = let p = fetched-place (c .before .before .before .before .before .before .before .before .before .before .args .machine) DataRead (now (c .before .before .before .before .before .before .before .before .before .before .args .memory)) (c .before .before .before .before .before .before .before .before .before .before .args .r .sp) (c .before .before .before .before .before .before .got .given .0 .0) (sym (c .before .before .before .before .before .before .before .before .fetch .ensures) ∙ c .before .before .before .before .before .before .got .given .1) in omega (arith, p .inside, c .before .before .before .before .before .before .before .before .before .before .pre .1)
 
--- src/roll.rt:21:1
 returns-3 : tie.Need-returns-3
 unfolding plain.plainOf
 returns-3 c = let p = fetched-place (c .before .before .before .before .before .before .before .before .before .before .args .machine) DataRead (now (c .before .before .before .before .before .before .before .before .before .before .args .memory)) (c .before .before .before .before .before .before .before .before .before .before .args .r .sp) (c .before .before .before .before .before .before .got .given .0 .0) (sym (c .before .before .before .before .before .before .before .before .fetch .ensures) ∙ c .before .before .before .before .before .before .got .given .1) in let q = deep-place (c .before .before .before .before .before .before .before .before .before .before .args .machine) (now (c .before .before .before .before .before .before .before .before .before .before .args .memory)) (plain.deepAddress (c .before .before .before .before .before .before .before .before .before .before .args .r .sp) (c .before .before .before .before .before .before .got .given .0 .0)) (c .before .before .enum-told2 .given .0 .0) (sym (c .before .before .before .before .fetch-deep .ensures) ∙ c .before .before .enum-told2 .given .1) in record { effect = simp (sym (c .before .before .before .before .before .before .before .before .fetch .ensures) ∙ c .before .before .before .before .before .before .got .given .1, sym (c .before .before .before .before .fetch-deep .ensures) ∙ c .before .before .enum-told2 .given .1, c .before .add .ensures); fits = (omega (arith, p .aligned), omega (arith, p .aligned, q .inside, c .before .before .before .before .before .before .before .before .before .before .pre .0)) }

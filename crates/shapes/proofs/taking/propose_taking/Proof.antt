@@ -2,60 +2,42 @@
 use borrow.Author.Needs.{needs}
 use Rattle.shapes.proofs.taking.propose_taking.Statement.{statement}
 use Rattle.shapes.proofs.taking.propose_taking.Tie as tie
-use Rattle.instruction.proofs.control.branch.Reads as branch-reads
-use Rattle.instruction.proofs.control.call.Reads as call-reads
-use Rattle.instruction.proofs.control.question_branch.Reads as question-branch-reads
-use Rattle.instruction.proofs.control.turn_loop.Reads as turn-loop-reads
-use Rattle.instruction.proofs.control.turn_plus_loop.Reads as turn-plus-loop-reads
-use Rattle.instruction.proofs.literals.literal.Reads as literal-reads
 use Prim.{tt}
 use borrow.Author.Tests.{ne-eqb}
 
--- src/taking.rt:25:29
 branch-requires : tie.Need-branch-requires
 branch-requires c κs = search needs
 
--- src/taking.rt:27:29
 question-branch-requires : tie.Need-question-branch-requires
 question-branch-requires c κs = search needs
 
--- src/taking.rt:29:28
 call-requires : tie.Need-call-requires
 call-requires c κs = search needs
 
--- src/taking.rt:31:30
 turn-loop-requires : tie.Need-turn-loop-requires
 turn-loop-requires c κs = search needs
 
--- src/taking.rt:33:30
 turn-plus-loop-requires : tie.Need-turn-plus-loop-requires
 turn-plus-loop-requires c κs = search needs
 
--- src/taking.rt:35:25
 literal-requires : tie.Need-literal-requires
 literal-requires c κs = search needs
 
--- src/taking.rt:19:1
 returns : tie.Need-returns
 returns c = record { effect = rw (c .before .match .keys1) (c .branch .ensures); fits = tt }
 
--- src/taking.rt:19:1
 returns-2 : tie.Need-returns-2
 returns-2 c = record { effect = rw (c .before .match .keys2) (c .question-branch .ensures); fits = tt }
 
--- src/taking.rt:19:1
 returns-3 : tie.Need-returns-3
 returns-3 c = record { effect = rw (c .before .match .keys3) (c .call .ensures); fits = tt }
 
--- src/taking.rt:19:1
 returns-4 : tie.Need-returns-4
 returns-4 c = record { effect = rw (c .before .match .keys4) (c .turn-loop .ensures); fits = tt }
 
--- src/taking.rt:19:1
 returns-5 : tie.Need-returns-5
 returns-5 c = record { effect = rw (c .before .match .keys5) (c .turn-plus-loop .ensures); fits = tt }
 
--- src/taking.rt:19:1
 returns-6 : tie.Need-returns-6
 returns-6 c = record { effect = simp (ne-eqb _ _ (c .before .match .rest .0 .0 .0 .0 .1), ne-eqb _ _ (c .before .match .rest .0 .0 .0 .1), ne-eqb _ _ (c .before .match .rest .0 .0 .1), ne-eqb _ _ (c .before .match .rest .0 .1), ne-eqb _ _ (c .before .match .rest .1)) (c .literal .ensures); fits = tt }
 
