@@ -1,4 +1,4 @@
-/* Beetle: the processor and the object modules.
+/* Beetle: the processor, object modules, the packer and the list machine.
  *
  * A slice is a pointer and a length, in elements. An empty slice may be NULL. Lent buffers may not
  * overlap. No call keeps a pointer after it returns.
@@ -6,9 +6,13 @@
  * `order` is the byte order: 0 least significant byte first, 1 most. `memory` has 1,024 to
  * 16,777,216 bytes, a multiple of 4. `registers` holds EP, A, SP, RP in this order.
  *
- * The answer is 0, 1 where the machine stopped, or a refusal, below 0. On a refusal nothing that was
- * lent is written. A `registers`, `out` or `output` shorter than what a success writes is refused
- * with BEETLE_SHORT_OUTPUT, the last of the refusals to be judged. What is longer keeps its rest.
+ * A listing is its kinds, its operands and a base; as a file it is n, base, the kinds, the operands,
+ * least significant byte first. `pointers` holds SP, RP in this order.
+ *
+ * The answer is 0, 1 where the machine stopped, 2 where the list machine stands outside, or a
+ * refusal, below 0. On a refusal nothing that was lent is written. A `registers`, `pointers`, `out`
+ * or `output` shorter than what a success writes is refused with BEETLE_SHORT_OUTPUT, the last of
+ * the refusals to be judged. What is longer keeps its rest.
  */
 #ifndef BEETLE_H
 #define BEETLE_H
@@ -20,17 +24,24 @@
 extern "C" {
 #endif
 
-/* ready, went on, spent, loaded, saved */
+/* ready, went on, spent, loaded, saved, packed; all the items asked for carried out */
 #define BEETLE_DONE 0
 #define BEETLE_STOPPED 1
+/* the list machine stopped in front of an item that it cannot carry out */
+#define BEETLE_STANDS_OUTSIDE 2
 
 #define BEETLE_OUTSIDE (-1)           /* module address MEMORY or more, or cells pass MEMORY */
 #define BEETLE_BAD_HEADER (-2)        /* the file does not begin as a module does */
 #define BEETLE_BAD_MEMORY (-4101)     /* memory length */
 #define BEETLE_BAD_ORDER (-4102)      /* byte order above 1 */
 #define BEETLE_BAD_FILE_LENGTH (-4103) /* file length not 12 + 4l */
-#define BEETLE_UNALIGNED (-4104)      /* module address no multiple of 4 */
+#define BEETLE_UNALIGNED (-4104)      /* module address or base no multiple of 4 */
 #define BEETLE_SHORT_OUTPUT (-4105)   /* a lent output too short */
+#define BEETLE_BAD_COUNT (-4106)      /* no item, over 4,096, arrays unequal, or file not 8 + 5n bytes */
+#define BEETLE_BAD_KIND (-4107)       /* a byte that is no kind */
+#define BEETLE_BAD_OPERAND (-4108)    /* a plain item whose operand is not 0 */
+#define BEETLE_BAD_TARGET (-4109)     /* a target that is no item */
+#define BEETLE_BAD_BASE (-4110)       /* base below 10h, or the image passes 16,777,216 */
 
 /* Starts the machine: registers are written. out: [reason, or 0]. */
 int32_t beetle_start(
@@ -71,6 +82,36 @@ int32_t beetle_save(
     uint32_t address,
     uint32_t cells,
     uint8_t *output, size_t output_length,
+    uint32_t *out, size_t out_length);
+
+/* Packs a listing into the first cells of `output`, 4 bytes a cell. out: [cells]. */
+int32_t beetle_pack(
+    uint8_t order,
+    const uint8_t *kinds, size_t kinds_length,
+    const uint32_t *operands, size_t operands_length,
+    uint32_t base,
+    uint8_t *output, size_t output_length,
+    uint32_t *out, size_t out_length);
+
+/* Packs a listing file. out: [cells]. */
+int32_t beetle_pack_file(
+    uint8_t order,
+    const uint8_t *file, size_t file_length,
+    uint8_t *output, size_t output_length,
+    uint32_t *out, size_t out_length);
+
+/* Runs the list machine from item 0, at most `items` items. No image is asked for in memory, nor
+ * that it fits there. out: [reason, or 0; item reached; items done; cycles counted, low half; high
+ * half]. The item reached is the next one, the one that stopped the machine, or the one in front of
+ * which it stands outside. */
+int32_t beetle_list_run(
+    uint8_t order,
+    const uint8_t *kinds, size_t kinds_length,
+    const uint32_t *operands, size_t operands_length,
+    uint32_t base,
+    uint8_t *memory, size_t memory_length,
+    uint32_t *pointers, size_t pointers_length,
+    uint32_t items,
     uint32_t *out, size_t out_length);
 
 #ifdef __cplusplus

@@ -1,12 +1,11 @@
 -- What the code of one item finds and carries out is the list machine's item.
-use mathlib.Core.Path.{_≡_, refl, sym, ap, _∙_}
-use mathlib.Core.Bool.{Bool, true, false}
+use mathlib.Core.Path.{_≡_, refl, ap, _∙_}
+use mathlib.Core.Bool.{Bool}
 use mathlib.Core.List.{List}
-use Prim.Native.Nat.{ℕ, _+_, _*_, _≤_, _<_}
+use Prim.Native.Nat.{ℕ, _+_, _*_, _<_}
 use native.Mathlib.Omega.{arith}
 use lib.Dec.{eqb}
 use lib.ListN.{length, getD}
-use Rattle.machine.specs.Effects.{Effect}
 use Rattle.machine.specs.Commits.{placesOf}
 use Rattle.machine.specs.declared.Machine.{Machine}
 use Rattle.machine.specs.declared.Registers.{Registers}
@@ -14,10 +13,10 @@ use Rattle.dispatch.specs.Dispatch.{decodeOf, classOf}
 use Rattle.layout.specs.Kinds as sorts
 use Rattle.layout.specs.declared.Form.{Form}
 use Rattle.layout.specs.Listing.{listed}
-use Rattle.layout.specs.Layout.{extra, formAt}
-use Rattle.layout.specs.Packing.{formOf, layout, imageCells, behind, epValue}
+use Rattle.layout.specs.Layout.{extra}
+use Rattle.layout.specs.Packing.{formOf, behind}
 use Rattle.layout.proofs.Listing.{is-kind}
-use Rattle.list_machine.specs.ListMachine.{Position, isImmediate, registersAt, effectAt, carriedBy, carryOut}
+use Rattle.list_machine.specs.ListMachine.{isImmediate, registersAt, effectAt, carriedBy, carryOut}
 use Rattle.shapes.specs.Shapes.{shapeSp, shapeRp, shapeStores, shapeThen, shapeEffect, Proposed}
 use Rattle.shapes.specs.declared.Shape.{Shape}
 use Rattle.shapes.proofs.Alone.{Alone}

@@ -2,9 +2,8 @@
 use mathlib.Core.Path.{_≡_, refl, sym, ap, _∙_}
 use mathlib.Core.Bool.{Bool, true, false, not}
 use mathlib.Core.List.{List, []}
-use Prim.Native.Nat.{ℕ, suc, _+_, _*_, _%_, _≤_, _<_}
+use Prim.Native.Nat.{ℕ, suc, _+_, _*_, _%_, _≤_}
 use native.Mathlib.Numerals.{add-one}
-use native.Mathlib.Omega.{arith}
 use lib.Dec.{ltb}
 use lib.ListN.{length}
 use Rattle.cell.specs.Choice.{if}
@@ -21,13 +20,12 @@ use Rattle.layout.specs.Listing.{Listing}
 use Rattle.layout.specs.Layout.{formAt}
 use Rattle.layout.specs.Packing.{layout, imageCells, entryAt}
 use Rattle.layout.specs.declared.Entry.{Entry}
-use Rattle.list_machine.specs.ListMachine.{Position, Carried, on, outside, isImmediate, actedTo, movedTo, registersAt, transferred, handled, thrown, ranOn, followed, carriedBy}
+use Rattle.list_machine.specs.ListMachine.{Position, Carried, on, outside, isImmediate, actedTo, movedTo, registersAt, handled, ranOn, carriedBy}
 use Rattle.shapes.proofs.Alone.{Alone, bare}
-use Rattle.items.specs.Ways.{toEntry, nextWay, intentThen, intentBy, along, steppedTo, performed}
-use Rattle.items.specs.declared.Way.{Way}
+use Rattle.items.specs.Ways.{toEntry, nextWay, intentBy, along, steppedTo, performed}
 use Rattle.items.specs.declared.Way.the-variants as way
 use Rattle.items.specs.declared.Intent.{Intent}
-use Rattle.items.specs.declared.Intent.the-variants.{Act, End}
+use Rattle.items.specs.declared.Intent.the-variants.{Act}
 use Rattle.items.proofs.ThrowingLaws.{transferred-is, throw-is, given-is}
 
 next-of : (b : Bool) (i : ℕ) (ran : Bool) (q : Position)

@@ -1,32 +1,28 @@
 -- The arrays of a settled listing, read for one item.
-use mathlib.Core.Path.{_≡_, refl, sym, ap, _∙_}
-use mathlib.Core.Bool.{Bool, true, false, _&&_, _||_}
-use mathlib.Core.List.{List, []}
-use Prim.Native.Nat.{ℕ, zero, suc, _+_, _*_, _%_, _^_, _≤_, _<_}
+use mathlib.Core.Path.{_≡_, refl, ap, _∙_}
+use mathlib.Core.Bool.{Bool, true, false, _||_}
+use mathlib.Core.List.{List}
+use Prim.Native.Nat.{ℕ, zero, suc, _+_, _*_, _%_, _≤_, _<_}
 use native.Mathlib.Omega.{arith}
-use borrow.Author.Tests.{eqb-true, ltb-false}
+use borrow.Author.Tests.{ltb-false}
 use lib.Dec.{ltb, eqb}
 use lib.ListN.{length, getD}
 use Rattle.cell.specs.Shift.{pick}
 use Rattle.cell.specs.declared.Fetched.the-variants.{Cell}
 use Rattle.machine.specs.declared.Machine.{Machine}
-use Rattle.machine.specs.declared.Registers.{Registers}
 use Rattle.instruction.specs.Taking.{Taking, branch, questionBranch, call, loop, plusLoop, literal}
 use Rattle.dispatch.specs.Dispatch.{decodeOf, Class, next, plain, taking, classOf}
 use Rattle.layout.specs.Kinds as sorts
 use Rattle.layout.specs.declared.Class as declared
 use Rattle.layout.specs.declared.Class.the-variants as class
 use Rattle.layout.specs.declared.Form.{Form}
-use Rattle.layout.specs.declared.Entry.{Entry}
-use Rattle.layout.specs.declared.Entry.the-variants.{Item}
-use Rattle.layout.specs.Refusals.{first}
 use Rattle.layout.specs.Flags.{bit, flagged}
 use Rattle.layout.specs.Listing.{Listing, listed, entry}
 use Rattle.layout.specs.Layout.{extra, mid, left, formAt}
-use Rattle.layout.specs.Packing.{marks as marksOf, formOf, pickEntry, layout, imageCells, addressOf, epValue, behind, entryBelow, entryAt, judgedPlace}
+use Rattle.layout.specs.Packing.{marks as marksOf, formOf, layout, imageCells, addressOf, epValue, behind, entryBelow, entryAt, judgedPlace}
 use Rattle.layout.proofs.Placing.{left-le, at-most, at-before, reach}
-use Rattle.layout.proofs.Listing.{first-none, target-below, is-kind, some-item}
-use Rattle.list_machine.specs.ListMachine.{Position, operandAt, effectAs, effectAt, registersAt, isImmediate}
+use Rattle.layout.proofs.Listing.{first-none, target-below, some-item}
+use Rattle.list_machine.specs.ListMachine.{Position, operandAt, effectAs, effectAt, registersAt}
 use Rattle.shapes.proofs.Alone.{Alone, raises, plain-alone, taking-alone}
 use Rattle.items.specs.Ways.{entryIn, operandFor, effectBy, effectFor}
 use Rattle.items.specs.Arrays.{Settled}

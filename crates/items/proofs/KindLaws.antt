@@ -1,6 +1,6 @@
 -- The kinds of a listing, as opcodes: a plain kind is a plain instruction; the others take an operand.
-use mathlib.Core.Path.{_≡_, refl, sym, ap, _∙_}
-use mathlib.Core.Bool.{Bool, true, false, _&&_, _||_, true≢false, false≢true}
+use mathlib.Core.Path.{_≡_, refl, sym, ap}
+use mathlib.Core.Bool.{Bool, true, false, _&&_, _||_, false≢true}
 use mathlib.Core.List.{List, [], _∷_}
 use Prim.{Unit, tt}
 use Prim.Native.Nat.{ℕ, zero, suc, _+_, _*_, _-_, _%_, _^_, _≤_, _<_}
@@ -11,7 +11,7 @@ use lib.Dec.{eqb}
 use Rattle.machine.specs.declared.Machine.{Machine}
 use Rattle.machine.specs.declared.Registers.{Registers}
 use Rattle.instruction.specs.Plain.{plainAt}
-use Rattle.instruction.specs.Taking.{takingOf, takingAt}
+use Rattle.instruction.specs.Taking.{takingAt}
 use Rattle.instruction.specs.declared.Form.the-variants as form
 use Rattle.dispatch.specs.Dispatch.{decodeOf, Class, next, plain, taking, classOf}
 use Rattle.layout.specs.Kinds.{among, branches, pickClass, outside, immediates, raising}

@@ -12,13 +12,11 @@ use lib.ListN.{length, getD}
 use Rattle.cell.specs.Choice.{if}
 use Rattle.machine.specs.declared.Machine.{Machine}
 use Rattle.layout.specs.Listing.{Listing, listed}
-use Rattle.layout.specs.Layout.{opens}
 use Rattle.layout.specs.Packing.{layout}
 use Rattle.layout.proofs.Placing.{opens-is}
-use Rattle.layout.proofs.Listing.{some-item}
-use Rattle.list_machine.specs.ListMachine.{Position, Carried, on, stopped, outside, carryOut, cyclesAt}
-use Rattle.list_machine.specs.Runs.{Course, goesOn, stoppedBy, stoodOutside, Run, furtherBy, further, runOf, beginning}
-use Rattle.items.specs.Stands.{positionOf, carriedAs, Left, left, leaves, memoryAfter, courseOf, runAs, counted, isOver}
+use Rattle.list_machine.specs.ListMachine.{Carried, carryOut, cyclesAt}
+use Rattle.list_machine.specs.Runs.{Run, furtherBy, further, runOf, beginning}
+use Rattle.items.specs.Stands.{positionOf, carriedAs, Left, left, leaves, memoryAfter, runAs, begun, counted, isOver}
 use Rattle.items.specs.Arrays.{Lent, Settled}
 use Rattle.items.specs.declared.Stand.{Stand}
 use Rattle.items.specs.declared.Carried as code
@@ -80,10 +78,7 @@ pub record Going (machine : Machine) (base : ℕ) (l : Listing) (m0 : List ℕ) 
   pub here : runAs m r ≡ runOf machine base l (r .items) (beginning m0 sp rp)
 
 module _ (machine : Machine) (base : ℕ) (l : Listing) (m0 : List ℕ) (sp rp items : ℕ) where
-  pub run-begins : 0 < l .count
-      → Going machine base l m0 sp rp items m0
-      (record { stand = record { item = record { 0 = 0 }; ran = false; sp = sp; rp = rp }; items = 0; cycles = 0; ending = ending.GoesOn })
-      items
+  pub run-begins : 0 < l .count → Going machine base l m0 sp rp items m0 (begun sp rp) items
   unfolding runOf
   run-begins h = record { sum = omega arith; long = refl; item = h; few = omega arith; going = refl; here = refl }
 

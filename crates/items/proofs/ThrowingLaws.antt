@@ -1,8 +1,8 @@
 -- A throw, against where it was found to lead: 'THROW as it will stand once the code is pushed.
 use mathlib.Core.Path.{_≡_, refl, sym, ap, _∙_}
 use mathlib.Core.Bool.{Bool, true, false, _&&_, _||_}
-use mathlib.Core.List.{List, [], _∷_}
-use mathlib.Core.Logic.{inl, inr}
+use mathlib.Core.List.{List}
+use mathlib.Core.Logic.{inr}
 use Prim.Native.Nat.{ℕ, _+_, _*_, _%_, _^_, _≤_, _<_}
 use native.Mathlib.Omega.{arith}
 use borrow.Author.Tests.{eqb-true, eqb-false}
@@ -34,7 +34,7 @@ use Rattle.layout.specs.declared.Entry.the-variants.{Item, Nothing}
 use Rattle.list_machine.specs.ListMachine.{Position, Carried, outside, enteredAt, thrownTo, pushOf, registersAt, transferred, handledBy, handled, thrown, writesImage}
 use Rattle.items.specs.Ways.{toEntry, handlerBy, handlerWay, handlerAfter, pushWay, throwWay, givenWay, along}
 use Rattle.items.specs.declared.Way.{Way}
-use Rattle.items.specs.declared.Way.the-variants.{To, Halt, Outside}
+use Rattle.items.specs.declared.Way.the-variants.{Halt, Outside}
 
 code-below : (f : Fault) → faultCode f < 2 ^ 32
 code-below (Range a) = omega arith

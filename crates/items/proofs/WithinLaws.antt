@@ -25,7 +25,6 @@ use Rattle.layout.specs.Layout.{formAt}
 use Rattle.layout.specs.Packing.{layout, entryAt}
 use Rattle.layout.specs.declared.Entry.{Entry}
 use Rattle.layout.specs.declared.Entry.the-variants.{Item, Nothing}
-use Rattle.layout.specs.declared.ItemNumber.{ItemNumber}
 use Rattle.layout.proofs.Finding.{found}
 use Rattle.list_machine.specs.ListMachine.{Position, Carried, on, stopped, outside, isImmediate, pushOf, thrownTo, actedTo, movedTo, enteredAt, effectAt, writesImage, transferred, registersAt, handledBy, handled, thrown, ranOn, followed, acted, carriedBy, carryOut}
 

@@ -54,6 +54,11 @@ courseOf ending.Outside = runs.stoodOutside
 abbrev pub runAs : List ℕ → Ran → runs.Run
 runAs m r = record { position = positionOf m (r .stand); items = r .items; cycles = r .cycles; course = courseOf (r .ending) }
 
+-- "it at item 0": nothing is done yet
+abbrev pub begun : ℕ → ℕ → Ran
+begun sp rp =
+    record { stand = record { item = record { 0 = 0 }; ran = false; sp = sp; rp = rp }; items = 0; cycles = 0; ending = ending.GoesOn }
+
 -- the run with one item more, which counts so many cycles. "one that throws and one that stops it with a reason are among them, one it stops in
 -- front of is not"
 abbrev pub counted : Ran → ℕ → Carried → Ran

@@ -1,7 +1,6 @@
 -- Where an item leads, found before anything is written. Document 01, Listings: the list machine "stops outside, in front of an item that would write
 -- a byte of the image, transfer to no entry, throw to a valid 'THROW that is no entry, or run on past the end".
-use mathlib.Core.Path.{_≡_}
-use mathlib.Core.Bool.{Bool, true, false, not, _&&_}
+use mathlib.Core.Bool.{Bool, false, not, _&&_}
 use mathlib.Core.List.{List}
 use Prim.Native.Nat.{ℕ, zero, suc, _+_, _*_, _%_}
 use lib.Dec.{ltb, eqb}

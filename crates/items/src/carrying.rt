@@ -73,7 +73,7 @@ fn act_along(
     }
 }
 
-// A throw, made.
+// A throw, made. It does not go by the machine's `finish`, whose only call is to stay in the processor's loop.
 fn end(machine: Machine, memory: &mut [u8], r: Registers, cause: Cause) -> Turn
     requires { ⌜ places.Whole (now memory) ⌝ }
     requires { ⌜ 16 ≤ length (now memory) ⌝ }

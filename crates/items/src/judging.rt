@@ -2,7 +2,6 @@
 ghost use mathlib.Core.Path.{_≡_};
 ghost use Prim.Native.Nat.{_≤_, _<_};
 ghost use lib.ListN.{length};
-ghost use Rattle.machine.specs.Places as places;
 ghost use Rattle.shapes.specs.Shapes as shapes;
 ghost use Rattle.items.specs.Ways as ways;
 use crate::Cause;

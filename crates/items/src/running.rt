@@ -72,6 +72,24 @@ fn is_over(ending: Ending) -> bool
     }
 }
 
+// In front of item 0.
+fn begin_run(sp: u32, rp: u32) -> Ran
+    ensures { λ r. ⌜ r ≡ stands.begun sp rp ⌝ }
+{
+    let first = Stand {
+        item: ItemNumber(0),
+        ran: false,
+        sp: sp,
+        rp: rp,
+    };
+    Ran {
+        stand: first,
+        items: 0,
+        cycles: 0,
+        ending: Ending::GoesOn,
+    }
+}
+
 // Items from the first on, until the machine stops or as many as are asked for are done.
 pub fn run_items(
     machine: Machine,
@@ -93,18 +111,7 @@ pub fn run_items(
     requires { ⌜ arrays.Settled (now kinds) (now operands) (now entries) (now marks) (now ats) (now eps) (now lefts) base cells ⌝ }
     ensures { λ r. ⌜ stands.runAs (now (memory .exit)) r ≡ runs.runOf machine base (listed (now (kinds .entry)) (now (operands .entry))) items (runs.beginning (now (memory .entry)) sp rp) ⌝ }
 {
-    let first = Stand {
-        item: ItemNumber(0),
-        ran: false,
-        sp: sp,
-        rp: rp,
-    };
-    let mut ran = Ran {
-        stand: first,
-        items: 0,
-        cycles: 0,
-        ending: Ending::GoesOn,
-    };
+    let mut ran = begin_run(sp, rp);
     let mut rest = items;
     while 0 < rest {
         let s = ran.stand;

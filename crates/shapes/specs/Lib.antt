@@ -1,2 +1,3 @@
 -- What crate `shapes` means.
 pub mod Shapes
+pub mod Looping

@@ -1,7 +1,6 @@
 -- The effect that a shape of the code stands for, and what is asked of it before it is carried out. Document 01, The processor: "every place to be
 -- written, in the order of the writes. The first fault wins."
 use mathlib.Core.Path.{_≡_}
-use mathlib.Core.Bool.{Bool, true, false}
 use mathlib.Core.List.{List, [], _∷_}
 use Prim.{Unit}
 use Prim.Native.Nat.{ℕ, _+_, _*_, _%_, _≤_}

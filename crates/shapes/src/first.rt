@@ -1,5 +1,4 @@
 // Opcodes 01h to 15h: the data stack, comparison.
-ghost use mathlib.Core.Path.{_≡_};
 ghost use Prim.Native.Nat.{_≤_};
 ghost use lib.ListN.{length};
 ghost use Rattle.machine.specs.Places as places;

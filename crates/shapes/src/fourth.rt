@@ -1,5 +1,4 @@
 // Opcodes 46h to 57h that take no operand: control, exceptions.
-ghost use mathlib.Core.Path.{_≡_};
 ghost use Prim.Native.Nat.{_≤_};
 ghost use lib.ListN.{length};
 ghost use Rattle.machine.specs.Places as places;

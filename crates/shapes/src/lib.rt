@@ -3,6 +3,7 @@ pub mod carrying;
 pub mod first;
 pub mod fourth;
 pub mod judging;
+pub mod looping;
 pub mod roll;
 pub mod second;
 pub mod taking;

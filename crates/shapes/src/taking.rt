@@ -1,16 +1,15 @@
 // The instructions that take an operand.
-ghost use Prim.Native.Nat.{_≤_};
 ghost use Rattle.machine.specs.Places as places;
 ghost use Rattle.instruction.specs.Taking as taking;
 ghost use Rattle.instruction.specs.declared.Form.the-variants as form;
 ghost use Rattle.shapes.specs.Shapes as shapes;
 use crate::Shape;
+use crate::looping::propose_loop;
+use crate::looping::propose_plus_loop;
 use instruction::Form;
 use instruction::control::branch;
 use instruction::control::call;
 use instruction::control::question_branch;
-use instruction::control::turn_loop;
-use instruction::control::turn_plus_loop;
 use instruction::literals::literal;
 use machine::Machine;
 use machine::Registers;
@@ -28,9 +27,9 @@ pub fn propose_taking(machine: Machine, memory: &[u8], r: Registers, kind: u32) 
         // CALL
         0x48 => Shape::One(call(machine, memory, r, Form::Immediate)),
         // (LOOP)
-        0x4C => Shape::Maybe(turn_loop(machine, memory, r, Form::Immediate)),
+        0x4C => Shape::Maybe(propose_loop(machine, memory, r)),
         // (+LOOP)
-        0x4E => Shape::Maybe(turn_plus_loop(machine, memory, r, Form::Immediate)),
+        0x4E => Shape::Maybe(propose_plus_loop(machine, memory, r)),
         // (LITERAL)
         _ => Shape::One(literal(machine, memory, r, Form::Immediate)),
     }

@@ -1,5 +1,4 @@
 // Opcodes 2Ch to 41h: arithmetic, logic, memory, the stack pointers.
-ghost use mathlib.Core.Path.{_≡_};
 ghost use Prim.Native.Nat.{_≤_};
 ghost use lib.ListN.{length};
 ghost use Rattle.machine.specs.Places as places;

@@ -6,7 +6,7 @@ use mathlib.Core.Path.{sym, ap, _∙_}
 use native.Mathlib.Omega.{arith}
 use denote.Ref.{now}
 use lib.Dec.{eqb}
-use lib.ListN.{length, getD}
+use lib.ListN.{getD}
 use Rattle.layout.specs.declared.Class.{Class}
 use Rattle.layout.specs.Listing.{listed}
 use Rattle.layout.specs.Packing.{formOf}
@@ -46,43 +46,188 @@ shared-slice-read-form-of-2 : tie.Need-shared-slice-read-form-of-2
 shared-slice-read-form-of-2 c = search needs
 
 form-of-requires : tie.Need-form-of-requires
-form-of-requires c κs = left-below (c .before .before .before .before .before .before .before .before .before .before .before .before .before .before .before .before .args .kinds .now) (c .before .before .before .before .before .before .before .before .before .before .before .before .before .before .before .before .args .operands .now) (c .before .before .before .before .before .before .before .before .before .before .before .before .before .before .before .before .args .entries .now) (c .before .before .before .before .before .before .before .before .before .before .before .before .before .before .before .before .args .marks .now) (c .before .before .before .before .before .before .before .before .before .before .before .before .before .before .before .before .args .ats .now) (c .before .before .before .before .before .before .before .before .before .before .before .before .before .before .before .before .args .eps .now) (c .before .before .before .before .before .before .before .before .before .before .before .before .before .before .before .before .args .lefts .now) (c .before .before .before .before .before .before .before .before .before .before .before .before .before .before .before .before .args .base) (c .before .before .before .before .before .before .before .before .before .before .before .before .before .before .before .before .args .cells) (c .before .before .before .before .before .before .before .before .before .before .before .before .before .before .before .before .pre .1 .0) (c .before .before .before .before .before .before .before .before .before .before .before .before .before .before .before .before .args .s .item .0) (c .before .before .before .before .before .before .before .before .before .before .before .before .before .before .before .before .pre .1 .1)
+form-of-requires c κs =
+    let args = c .before .before .before .before .before .before .before .before .before .before .before .before .before
+    .before .before .before .args in
+    let pre-here = c .before .before .before .before .before .before .before .before .before .before .before .before .before
+    .before .before .before .pre in
+    left-below (args .kinds .now) (args .operands .now) (args .entries .now) (args .marks .now) (args .ats .now) (args .eps
+    .now) (args .lefts .now) (args .base) (args .cells) (pre-here .1 .0) (args .s .item .0) (pre-here .1 .1)
 
 mul-shape-of : tie.Need-mul-shape-of
-mul-shape-of c = omega (arith, ep-room (c .before .before .before .before .before .before .before .before .before .before .before .before .before .before .before .before .before .args .kinds .now) (c .before .before .before .before .before .before .before .before .before .before .before .before .before .before .before .before .before .args .operands .now) (c .before .before .before .before .before .before .before .before .before .before .before .before .before .before .before .before .before .args .entries .now) (c .before .before .before .before .before .before .before .before .before .before .before .before .before .before .before .before .before .args .marks .now) (c .before .before .before .before .before .before .before .before .before .before .before .before .before .before .before .before .before .args .ats .now) (c .before .before .before .before .before .before .before .before .before .before .before .before .before .before .before .before .before .args .eps .now) (c .before .before .before .before .before .before .before .before .before .before .before .before .before .before .before .before .before .args .lefts .now) (c .before .before .before .before .before .before .before .before .before .before .before .before .before .before .before .before .before .args .base) (c .before .before .before .before .before .before .before .before .before .before .before .before .before .before .before .before .before .args .cells) (c .before .before .before .before .before .before .before .before .before .before .before .before .before .before .before .before .before .pre .1 .0) (c .before .before .before .before .before .before .before .before .before .before .before .before .before .before .before .before .before .args .s .item .0) (c .before .before .before .before .before .before .before .before .before .before .before .before .before .before .before .before .before .pre .1 .1))
+mul-shape-of c =
+    let args = c .before .before .before .before .before .before .before .before .before .before .before .before .before
+    .before .before .before .before .args in
+    let pre-here = c .before .before .before .before .before .before .before .before .before .before .before .before .before
+    .before .before .before .before .pre in
+    omega (
+      arith,
+      ep-room (args .kinds .now) (args .operands .now) (args .entries .now) (args .marks .now) (args .ats .now)
+          (args .eps .now) (args .lefts .now) (args .base) (args .cells) (pre-here .1 .0) (args .s .item .0) (pre-here .1 .1),
+    )
 
 add-shape-of : tie.Need-add-shape-of
-add-shape-of c = omega (arith, ep-room (c .before .before .before .before .before .before .before .before .before .before .before .before .before .before .before .before .before .args .kinds .now) (c .before .before .before .before .before .before .before .before .before .before .before .before .before .before .before .before .before .args .operands .now) (c .before .before .before .before .before .before .before .before .before .before .before .before .before .before .before .before .before .args .entries .now) (c .before .before .before .before .before .before .before .before .before .before .before .before .before .before .before .before .before .args .marks .now) (c .before .before .before .before .before .before .before .before .before .before .before .before .before .before .before .before .before .args .ats .now) (c .before .before .before .before .before .before .before .before .before .before .before .before .before .before .before .before .before .args .eps .now) (c .before .before .before .before .before .before .before .before .before .before .before .before .before .before .before .before .before .args .lefts .now) (c .before .before .before .before .before .before .before .before .before .before .before .before .before .before .before .before .before .args .base) (c .before .before .before .before .before .before .before .before .before .before .before .before .before .before .before .before .before .args .cells) (c .before .before .before .before .before .before .before .before .before .before .before .before .before .before .before .before .before .pre .1 .0) (c .before .before .before .before .before .before .before .before .before .before .before .before .before .before .before .before .before .args .s .item .0) (c .before .before .before .before .before .before .before .before .before .before .before .before .before .before .before .before .before .pre .1 .1), cells-room (c .before .before .before .before .before .before .before .before .before .before .before .before .before .before .before .before .before .args .kinds .now) (c .before .before .before .before .before .before .before .before .before .before .before .before .before .before .before .before .before .args .operands .now) (c .before .before .before .before .before .before .before .before .before .before .before .before .before .before .before .before .before .args .entries .now) (c .before .before .before .before .before .before .before .before .before .before .before .before .before .before .before .before .before .args .marks .now) (c .before .before .before .before .before .before .before .before .before .before .before .before .before .before .before .before .before .args .ats .now) (c .before .before .before .before .before .before .before .before .before .before .before .before .before .before .before .before .before .args .eps .now) (c .before .before .before .before .before .before .before .before .before .before .before .before .before .before .before .before .before .args .lefts .now) (c .before .before .before .before .before .before .before .before .before .before .before .before .before .before .before .before .before .args .base) (c .before .before .before .before .before .before .before .before .before .before .before .before .before .before .before .before .before .args .cells) (c .before .before .before .before .before .before .before .before .before .before .before .before .before .before .before .before .before .pre .1 .0) .2)
+add-shape-of c =
+    let args = c .before .before .before .before .before .before .before .before .before .before .before .before .before
+    .before .before .before .before .args in
+    let pre-here = c .before .before .before .before .before .before .before .before .before .before .before .before .before
+    .before .before .before .before .pre in
+    omega (
+      arith,
+      ep-room (args .kinds .now) (args .operands .now) (args .entries .now) (args .marks .now) (args .ats .now)
+          (args .eps .now) (args .lefts .now) (args .base) (args .cells) (pre-here .1 .0) (args .s .item .0) (pre-here .1 .1),
+      cells-room (args .kinds .now) (args .operands .now) (args .entries .now) (args .marks .now) (args .ats .now) (args .eps
+          .now) (args .lefts .now) (args .base) (args .cells) (pre-here .1 .0) .2,
+    )
 
 extra-of-requires : tie.Need-extra-of-requires
 extra-of-requires c κs = search needs
 
 add-shape-of-2 : tie.Need-add-shape-of-2
-add-shape-of-2 c = omega (arith, next-room (c .before .before .before .before .before .before .before .before .before .before .before .before .before .before .before .before .before .before .before .args .kinds .now) (c .before .before .before .before .before .before .before .before .before .before .before .before .before .before .before .before .before .before .before .args .operands .now) (c .before .before .before .before .before .before .before .before .before .before .before .before .before .before .before .before .before .before .before .args .entries .now) (c .before .before .before .before .before .before .before .before .before .before .before .before .before .before .before .before .before .before .before .args .marks .now) (c .before .before .before .before .before .before .before .before .before .before .before .before .before .before .before .before .before .before .before .args .ats .now) (c .before .before .before .before .before .before .before .before .before .before .before .before .before .before .before .before .before .before .before .args .eps .now) (c .before .before .before .before .before .before .before .before .before .before .before .before .before .before .before .before .before .before .before .args .lefts .now) (c .before .before .before .before .before .before .before .before .before .before .before .before .before .before .before .before .before .before .before .args .base) (c .before .before .before .before .before .before .before .before .before .before .before .before .before .before .before .before .before .before .before .args .cells) (c .before .before .before .before .before .before .before .before .before .before .before .before .before .before .before .before .before .before .before .pre .1 .0) (c .before .before .before .before .before .before .before .before .before .before .before .before .before .before .before .before .before .before .before .args .s .item .0) (c .before .before .before .before .before .before .before .before .before .before .before .before .before .before .before .before .before .before .before .pre .1 .1) (c .before .before .form-of .result) (c .before .before .form-of .ensures ∙ ap (λ (k : Class). formOf k (eqb (getD (c .before .before .before .before .before .before .before .before .before .before .before .before .before .before .before .before .before .before .before .args .marks .now) (c .before .before .before .before .before .before .before .before .before .before .before .before .before .before .before .before .before .before .before .args .s .item .0) 0) 1) (getD (c .before .before .before .before .before .before .before .before .before .before .before .before .before .before .before .before .before .before .before .args .operands .now) (c .before .before .before .before .before .before .before .before .before .before .before .before .before .before .before .before .before .before .before .args .s .item .0) 0) (getD (c .before .before .before .before .before .before .before .before .before .before .before .before .before .before .before .before .before .before .before .args .lefts .now) (c .before .before .before .before .before .before .before .before .before .before .before .before .before .before .before .before .before .before .before .args .s .item .0) 0)) (c .before .before .before .before .before .class-of .ensures)) (c .extra-of .result) (c .extra-of .ensures))
+add-shape-of-2 c =
+    let args = c .before .before .before .before .before .before .before .before .before .before .before .before .before
+    .before .before .before .before .before .before .args in
+    let pre-here = c .before .before .before .before .before .before .before .before .before .before .before .before .before
+    .before .before .before .before .before .before .pre in
+    let form-of = c .before .before .form-of in
+    omega (
+      arith,
+      next-room (args .kinds .now) (args .operands .now) (args .entries .now) (args .marks .now) (args .ats .now)
+          (args .eps .now) (args .lefts .now) (args .base) (args .cells) (pre-here .1 .0) (args .s .item .0) (pre-here .1 .1)
+          (form-of .result) (form-of .ensures ∙ ap (λ (k : Class). formOf k (eqb (getD (args .marks .now) (args .s .item .0) 0) 1)
+          (getD (args .operands .now) (args .s .item .0) 0) (getD (args .lefts .now) (args .s .item .0) 0)) (c .before .before
+          .before .before .before .class-of .ensures)) (c .extra-of .result) (c .extra-of .ensures),
+    )
 
 shape-of-requires : tie.Need-shape-of-requires
-shape-of-requires c κs = ((c .before .before .before .before .before .before .before .before .before .before .before .before .before .before .before .before .before .before .before .pre .0 .whole, c .before .before .before .before .before .before .before .before .before .before .before .before .before .before .before .before .before .before .before .pre .0 .most), (is-kind (listed (c .before .before .before .before .before .before .before .before .before .before .before .before .before .before .before .before .before .before .before .args .kinds .now) (c .before .before .before .before .before .before .before .before .before .before .before .before .before .before .before .before .before .before .before .args .operands .now)) (c .before .before .before .before .before .before .before .before .before .before .before .before .before .before .before .before .before .before .before .pre .1 .0 .checked .input) (c .before .before .before .before .before .before .before .before .before .before .before .before .before .before .before .before .before .before .before .args .s .item .0) (c .before .before .before .before .before .before .before .before .before .before .before .before .before .before .before .before .before .before .before .pre .1 .1), (target-room (c .before .before .before .before .before .before .before .before .before .before .before .before .before .before .before .before .before .before .before .args .kinds .now) (c .before .before .before .before .before .before .before .before .before .before .before .before .before .before .before .before .before .before .before .args .operands .now) (c .before .before .before .before .before .before .before .before .before .before .before .before .before .before .before .before .before .before .before .args .entries .now) (c .before .before .before .before .before .before .before .before .before .before .before .before .before .before .before .before .before .before .before .args .marks .now) (c .before .before .before .before .before .before .before .before .before .before .before .before .before .before .before .before .before .before .before .args .ats .now) (c .before .before .before .before .before .before .before .before .before .before .before .before .before .before .before .before .before .before .before .args .eps .now) (c .before .before .before .before .before .before .before .before .before .before .before .before .before .before .before .before .before .before .before .args .lefts .now) (c .before .before .before .before .before .before .before .before .before .before .before .before .before .before .before .before .before .before .before .args .base) (c .before .before .before .before .before .before .before .before .before .before .before .before .before .before .before .before .before .before .before .args .cells) (c .before .before .before .before .before .before .before .before .before .before .before .before .before .before .before .before .before .before .before .pre .1 .0) (c .before .before .before .before .before .before .before .before .before .before .before .before .before .before .before .before .before .before .before .args .s .item .0) (c .before .before .before .before .before .before .before .before .before .before .before .before .before .before .before .before .before .before .before .pre .1 .1), (omega (arith, cells-room (c .before .before .before .before .before .before .before .before .before .before .before .before .before .before .before .before .before .before .before .args .kinds .now) (c .before .before .before .before .before .before .before .before .before .before .before .before .before .before .before .before .before .before .before .args .operands .now) (c .before .before .before .before .before .before .before .before .before .before .before .before .before .before .before .before .before .before .before .args .entries .now) (c .before .before .before .before .before .before .before .before .before .before .before .before .before .before .before .before .before .before .before .args .marks .now) (c .before .before .before .before .before .before .before .before .before .before .before .before .before .before .before .before .before .before .before .args .ats .now) (c .before .before .before .before .before .before .before .before .before .before .before .before .before .before .before .before .before .before .before .args .eps .now) (c .before .before .before .before .before .before .before .before .before .before .before .before .before .before .before .before .before .before .before .args .lefts .now) (c .before .before .before .before .before .before .before .before .before .before .before .before .before .before .before .before .before .before .before .args .base) (c .before .before .before .before .before .before .before .before .before .before .before .before .before .before .before .before .before .before .before .args .cells) (c .before .before .before .before .before .before .before .before .before .before .before .before .before .before .before .before .before .before .before .pre .1 .0) .2), omega (arith, next-room (c .before .before .before .before .before .before .before .before .before .before .before .before .before .before .before .before .before .before .before .args .kinds .now) (c .before .before .before .before .before .before .before .before .before .before .before .before .before .before .before .before .before .before .before .args .operands .now) (c .before .before .before .before .before .before .before .before .before .before .before .before .before .before .before .before .before .before .before .args .entries .now) (c .before .before .before .before .before .before .before .before .before .before .before .before .before .before .before .before .before .before .before .args .marks .now) (c .before .before .before .before .before .before .before .before .before .before .before .before .before .before .before .before .before .before .before .args .ats .now) (c .before .before .before .before .before .before .before .before .before .before .before .before .before .before .before .before .before .before .before .args .eps .now) (c .before .before .before .before .before .before .before .before .before .before .before .before .before .before .before .before .before .before .before .args .lefts .now) (c .before .before .before .before .before .before .before .before .before .before .before .before .before .before .before .before .before .before .before .args .base) (c .before .before .before .before .before .before .before .before .before .before .before .before .before .before .before .before .before .before .before .args .cells) (c .before .before .before .before .before .before .before .before .before .before .before .before .before .before .before .before .before .before .before .pre .1 .0) (c .before .before .before .before .before .before .before .before .before .before .before .before .before .before .before .before .before .before .before .args .s .item .0) (c .before .before .before .before .before .before .before .before .before .before .before .before .before .before .before .before .before .before .before .pre .1 .1) (c .before .before .form-of .result) (c .before .before .form-of .ensures ∙ ap (λ (k : Class). formOf k (eqb (getD (c .before .before .before .before .before .before .before .before .before .before .before .before .before .before .before .before .before .before .before .args .marks .now) (c .before .before .before .before .before .before .before .before .before .before .before .before .before .before .before .before .before .before .before .args .s .item .0) 0) 1) (getD (c .before .before .before .before .before .before .before .before .before .before .before .before .before .before .before .before .before .before .before .args .operands .now) (c .before .before .before .before .before .before .before .before .before .before .before .before .before .before .before .before .before .before .before .args .s .item .0) 0) (getD (c .before .before .before .before .before .before .before .before .before .before .before .before .before .before .before .before .before .before .before .args .lefts .now) (c .before .before .before .before .before .before .before .before .before .before .before .before .before .before .before .before .before .before .before .args .s .item .0) 0)) (c .before .before .before .before .before .class-of .ensures)) (c .extra-of .result) (c .extra-of .ensures))))))
+shape-of-requires c κs =
+    let args = c .before .before .before .before .before .before .before .before .before .before .before .before .before
+    .before .before .before .before .before .before .args in
+    let pre-here = c .before .before .before .before .before .before .before .before .before .before .before .before .before
+    .before .before .before .before .before .before .pre in
+    let form-of = c .before .before .form-of in (
+      (pre-here .0 .whole, pre-here .0 .most),
+      (
+        is-kind (listed (args .kinds .now) (args .operands .now)) (pre-here .1 .0
+            .checked .input) (args .s .item .0) (pre-here .1 .1),
+        (
+          target-room (args .kinds .now) (args .operands .now) (args .entries
+              .now) (args .marks .now) (args .ats .now) (args .eps .now) (args .lefts .now) (args .base) (args .cells) (pre-here .1 .0)
+              (args .s .item .0) (pre-here .1 .1),
+          (
+            omega (
+              arith,
+              cells-room (args .kinds .now) (args .operands .now) (args .entries
+                  .now) (args .marks .now) (args .ats .now) (args .eps .now) (args .lefts .now) (args .base) (args .cells) (pre-here .1 .0)
+                  .2,
+            ),
+            omega (
+              arith,
+              next-room (args .kinds .now) (args .operands .now) (args .entries .now) (args .marks .now) (args .ats
+                  .now) (args .eps .now) (args .lefts .now) (args .base) (args .cells) (pre-here .1 .0) (args .s .item .0) (pre-here .1 .1)
+                  (form-of .result) (form-of .ensures ∙ ap (λ (k : Class). formOf k (eqb (getD (args .marks .now) (args .s .item .0) 0) 1)
+                  (getD (args .operands .now) (args .s .item .0) 0) (getD (args .lefts .now) (args .s .item .0) 0)) (c .before .before
+                  .before .before .before .class-of .ensures)) (c .extra-of .result) (c .extra-of .ensures),
+            ),
+          ),
+        ),
+      ),
+    )
 
 mul-intent-of : tie.Need-mul-intent-of
-mul-intent-of c = omega (arith, cells-room (c .before .before .before .before .before .before .before .before .before .before .before .before .before .before .before .before .before .before .before .before .before .args .kinds .now) (c .before .before .before .before .before .before .before .before .before .before .before .before .before .before .before .before .before .before .before .before .before .args .operands .now) (c .before .before .before .before .before .before .before .before .before .before .before .before .before .before .before .before .before .before .before .before .before .args .entries .now) (c .before .before .before .before .before .before .before .before .before .before .before .before .before .before .before .before .before .before .before .before .before .args .marks .now) (c .before .before .before .before .before .before .before .before .before .before .before .before .before .before .before .before .before .before .before .before .before .args .ats .now) (c .before .before .before .before .before .before .before .before .before .before .before .before .before .before .before .before .before .before .before .before .before .args .eps .now) (c .before .before .before .before .before .before .before .before .before .before .before .before .before .before .before .before .before .before .before .before .before .args .lefts .now) (c .before .before .before .before .before .before .before .before .before .before .before .before .before .before .before .before .before .before .before .before .before .args .base) (c .before .before .before .before .before .before .before .before .before .before .before .before .before .before .before .before .before .before .before .before .before .args .cells) (c .before .before .before .before .before .before .before .before .before .before .before .before .before .before .before .before .before .before .before .before .before .pre .1 .0) .1)
+mul-intent-of c =
+    let args = c .before .before .before .before .before .before .before .before .before .before .before .before .before
+    .before .before .before .before .before .before .before .before .args in
+    let pre-here = c .before .before .before .before .before .before .before .before .before .before .before .before .before
+    .before .before .before .before .before .before .before .before .pre in
+    omega (
+      arith,
+      cells-room (args .kinds .now) (args .operands .now) (args .entries .now) (args .marks .now) (args .ats .now)
+          (args .eps .now) (args .lefts .now) (args .base) (args .cells) (pre-here .1 .0) .1,
+    )
 
 add-intent-of : tie.Need-add-intent-of
-add-intent-of c = omega (arith, cells-room (c .before .before .before .before .before .before .before .before .before .before .before .before .before .before .before .before .before .before .before .before .before .args .kinds .now) (c .before .before .before .before .before .before .before .before .before .before .before .before .before .before .before .before .before .before .before .before .before .args .operands .now) (c .before .before .before .before .before .before .before .before .before .before .before .before .before .before .before .before .before .before .before .before .before .args .entries .now) (c .before .before .before .before .before .before .before .before .before .before .before .before .before .before .before .before .before .before .before .before .before .args .marks .now) (c .before .before .before .before .before .before .before .before .before .before .before .before .before .before .before .before .before .before .before .before .before .args .ats .now) (c .before .before .before .before .before .before .before .before .before .before .before .before .before .before .before .before .before .before .before .before .before .args .eps .now) (c .before .before .before .before .before .before .before .before .before .before .before .before .before .before .before .before .before .before .before .before .before .args .lefts .now) (c .before .before .before .before .before .before .before .before .before .before .before .before .before .before .before .before .before .before .before .before .before .args .base) (c .before .before .before .before .before .before .before .before .before .before .before .before .before .before .before .before .before .before .before .before .before .args .cells) (c .before .before .before .before .before .before .before .before .before .before .before .before .before .before .before .before .before .before .before .before .before .pre .1 .0) .2)
+add-intent-of c =
+    let args = c .before .before .before .before .before .before .before .before .before .before .before .before .before
+    .before .before .before .before .before .before .before .before .args in
+    let pre-here = c .before .before .before .before .before .before .before .before .before .before .before .before .before
+    .before .before .before .before .before .before .before .before .pre in
+    omega (
+      arith,
+      cells-room (args .kinds .now) (args .operands .now) (args .entries .now) (args .marks .now) (args .ats .now)
+          (args .eps .now) (args .lefts .now) (args .base) (args .cells) (pre-here .1 .0) .2,
+    )
 
 is-immediate-requires : tie.Need-is-immediate-requires
 is-immediate-requires c κs = search needs
 
 intent-of-requires : tie.Need-intent-of-requires
-intent-of-requires c κs = (omega (arith, c .before .before .before .before .before .before .before .before .before .before .before .before .before .before .before .before .before .before .before .before .before .before .pre .0 .least), (c .before .before .shape-of .ensures .fits, ((c .before .before .before .before .before .before .before .before .before .before .before .before .before .before .before .before .before .before .before .before .before .before .pre .1 .0 .ats-length ∙ sym (c .before .before .before .before .before .before .before .before .before .before .before .before .before .before .before .before .before .before .before .before .before .before .pre .1 .0 .entries-length), omega (arith, c .before .before .before .before .before .before .before .before .before .before .before .before .before .before .before .before .before .before .before .before .before .before .pre .1 .0 .entries-length, some-item (listed (c .before .before .before .before .before .before .before .before .before .before .before .before .before .before .before .before .before .before .before .before .before .before .args .kinds .now) (c .before .before .before .before .before .before .before .before .before .before .before .before .before .before .before .before .before .before .before .before .before .before .args .operands .now)) (c .before .before .before .before .before .before .before .before .before .before .before .before .before .before .before .before .before .before .before .before .before .before .pre .1 .0 .checked .input) .1)), (omega (arith, (c .before .before .before .before .before .before .before .before .before .before .before .before .before .before .before .before .before .before .before .before .before .before .pre .1 .1), some-item (listed (c .before .before .before .before .before .before .before .before .before .before .before .before .before .before .before .before .before .before .before .before .before .before .args .kinds .now) (c .before .before .before .before .before .before .before .before .before .before .before .before .before .before .before .before .before .before .before .before .before .before .args .operands .now)) (c .before .before .before .before .before .before .before .before .before .before .before .before .before .before .before .before .before .before .before .before .before .before .pre .1 .0 .checked .input) .1), omega (arith, cells-room (c .before .before .before .before .before .before .before .before .before .before .before .before .before .before .before .before .before .before .before .before .before .before .args .kinds .now) (c .before .before .before .before .before .before .before .before .before .before .before .before .before .before .before .before .before .before .before .before .before .before .args .operands .now) (c .before .before .before .before .before .before .before .before .before .before .before .before .before .before .before .before .before .before .before .before .before .before .args .entries .now) (c .before .before .before .before .before .before .before .before .before .before .before .before .before .before .before .before .before .before .before .before .before .before .args .marks .now) (c .before .before .before .before .before .before .before .before .before .before .before .before .before .before .before .before .before .before .before .before .before .before .args .ats .now) (c .before .before .before .before .before .before .before .before .before .before .before .before .before .before .before .before .before .before .before .before .before .before .args .eps .now) (c .before .before .before .before .before .before .before .before .before .before .before .before .before .before .before .before .before .before .before .before .before .before .args .lefts .now) (c .before .before .before .before .before .before .before .before .before .before .before .before .before .before .before .before .before .before .before .before .before .before .args .base) (c .before .before .before .before .before .before .before .before .before .before .before .before .before .before .before .before .before .before .before .before .before .before .args .cells) (c .before .before .before .before .before .before .before .before .before .before .before .before .before .before .before .before .before .before .before .before .before .before .pre .1 .0) .0)))))
+intent-of-requires c κs =
+    let args = c .before .before .before .before .before .before .before .before .before .before .before .before .before
+    .before .before .before .before .before .before .before .before .before .args in
+    let pre-here = c .before .before .before .before .before .before .before .before .before .before .before .before .before
+    .before .before .before .before .before .before .before .before .before .pre in (
+      omega (arith, pre-here .0 .least),
+      (
+        c .before .before .shape-of .ensures .fits,
+        (
+          (
+            pre-here .1 .0 .ats-length ∙ sym
+                (pre-here .1 .0 .entries-length),
+            omega (
+              arith,
+              pre-here .1 .0 .entries-length,
+              some-item (listed (args .kinds .now) (args
+                  .operands .now)) (pre-here .1 .0 .checked .input) .1,
+            ),
+          ),
+          (
+            omega (
+              arith,
+              (pre-here .1 .1),
+              some-item (listed (args .kinds
+                  .now) (args .operands .now)) (pre-here .1 .0 .checked .input) .1,
+            ),
+            omega (
+              arith,
+              cells-room (args .kinds .now) (args
+                  .operands .now) (args .entries .now) (args .marks .now) (args .ats .now) (args .eps .now) (args .lefts .now) (args .base)
+                  (args .cells) (pre-here .1 .0) .0,
+            ),
+          ),
+        ),
+      ),
+    )
 
 perform-requires : tie.Need-perform-requires
-perform-requires c κs = (c .before .before .before .before .before .before .before .before .before .before .before .before .before .before .before .before .before .before .before .before .before .before .before .before .pre .0 .whole, (omega (arith, c .before .before .before .before .before .before .before .before .before .before .before .before .before .before .before .before .before .before .before .before .before .before .before .before .pre .0 .least), c .before .before .before .before .shape-of .ensures .fits))
+perform-requires c κs =
+    let pre-here = c .before .before .before .before .before .before .before .before .before .before .before .before .before
+    .before .before .before .before .before .before .before .before .before .before .before .pre in
+    (pre-here .0 .whole, (omega (arith, pre-here .0 .least), c .before .before .before .before .shape-of .ensures .fits))
 
 same-length : tie.Need-same-length
 same-length c = search needs
 
 returns : tie.Need-returns
-returns c = c .before .before .perform .ensures ∙ ap (leaves (now (c .before .before .before .before .before .before .before .before .before .before .before .before .before .before .before .before .before .before .before .before .before .before .before .before .before .before .before .args .memory))) (carry-is (c .before .before .before .before .before .before .before .before .before .before .before .before .before .before .before .before .before .before .before .before .before .before .before .before .before .before .before .args .kinds .now) (c .before .before .before .before .before .before .before .before .before .before .before .before .before .before .before .before .before .before .before .before .before .before .before .before .before .before .before .args .operands .now) (c .before .before .before .before .before .before .before .before .before .before .before .before .before .before .before .before .before .before .before .before .before .before .before .before .before .before .before .args .entries .now) (c .before .before .before .before .before .before .before .before .before .before .before .before .before .before .before .before .before .before .before .before .before .before .before .before .before .before .before .args .marks .now) (c .before .before .before .before .before .before .before .before .before .before .before .before .before .before .before .before .before .before .before .before .before .before .before .before .before .before .before .args .ats .now) (c .before .before .before .before .before .before .before .before .before .before .before .before .before .before .before .before .before .before .before .before .before .before .before .before .before .before .before .args .eps .now) (c .before .before .before .before .before .before .before .before .before .before .before .before .before .before .before .before .before .before .before .before .before .before .before .before .before .before .before .args .lefts .now) (c .before .before .before .before .before .before .before .before .before .before .before .before .before .before .before .before .before .before .before .before .before .before .before .before .before .before .before .args .base) (c .before .before .before .before .before .before .before .before .before .before .before .before .before .before .before .before .before .before .before .before .before .before .before .before .before .before .before .args .cells) (c .before .before .before .before .before .before .before .before .before .before .before .before .before .before .before .before .before .before .before .before .before .before .before .before .before .before .before .pre .1 .0) (c .before .before .before .before .before .before .before .before .before .before .before .before .before .before .before .before .before .before .before .before .before .before .before .before .before .before .before .args .machine) (now (c .before .before .before .before .before .before .before .before .before .before .before .before .before .before .before .before .before .before .before .before .before .before .before .before .before .before .before .args .memory)) (c .before .before .before .before .before .before .before .before .before .before .before .before .before .before .before .before .before .before .before .before .before .before .before .before .before .before .before .pre .0) (c .before .before .before .before .before .before .before .before .before .before .before .before .before .before .before .before .before .before .before .before .before .before .before .before .before .before .before .args .s) (c .before .before .before .before .before .before .before .before .before .before .before .before .before .before .before .before .before .before .before .before .before .before .before .before .before .before .before .pre .1 .1) (c .before .before .before .before .before .before .before .before .before .before .form-of .result) (c .before .before .before .before .before .before .before .before .before .before .form-of .ensures ∙ ap (λ (k : Class). formOf k (eqb (getD (c .before .before .before .before .before .before .before .before .before .before .before .before .before .before .before .before .before .before .before .before .before .before .before .before .before .before .before .args .marks .now) (c .before .before .before .before .before .before .before .before .before .before .before .before .before .before .before .before .before .before .before .before .before .before .before .before .before .before .before .args .s .item .0) 0) 1) (getD (c .before .before .before .before .before .before .before .before .before .before .before .before .before .before .before .before .before .before .before .before .before .before .before .before .before .before .before .args .operands .now) (c .before .before .before .before .before .before .before .before .before .before .before .before .before .before .before .before .before .before .before .before .before .before .before .before .before .before .before .args .s .item .0) 0) (getD (c .before .before .before .before .before .before .before .before .before .before .before .before .before .before .before .before .before .before .before .before .before .before .before .before .before .before .before .args .lefts .now) (c .before .before .before .before .before .before .before .before .before .before .before .before .before .before .before .before .before .before .before .before .before .before .before .before .before .before .before .args .s .item .0) 0)) (c .before .before .before .before .before .before .before .before .before .before .before .before .before .class-of .ensures)) (c .before .before .before .before .before .before .before .before .extra-of .result) (c .before .before .before .before .before .before .before .before .extra-of .ensures) (c .before .before .before .before .before .before .before .shape-of .result) (c .before .before .before .before .before .before .before .shape-of .ensures) (c .before .before .before .before .before .is-immediate .result) (c .before .before .before .before .before .is-immediate .ensures) (c .before .before .before .before .intent-of .result) (c .before .before .before .before .intent-of .ensures))
+returns c =
+    let args = c .before .before .before .before .before .before .before .before .before .before .before .before .before
+    .before .before .before .before .before .before .before .before .before .before .before .before .before .before .args in
+    let pre-here = c .before .before .before .before .before .before .before .before .before .before .before .before .before
+    .before .before .before .before .before .before .before .before .before .before .before .before .before .before .pre in
+    let class-of = c .before .before .before .before .before .before .before .before .before .before .before .before .before
+    .class-of in
+    let form-of = c .before .before .before .before .before .before .before .before .before .before .form-of in
+    let extra-of = c .before .before .before .before .before .before .before .before .extra-of in
+    let shape-of = c .before .before .before .before .before .before .before .shape-of in
+    let is-immediate = c .before .before .before .before .before .is-immediate in
+    let intent-of = c .before .before .before .before .intent-of in
+    c .before .before .perform .ensures ∙ ap (leaves (now (args .memory))) (carry-is (args .kinds .now) (args .operands .now)
+    (args .entries .now) (args .marks .now) (args .ats .now) (args .eps .now) (args .lefts .now) (args .base) (args .cells)
+    (pre-here .1 .0) (args .machine) (now (args .memory)) (pre-here .0) (args .s) (pre-here .1 .1) (form-of .result) (form-of
+    .ensures ∙ ap (λ (k : Class). formOf k (eqb (getD (args .marks .now) (args .s .item .0) 0) 1) (getD (args .operands .now)
+    (args .s .item .0) 0) (getD (args .lefts .now) (args .s .item .0) 0)) (class-of .ensures)) (extra-of .result) (extra-of
+    .ensures) (shape-of .result) (shape-of .ensures) (is-immediate .result) (is-immediate .ensures) (intent-of .result)
+    (intent-of .ensures))
 
 pub carry-out-spec : {M : Type 1} → statement M
 carry-out-spec =

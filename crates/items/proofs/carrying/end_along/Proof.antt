@@ -28,13 +28,25 @@ same-length : tie.Need-same-length
 same-length c = search needs
 
 returns : tie.Need-returns
-returns c = rw (c .before .before .before .before .before .before .before .way .given .1, ← c .before .before .before .before .end .ensures, c .arrive .ensures)
+returns c =
+    rw (
+      c .before .before .before .before .before .before .before .way .given .1,
+      ← c .before .before .before .before .end
+          .ensures,
+      c .arrive .ensures,
+    )
 
 same-length-2 : tie.Need-same-length-2
 same-length-2 c = search needs
 
 returns-2 : tie.Need-returns-2
-returns-2 c = rw (c .before .before .before .before .before .before .before .before .way2 .given .1, ← c .before .before .before .before .before .end2 .ensures, c .arrive2 .ensures)
+returns-2 c =
+    rw (
+      c .before .before .before .before .before .before .before .before .way2 .given .1,
+      ← c .before .before .before .before
+          .before .end2 .ensures,
+      c .arrive2 .ensures,
+    )
 
 returns-3 : tie.Need-returns-3
 returns-3 c = rw (c .enum-told .given .1)

@@ -1,11 +1,8 @@
 -- `entry_at` meets its contract: the search goes from the last item down.
 use Rattle.items.proofs.finding.entry_at.Statement.{statement}
 use Rattle.items.proofs.finding.entry_at.Tie as tie
-use Rattle.items.proofs.finding.entry_at.Lts as lts
 use Prim.Native.Nat.{_-_}
 use native.Mathlib.Omega.{arith}
-use denote.Ref.{now}
-use lib.ListN.{length}
 use Rattle.items.proofs.EntryLaws.{Seeking, seek-begins, seek-finds, seek-turns, seek-ends}
 
 abbrev Inv-loop : tie.InvT-loop
@@ -27,22 +24,33 @@ mul-is-placed : tie.Need-mul-is-placed Inv-loop μ-loop
 mul-is-placed c = omega (arith, c .before .before .loop .inv .inside, c .before .before .before .before .before .pre .1)
 
 shared-slice-read-is-placed-2 : tie.Need-shared-slice-read-is-placed-2 Inv-loop μ-loop
-shared-slice-read-is-placed-2 c = omega (arith, c .before .before .before .loop .inv .inside, c .before .before .before .before .before .before .pre .0)
+shared-slice-read-is-placed-2 c =
+    omega (arith, c .before .before .before .loop .inv .inside, c .before .before .before .before .before .before .pre .0)
 
 is-placed-requires : tie.Need-is-placed-requires Inv-loop μ-loop
 is-placed-requires c κs = tt
 
 cast-t13 : tie.Need-cast-t13 Inv-loop μ-loop
-cast-t13 c = omega (arith, c .before .before .before .before .before .loop .inv .inside, c .before .before .before .before .before .before .before .before .pre .1)
+cast-t13 c =
+    omega (
+      arith,
+      c .before .before .before .before .before .loop .inv .inside,
+      c .before .before .before .before .before
+          .before .before .before .pre .1,
+    )
 
 returns : tie.Need-returns Inv-loop μ-loop
-returns c = seek-finds _ _ _ _ _ (c .before .before .before .before .before .loop .inv) _ (c .before .before .before .before .loop-test .taken) (c .before .is-placed .ensures) (c .if1 .taken)
+returns c =
+    seek-finds _ _ _ _ _ (c .before .before .before .before .before .loop .inv) _ (c .before .before .before .before
+    .loop-test .taken) (c .before .is-placed .ensures) (c .if1 .taken)
 
 loop-less : tie.Need-loop-less Inv-loop μ-loop
 loop-less c = omega arith
 
 loop-again : tie.Need-loop-again Inv-loop μ-loop
-loop-again c = seek-turns _ _ _ _ _ (c .before .before .before .before .before .loop .inv) _ (c .before .before .before .before .loop-test .taken) (c .before .is-placed .ensures) (c .if1 .left)
+loop-again c =
+    seek-turns _ _ _ _ _ (c .before .before .before .before .before .loop .inv) _ (c .before .before .before .before
+    .loop-test .taken) (c .before .is-placed .ensures) (c .if1 .left)
 
 returns-2 : tie.Need-returns-2 Inv-loop μ-loop
 returns-2 c = seek-ends _ _ _ _ _ (c .before .loop .inv) (c .loop-test .left)

@@ -2,7 +2,7 @@
 use borrow.Author.Needs.{needs}
 use Rattle.items.proofs.judging.given_way.Statement.{statement}
 use Rattle.items.proofs.judging.given_way.Tie as tie
-use mathlib.Core.Path.{sym, _∙_, ap}
+use mathlib.Core.Path.{_∙_}
 use borrow.Author.Tests.{eq-eqb, ne-eqb}
 
 load-requires : tie.Need-load-requires

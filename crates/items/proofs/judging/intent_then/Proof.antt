@@ -2,10 +2,6 @@
 use borrow.Author.Needs.{needs}
 use Rattle.items.proofs.judging.intent_then.Statement.{statement}
 use Rattle.items.proofs.judging.intent_then.Tie as tie
-use mathlib.Core.Path.{sym, _∙_, ap}
-use Rattle.items.specs.Ways as ways
-use Rattle.items.specs.declared.Intent.the-variants.{Act, End}
-use Rattle.items.specs.declared.Cause.the-variants as cause
 
 enum-told : tie.Need-enum-told
 enum-told c = search needs

@@ -2,9 +2,6 @@
 use borrow.Author.Needs.{needs}
 use Rattle.shapes.proofs.carrying.commit_roll.Statement.{statement}
 use Rattle.shapes.proofs.carrying.commit_roll.Tie as tie
-use Rattle.machine.specs.Commits as commits
-use Rattle.instruction.proofs.RollingLaws.{rolled-places}
-use native.Mathlib.Omega.{arith}
 use mathlib.Core.Path.{sym}
 use denote.Ref.{now}
 use Rattle.shapes.proofs.WritesLaws.{roll-committed}
@@ -22,7 +19,11 @@ same-length : tie.Need-same-length
 same-length c = search needs
 
 returns : tie.Need-returns
-returns c = rw (c .before .before .roll-cells .ensures) (sym (roll-committed (c .before .before .before .before .before .before .before .args .machine) (now (c .before .before .before .before .before .before .before .args .memory)) (c .before .before .before .before .before .before .before .args .r) (c .before .before .before .before .before .before .before .args .e) (c .before .before .before .before .before .before .before .pre)))
+returns c =
+    let args = c .before .before .before .before .before .before .before .args in
+    let pre-here = c .before .before .before .before .before .before .before .pre in
+    rw (c .before .before .roll-cells .ensures) (sym (roll-committed (args .machine) (now (args .memory)) (args .r) (args .e)
+    (pre-here)))
 
 pub commit-roll-spec : {M : Type 1} → statement M
 commit-roll-spec =

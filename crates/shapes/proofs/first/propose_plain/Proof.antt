@@ -3,7 +3,6 @@ use borrow.Author.Needs.{needs}
 use Rattle.shapes.proofs.first.propose_plain.Statement.{statement}
 use Rattle.shapes.proofs.first.propose_plain.Tie as tie
 use Prim.{tt}
-use Rattle.instruction.specs.Plain as plain
 use Rattle.dispatch.specs.Dispatch as dispatch
 use Rattle.dispatch.proofs.OpcodeLaws.{past}
 
@@ -71,7 +70,25 @@ zero-equal-requires : tie.Need-zero-equal-requires
 zero-equal-requires c κs = search needs
 
 propose-second-requires : tie.Need-propose-second-requires
-propose-second-requires c κs = (c .before .before .pre .0, (c .before .before .pre .1 .0, past 0x15 (past 0x14 (past 0x13 (past 0x12 (past 0x11 (past 0x10 (past 0x0F (past 0x0E (past 0x0D (past 0x0C (past 0x0B (past 0x0A (past 0x09 (past 0x08 (past 0x07 (past 0x06 (past 0x05 (past 0x04 (past 0x03 (past 0x02 (past 0x01 (c .before .before .pre .1 .1) (c .match .rest .0 .0 .0 .0 .0 .0 .0 .0 .0 .0 .0 .0 .0 .0 .0 .0 .0 .0 .0 .0 .1)) (c .match .rest .0 .0 .0 .0 .0 .0 .0 .0 .0 .0 .0 .0 .0 .0 .0 .0 .0 .0 .0 .1)) (c .match .rest .0 .0 .0 .0 .0 .0 .0 .0 .0 .0 .0 .0 .0 .0 .0 .0 .0 .0 .1)) (c .match .rest .0 .0 .0 .0 .0 .0 .0 .0 .0 .0 .0 .0 .0 .0 .0 .0 .0 .1)) (c .match .rest .0 .0 .0 .0 .0 .0 .0 .0 .0 .0 .0 .0 .0 .0 .0 .0 .1)) (c .match .rest .0 .0 .0 .0 .0 .0 .0 .0 .0 .0 .0 .0 .0 .0 .0 .1)) (c .match .rest .0 .0 .0 .0 .0 .0 .0 .0 .0 .0 .0 .0 .0 .0 .1)) (c .match .rest .0 .0 .0 .0 .0 .0 .0 .0 .0 .0 .0 .0 .0 .1)) (c .match .rest .0 .0 .0 .0 .0 .0 .0 .0 .0 .0 .0 .0 .1)) (c .match .rest .0 .0 .0 .0 .0 .0 .0 .0 .0 .0 .0 .1)) (c .match .rest .0 .0 .0 .0 .0 .0 .0 .0 .0 .0 .1)) (c .match .rest .0 .0 .0 .0 .0 .0 .0 .0 .0 .1)) (c .match .rest .0 .0 .0 .0 .0 .0 .0 .0 .1)) (c .match .rest .0 .0 .0 .0 .0 .0 .0 .1)) (c .match .rest .0 .0 .0 .0 .0 .0 .1)) (c .match .rest .0 .0 .0 .0 .0 .1)) (c .match .rest .0 .0 .0 .0 .1)) (c .match .rest .0 .0 .0 .1)) (c .match .rest .0 .0 .1)) (c .match .rest .0 .1)) (c .match .rest .1)))
+propose-second-requires c κs =
+    let pre-here = c .before .before .pre in (
+      pre-here .0,
+      (
+        pre-here .1 .0,
+        past 0x15 (past 0x14 (past 0x13 (past 0x12 (past 0x11 (past 0x10 (past 0x0F (past 0x0E
+            (past 0x0D (past 0x0C (past 0x0B (past 0x0A (past 0x09 (past 0x08 (past 0x07 (past 0x06 (past 0x05 (past 0x04 (past 0x03
+            (past 0x02 (past 0x01 (pre-here .1 .1) (c .match .rest .0 .0 .0 .0 .0 .0 .0 .0 .0 .0 .0 .0 .0 .0 .0 .0 .0 .0 .0 .0 .1)) (c
+            .match .rest .0 .0 .0 .0 .0 .0 .0 .0 .0 .0 .0 .0 .0 .0 .0 .0 .0 .0 .0 .1)) (c .match .rest .0 .0 .0 .0 .0 .0 .0 .0 .0 .0
+            .0 .0 .0 .0 .0 .0 .0 .0 .1)) (c .match .rest .0 .0 .0 .0 .0 .0 .0 .0 .0 .0 .0 .0 .0 .0 .0 .0 .0 .1)) (c .match .rest .0 .0
+            .0 .0 .0 .0 .0 .0 .0 .0 .0 .0 .0 .0 .0 .0 .1)) (c .match .rest .0 .0 .0 .0 .0 .0 .0 .0 .0 .0 .0 .0 .0 .0 .0 .1)) (c .match
+            .rest .0 .0 .0 .0 .0 .0 .0 .0 .0 .0 .0 .0 .0 .0 .1)) (c .match .rest .0 .0 .0 .0 .0 .0 .0 .0 .0 .0 .0 .0 .0 .1)) (c .match
+            .rest .0 .0 .0 .0 .0 .0 .0 .0 .0 .0 .0 .0 .1)) (c .match .rest .0 .0 .0 .0 .0 .0 .0 .0 .0 .0 .0 .1)) (c .match .rest .0 .0
+            .0 .0 .0 .0 .0 .0 .0 .0 .1)) (c .match .rest .0 .0 .0 .0 .0 .0 .0 .0 .0 .1)) (c .match .rest .0 .0 .0 .0 .0 .0 .0 .0 .1))
+            (c .match .rest .0 .0 .0 .0 .0 .0 .0 .1)) (c .match .rest .0 .0 .0 .0 .0 .0 .1)) (c .match .rest .0 .0 .0 .0 .0 .1)) (c
+            .match .rest .0 .0 .0 .0 .1)) (c .match .rest .0 .0 .0 .1)) (c .match .rest .0 .0 .1)) (c .match .rest .0 .1)) (c .match
+            .rest .1),
+      ),
+    )
 
 returns : tie.Need-returns
 unfolding dispatch.decodeOf
@@ -111,7 +128,11 @@ returns-9 c = record { effect = rw (c .before .match .keys9) (c .pick .ensures);
 
 returns-10 : tie.Need-returns-10
 unfolding dispatch.decodeOf
-returns-10 c = record { effect = rw (c .before .match .keys10) (c .propose-roll .ensures .effect); fits = c .propose-roll .ensures .fits }
+returns-10 c =
+    record {
+      effect = rw (c .before .match .keys10) (c .propose-roll .ensures .effect);
+      fits = c .propose-roll .ensures .fits;
+    }
 
 returns-11 : tie.Need-returns-11
 unfolding dispatch.decodeOf

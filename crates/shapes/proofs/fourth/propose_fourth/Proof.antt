@@ -70,7 +70,26 @@ unfolding dispatch.decodeOf
 returns-9 c = record { effect = rw (c .before .match .keys9) (c .lib .ensures); fits = tt }
 
 returns-10 : tie.Need-returns-10
-returns-10 c = record { effect = sym (rest-raises (c .before .before .args .machine) (now (c .before .before .args .memory)) (c .before .before .args .r .ep) (c .before .before .args .r .sp) (c .before .before .args .r .rp) (c .before .before .args .opcode) (record { from = c .before .before .pre .1 .1; n46 = c .match .rest .0 .0 .0 .0 .0 .0 .0 .0 .1; n47 = c .match .rest .0 .0 .0 .0 .0 .0 .0 .1; n4A = c .match .rest .0 .0 .0 .0 .0 .0 .1; n4B = c .match .rest .0 .0 .0 .0 .0 .1; n50 = c .match .rest .0 .0 .0 .0 .1; n51 = c .match .rest .0 .0 .0 .1; n54 = c .match .rest .0 .0 .1; n55 = c .match .rest .0 .1; n57 = c .match .rest .1 })); fits = tt }
+returns-10 c =
+    let args = c .before .before .args in
+    record {
+      effect = sym (rest-raises (args .machine) (now (args .memory)) (args .r .ep) (args .r .sp) (args .r .rp) (args
+          .opcode) (record {
+            from = c .before .before .pre .1 .1;
+            n46 = c .match .rest .0 .0 .0 .0 .0 .0 .0 .0 .1;
+            n47 = c .match
+                .rest .0 .0 .0 .0 .0 .0 .0 .1;
+            n4A = c .match .rest .0 .0 .0 .0 .0 .0 .1;
+            n4B = c .match .rest .0 .0 .0 .0 .0 .1;
+            n50 = c
+                .match .rest .0 .0 .0 .0 .1;
+            n51 = c .match .rest .0 .0 .0 .1;
+            n54 = c .match .rest .0 .0 .1;
+            n55 = c .match .rest .0 .1;
+            n57 = c .match .rest .1;
+          }));
+      fits = tt;
+    }
 
 pub propose-fourth-spec : {M : Type 1} → statement M
 propose-fourth-spec =

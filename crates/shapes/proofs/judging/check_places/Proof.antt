@@ -2,7 +2,7 @@
 use borrow.Author.Needs.{needs}
 use Rattle.shapes.proofs.judging.check_places.Statement.{statement}
 use Rattle.shapes.proofs.judging.check_places.Tie as tie
-use mathlib.Core.Path.{sym, _∙_, ap}
+use mathlib.Core.Path.{sym, _∙_}
 use native.Mathlib.Omega.{arith}
 use Rattle.machine.specs.Commits as commits
 use Rattle.instruction.proofs.RollingLaws.{rolled-places}
@@ -81,17 +81,27 @@ unfolding commits.placesOf
 returns-4 c = rw (c .before .before .before .shape2 .given .1, c .if1 .left)
 
 returns-5 : tie.Need-returns-5
-returns-5 c = rw (c .before .before .before .before .before .before .shape3 .given .1) (c .first-bad .ensures ∙ ap₂ commits.firstBad (c .before .before .check-write3 .ensures) (c .before .check-write4 .ensures) ∙ places-more _ _ _ _)
+returns-5 c =
+    rw (c .before .before .before .before .before .before .shape3 .given .1) (c .first-bad .ensures ∙ ap₂ commits.firstBad (c
+    .before .before .check-write3 .ensures) (c .before .check-write4 .ensures) ∙ places-more _ _ _ _)
 
 returns-6 : tie.Need-returns-6
-returns-6 c = rw (c .before .before .before .before .before .before .before .before .before .shape4 .given .1) (c .first-bad3 .ensures ∙ ap₂ commits.firstBad (c .before .before .before .before .check-write5 .ensures) (c .before .first-bad2 .ensures ∙ ap₂ commits.firstBad (c .before .before .before .check-write6 .ensures) (c .before .before .check-write7 .ensures) ∙ places-more _ _ _ _) ∙ places-more _ _ _ _)
+returns-6 c =
+    let shape4 = c .before .before .before .before .before .before .before .before .before .shape4 in
+    rw (shape4 .given .1) (c .first-bad3 .ensures ∙ ap₂ commits.firstBad (c .before .before .before .before .check-write5
+    .ensures) (c .before .first-bad2 .ensures ∙ ap₂ commits.firstBad (c .before .before .before .check-write6 .ensures) (c
+    .before .before .check-write7 .ensures) ∙ places-more _ _ _ _) ∙ places-more _ _ _ _)
 
 returns-7 : tie.Need-returns-7
 unfolding commits.placesOf
 returns-7 c = rw (c .before .before .before .shape5 .given .1) (c .check-byte-place .ensures ∙ sym (first-good _))
 
 returns-8 : tie.Need-returns-8
-returns-8 c = let f = rw (c .enum-told2 .given .1) at (c .before .before .before .pre) in rw (c .enum-told2 .given .1) (sym (rolled-places (c .before .before .before .args .machine) (length (now (c .before .before .before .args .memory))) (c .before .before .before .args .machine .order) (now (c .before .before .before .args .memory)) (c .enum-told2 .given .0 .0 .top) (c .enum-told2 .given .0 .0 .depth) (f .0) (omega (arith, f .1))))
+returns-8 c =
+    let args = c .before .before .before .args in
+    let f = rw (c .enum-told2 .given .1) at (c .before .before .before .pre) in
+    rw (c .enum-told2 .given .1) (sym (rolled-places (args .machine) (length (now (args .memory))) (args .machine .order) (now
+    (args .memory)) (c .enum-told2 .given .0 .0 .top) (c .enum-told2 .given .0 .0 .depth) (f .0) (omega (arith, f .1))))
 
 pub check-places-spec : {M : Type 1} → statement M
 check-places-spec =

@@ -2,8 +2,6 @@
 use borrow.Author.Needs.{needs}
 use Rattle.shapes.proofs.judging.check_shape.Statement.{statement}
 use Rattle.shapes.proofs.judging.check_shape.Tie as tie
-use mathlib.Core.Path.{_∙_, ap}
-use Rattle.machine.specs.Commits as commits
 
 then-of-requires : tie.Need-then-of-requires
 then-of-requires c κs = search needs
@@ -18,7 +16,14 @@ first-bad-requires : tie.Need-first-bad-requires
 first-bad-requires c κs = search needs
 
 returns : tie.Need-returns
-returns c = rw (c .first-bad .ensures, c .before .check-places .ensures, c .before .before .fault-of .ensures, c .before .before .before .then-of .ensures)
+returns c =
+    rw (
+      c .first-bad .ensures,
+      c .before .check-places .ensures,
+      c .before .before .fault-of .ensures,
+      c .before .before
+          .before .then-of .ensures,
+    )
 
 pub check-shape-spec : {M : Type 1} → statement M
 check-shape-spec =

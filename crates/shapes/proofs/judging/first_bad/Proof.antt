@@ -2,7 +2,6 @@
 use borrow.Author.Needs.{needs}
 use Rattle.shapes.proofs.judging.first_bad.Statement.{statement}
 use Rattle.shapes.proofs.judging.first_bad.Tie as tie
-use mathlib.Core.Path.{sym}
 
 enum-told : tie.Need-enum-told
 enum-told c = search needs

@@ -2,7 +2,7 @@
 use borrow.Author.Needs.{needs}
 use Rattle.shapes.proofs.judging.writes.Statement.{statement}
 use Rattle.shapes.proofs.judging.writes.Tie as tie
-use mathlib.Core.Path.{sym, _∙_, ap}
+use mathlib.Core.Path.{sym, _∙_}
 use Rattle.machine.specs.Commits as commits
 use Rattle.shapes.proofs.WritesLaws.{or-false, rolled-touches}
 use mathlib.Core.Path.{ap₂}
@@ -82,17 +82,27 @@ unfolding commits.touches
 returns-4 c = rw (c .before .before .before .shape2 .given .1, c .if1 .left)
 
 returns-5 : tie.Need-returns-5
-returns-5 c = rw (c .before .before .before .before .before .before .shape3 .given .1) (c .either .ensures ∙ ap₂ _||_ (c .before .before .meets-write3 .ensures) (c .before .meets-write4 .ensures) ∙ touches-more _ _ _ _)
+returns-5 c =
+    rw (c .before .before .before .before .before .before .shape3 .given .1) (c .either .ensures ∙ ap₂ _||_ (c .before .before
+    .meets-write3 .ensures) (c .before .meets-write4 .ensures) ∙ touches-more _ _ _ _)
 
 returns-6 : tie.Need-returns-6
-returns-6 c = rw (c .before .before .before .before .before .before .before .before .before .shape4 .given .1) (c .either3 .ensures ∙ ap₂ _||_ (c .before .before .before .before .meets-write5 .ensures) (c .before .either2 .ensures ∙ ap₂ _||_ (c .before .before .before .meets-write6 .ensures) (c .before .before .meets-write7 .ensures) ∙ touches-more _ _ _ _) ∙ touches-more _ _ _ _)
+returns-6 c =
+    let shape4 = c .before .before .before .before .before .before .before .before .before .shape4 in
+    rw (shape4 .given .1) (c .either3 .ensures ∙ ap₂ _||_ (c .before .before .before .before .meets-write5 .ensures) (c
+    .before .either2 .ensures ∙ ap₂ _||_ (c .before .before .before .meets-write6 .ensures) (c .before .before .meets-write7
+    .ensures) ∙ touches-more _ _ _ _) ∙ touches-more _ _ _ _)
 
 returns-7 : tie.Need-returns-7
 unfolding commits.touches
 returns-7 c = rw (c .before .before .before .shape5 .given .1) (c .meets .ensures ∙ sym (or-false _))
 
 returns-8 : tie.Need-returns-8
-returns-8 c = rw (c .before .before .shape6 .given .1) (c .meets-roll .ensures ∙ rolled-touches (c .before .before .before .before .before .args .machine .order) (now (c .before .before .before .before .before .args .memory)) (c .before .before .shape6 .given .0 .0 .top) (c .before .before .shape6 .given .0 .0 .depth) (c .before .before .before .before .before .args .lo) (c .before .before .before .before .before .args .hi) (c .before .before .before .before .before .pre))
+returns-8 c =
+    let args = c .before .before .before .before .before .args in
+    let shape6 = c .before .before .shape6 in
+    rw (shape6 .given .1) (c .meets-roll .ensures ∙ rolled-touches (args .machine .order) (now (args .memory)) (shape6 .given
+    .0 .0 .top) (shape6 .given .0 .0 .depth) (args .lo) (args .hi) (c .before .before .before .before .before .pre))
 
 pub writes-spec : {M : Type 1} → statement M
 writes-spec =

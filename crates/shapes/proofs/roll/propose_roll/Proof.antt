@@ -24,7 +24,12 @@ fail-none-requires c κs = search needs
 
 returns : tie.Need-returns
 unfolding plain.plainOf
-returns c = record { effect = simp (sym (c .before .before .before .fetch .ensures) ∙ c .before .enum-told .given .1) (c .fail-none .ensures ∙ ap plain.failed (c .before .enum-told .given .1)); fits = tt }
+returns c =
+    record {
+      effect = simp (sym (c .before .before .before .fetch .ensures) ∙ c .before .enum-told .given .1) (c .fail-none
+          .ensures ∙ ap plain.failed (c .before .enum-told .given .1));
+      fits = tt;
+    }
 
 fetch-deep-requires : tie.Need-fetch-deep-requires
 fetch-deep-requires c κs = search needs
@@ -40,17 +45,53 @@ fail-none-requires-2 c κs = search needs
 
 returns-2 : tie.Need-returns-2
 unfolding plain.plainOf
-returns-2 c = record { effect = simp (sym (c .before .before .before .before .before .before .before .fetch .ensures) ∙ c .before .before .before .before .before .got .given .1, sym (c .before .before .before .fetch-deep .ensures) ∙ c .before .enum-told3 .given .1) (c .fail-none2 .ensures ∙ ap plain.failed (c .before .enum-told3 .given .1)); fits = tt }
+returns-2 c =
+    let fetch = c .before .before .before .before .before .before .before .fetch in
+    record {
+      effect = simp (
+        sym (fetch .ensures) ∙ c .before .before .before .before .before .got .given .1,
+        sym (c .before
+            .before .before .fetch-deep .ensures) ∙ c .before .enum-told3 .given .1,
+      ) (c .fail-none2 .ensures ∙ ap plain.failed (c
+          .before .enum-told3 .given .1));
+      fits = tt;
+    }
 
 add-requires : tie.Need-add-requires
 add-requires c κs = search needs
 
 add-t12 : tie.Need-add-t12
-add-t12 c = let p = fetched-place (c .before .before .before .before .before .before .before .before .before .before .args .machine) DataRead (now (c .before .before .before .before .before .before .before .before .before .before .args .memory)) (c .before .before .before .before .before .before .before .before .before .before .args .r .sp) (c .before .before .before .before .before .before .got .given .0 .0) (sym (c .before .before .before .before .before .before .before .before .fetch .ensures) ∙ c .before .before .before .before .before .before .got .given .1) in omega (arith, p .inside, c .before .before .before .before .before .before .before .before .before .before .pre .1)
+add-t12 c =
+    let args = c .before .before .before .before .before .before .before .before .before .before .args in
+    let pre-here = c .before .before .before .before .before .before .before .before .before .before .pre in
+    let fetch = c .before .before .before .before .before .before .before .before .fetch in
+    let got = c .before .before .before .before .before .before .got in
+    let p = fetched-place (args .machine) DataRead (now (args .memory)) (args .r .sp) (got .given .0 .0) (sym (fetch .ensures)
+    ∙ got .given .1) in
+    omega (arith, p .inside, pre-here .1)
 
 returns-3 : tie.Need-returns-3
 unfolding plain.plainOf
-returns-3 c = let p = fetched-place (c .before .before .before .before .before .before .before .before .before .before .args .machine) DataRead (now (c .before .before .before .before .before .before .before .before .before .before .args .memory)) (c .before .before .before .before .before .before .before .before .before .before .args .r .sp) (c .before .before .before .before .before .before .got .given .0 .0) (sym (c .before .before .before .before .before .before .before .before .fetch .ensures) ∙ c .before .before .before .before .before .before .got .given .1) in let q = deep-place (c .before .before .before .before .before .before .before .before .before .before .args .machine) (now (c .before .before .before .before .before .before .before .before .before .before .args .memory)) (plain.deepAddress (c .before .before .before .before .before .before .before .before .before .before .args .r .sp) (c .before .before .before .before .before .before .got .given .0 .0)) (c .before .before .enum-told2 .given .0 .0) (sym (c .before .before .before .before .fetch-deep .ensures) ∙ c .before .before .enum-told2 .given .1) in record { effect = simp (sym (c .before .before .before .before .before .before .before .before .fetch .ensures) ∙ c .before .before .before .before .before .before .got .given .1, sym (c .before .before .before .before .fetch-deep .ensures) ∙ c .before .before .enum-told2 .given .1, c .before .add .ensures); fits = (omega (arith, p .aligned), omega (arith, p .aligned, q .inside, c .before .before .before .before .before .before .before .before .before .before .pre .0)) }
+returns-3 c =
+    let args = c .before .before .before .before .before .before .before .before .before .before .args in
+    let pre-here = c .before .before .before .before .before .before .before .before .before .before .pre in
+    let fetch = c .before .before .before .before .before .before .before .before .fetch in
+    let got = c .before .before .before .before .before .before .got in
+    let fetch-deep = c .before .before .before .before .fetch-deep in
+    let enum-told2 = c .before .before .enum-told2 in
+    let p = fetched-place (args .machine) DataRead (now (args .memory)) (args .r .sp) (got .given .0 .0) (sym (fetch .ensures)
+    ∙ got .given .1) in
+    let q = deep-place (args .machine) (now (args .memory)) (plain.deepAddress (args .r .sp) (got .given .0 .0)) (enum-told2
+    .given .0 .0) (sym (fetch-deep .ensures) ∙ enum-told2 .given .1) in
+    record {
+      effect = simp (
+        sym (fetch .ensures) ∙ got .given .1,
+        sym (fetch-deep .ensures) ∙ enum-told2 .given .1,
+        c .before
+            .add .ensures,
+      );
+      fits = (omega (arith, p .aligned), omega (arith, p .aligned, q .inside, pre-here .0));
+    }
 
 pub propose-roll-spec : {M : Type 1} → statement M
 propose-roll-spec =

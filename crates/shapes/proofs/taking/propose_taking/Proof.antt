@@ -14,11 +14,11 @@ question-branch-requires c κs = search needs
 call-requires : tie.Need-call-requires
 call-requires c κs = search needs
 
-turn-loop-requires : tie.Need-turn-loop-requires
-turn-loop-requires c κs = search needs
+propose-loop-requires : tie.Need-propose-loop-requires
+propose-loop-requires c κs = search needs
 
-turn-plus-loop-requires : tie.Need-turn-plus-loop-requires
-turn-plus-loop-requires c κs = search needs
+propose-plus-loop-requires : tie.Need-propose-plus-loop-requires
+propose-plus-loop-requires c κs = search needs
 
 literal-requires : tie.Need-literal-requires
 literal-requires c κs = search needs
@@ -33,13 +33,25 @@ returns-3 : tie.Need-returns-3
 returns-3 c = record { effect = rw (c .before .match .keys3) (c .call .ensures); fits = tt }
 
 returns-4 : tie.Need-returns-4
-returns-4 c = record { effect = rw (c .before .match .keys4) (c .turn-loop .ensures); fits = tt }
+returns-4 c = record { effect = rw (c .before .match .keys4) (c .propose-loop .ensures); fits = tt }
 
 returns-5 : tie.Need-returns-5
-returns-5 c = record { effect = rw (c .before .match .keys5) (c .turn-plus-loop .ensures); fits = tt }
+returns-5 c = record { effect = rw (c .before .match .keys5) (c .propose-plus-loop .ensures); fits = tt }
 
 returns-6 : tie.Need-returns-6
-returns-6 c = record { effect = simp (ne-eqb _ _ (c .before .match .rest .0 .0 .0 .0 .1), ne-eqb _ _ (c .before .match .rest .0 .0 .0 .1), ne-eqb _ _ (c .before .match .rest .0 .0 .1), ne-eqb _ _ (c .before .match .rest .0 .1), ne-eqb _ _ (c .before .match .rest .1)) (c .literal .ensures); fits = tt }
+returns-6 c =
+    record {
+      effect = simp (
+        ne-eqb _ _ (c .before .match .rest .0 .0 .0 .0 .1),
+        ne-eqb _ _ (c .before .match .rest .0 .0 .0
+            .1),
+        ne-eqb _ _ (c .before .match .rest .0 .0 .1),
+        ne-eqb _ _ (c .before .match .rest .0 .1),
+        ne-eqb _ _ (c .before .match
+            .rest .1),
+      ) (c .literal .ensures);
+      fits = tt;
+    }
 
 pub propose-taking-spec : {M : Type 1} → statement M
 propose-taking-spec =
@@ -48,8 +60,8 @@ propose-taking-spec =
     branch-requires
     question-branch-requires
     call-requires
-    turn-loop-requires
-    turn-plus-loop-requires
+    propose-loop-requires
+    propose-plus-loop-requires
     literal-requires
     returns
     returns-2

@@ -1,0 +1,25 @@
+-- (LOOP) and (+LOOP) as one: the index gains n and the loop ends or goes on.
+use mathlib.Core.Bool.{Bool, true, false}
+use mathlib.Core.List.{List, [], _∷_}
+use Prim.Native.Nat.{ℕ}
+use lib.Dec.{eqb}
+use Rattle.cell.specs.Choice.{if}
+use Rattle.cell.specs.Number.{sum}
+use Rattle.machine.specs.Effects.{cellStore, goOn, jump, Effect}
+use Rattle.machine.specs.declared.Machine.{Machine}
+use Rattle.machine.specs.declared.Access.the-variants.{ReturnWrite}
+use Rattle.instruction.specs.Plain.{action, return2}
+use Rattle.instruction.specs.Taking.{crosses}
+
+-- "(LOOP) .. ends when it equals the limit"; (+LOOP) ends where it crosses it
+abbrev pub isOver : Bool → ℕ → ℕ → ℕ → Bool
+isOver false index next limit = eqb next limit
+isOver true index next limit = crosses index next limit
+
+-- to is where the loop goes on, sp SP behind it
+unfoldable pub turnOf : Machine → List ℕ → ℕ → ℕ → ℕ → ℕ → Bool → Effect
+turnOf machine m sp rp to n plus =
+    return2 machine m rp
+    (λ limit index.
+    if (isOver plus index (sum index n) limit) (action sp (sum rp 8) [] goOn)
+    (action sp rp (cellStore ReturnWrite rp (sum index n) ∷ []) (jump to)))
