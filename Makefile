@@ -1,7 +1,18 @@
-# `make run` shows a rule at work; `make test` is the gate.
-.PHONY: run test
-run:
-	rt check first_rule
-	./target/bin/first_rule
+# `make run` shows a rule at work, from its text to its result; `make test` is the gate.
+.PHONY: run test library
+beetle = cli/target/release/beetle
+work = target/run
+
+run: library
+	cd cli && cargo build --quiet --offline --release
+	mkdir -p $(work)
+	$(beetle) assemble examples/child.txt -o $(work)/child.lst
+	$(beetle) show $(work)/child.lst
+	$(beetle) save $(work)/child.lst -o $(work)/child.mod
+	$(beetle) run $(work)/child.mod
+
+library:
+	rt staticlib exports
+
 test:
 	./.ci/run
