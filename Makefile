@@ -1,5 +1,6 @@
-# `make run` shows a rule at work, from its text to its result; `make test` is the gate.
-.PHONY: run test library
+# `make run` shows a rule at work, from its text to its result; `make test` is the gate; `make compare` holds the compiled library against the second
+# implementation.
+.PHONY: run test compare library
 beetle = cli/target/release/beetle
 work = target/run
 
@@ -10,6 +11,10 @@ run: library
 	$(beetle) show $(work)/child.lst
 	$(beetle) save $(work)/child.lst -o $(work)/child.mod
 	$(beetle) run $(work)/child.mod
+
+compare: library
+	cd tests && cargo run --quiet --offline --release --features processor,modules,packer --bin compare
+	cd cli && cargo test --quiet --offline
 
 library:
 	rt staticlib exports
