@@ -13,7 +13,7 @@ run: library
 	$(beetle) run $(work)/child.mod
 
 compare: library
-	cd tests && cargo run --quiet --offline --release --features processor,modules,packer --bin compare
+	cd tests && cargo run --quiet --offline --release --features library --bin compare
 	cd cli && cargo test --quiet --offline
 
 library:

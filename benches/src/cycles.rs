@@ -23,7 +23,7 @@ pub fn table() {
     head("Cycles of beetle_run", &columns);
     for (at, looping) in LOOPS.iter().enumerate() {
         let counts = SIDES.map(|side| instructions(side, at));
-        let calls = SIDES.map(|side| side.calls().processor.expect("linked"));
+        let calls = SIDES.map(|side| side.calls());
         let runs = calls.map(|calls| move || drop(black_box(loops::run(&calls, looping, CYCLES))));
         let times = nanoseconds(runs).map(|time| Some(time / f64::from(CYCLES)));
         let [left, right] = calls.map(|calls| loops::run(&calls, looping, CYCLES));

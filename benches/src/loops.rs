@@ -1,6 +1,6 @@
 //! The three loops whose cycles are measured, and the machine that runs them.
 
-use beetle_tests::call::ProcessorCalls;
+use beetle_tests::call::Implementation;
 
 /// A loop: its cells stand at 10h and run for ever.
 pub struct Loop {
@@ -53,7 +53,7 @@ pub struct Left {
 }
 
 /// Runs a loop for so many cycles from its start.
-pub fn run(calls: &ProcessorCalls, looping: &Loop, cycles: u32) -> Left {
+pub fn run(calls: &Implementation, looping: &Loop, cycles: u32) -> Left {
     let mut memory = vec![0; MEMORY];
     store(&mut memory, BASE, looping.cells);
     let (mut r, mut out) = ([0; 4], [0; 2]);

@@ -19,7 +19,7 @@ fn count(words: &[String]) -> Option<()> {
     let [_, side, at, cycles] = words else {
         return None;
     };
-    let calls = Side::named(side)?.calls().processor?;
+    let calls = Side::named(side)?.calls();
     let looping = loops::LOOPS.get(at.parse::<usize>().ok()?)?;
     loops::run(&calls, looping, cycles.parse().ok()?);
     Some(())

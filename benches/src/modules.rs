@@ -2,7 +2,7 @@
 
 use std::hint::black_box;
 
-use beetle_tests::call::ModuleCalls;
+use beetle_tests::call::Implementation;
 
 use crate::measure::nanoseconds;
 use crate::tables::{both, head, SIDES};
@@ -32,7 +32,7 @@ fn microseconds(act: impl FnMut()) -> f64 {
 }
 
 /// A load of a module of this order on a machine of order 0.
-fn load(calls: &ModuleCalls, order: u8) -> f64 {
+fn load(calls: &Implementation, order: u8) -> f64 {
     let (file, mut memory) = (module(order), vec![0; 2 * CODE]);
     microseconds(|| {
         let answer = (calls.load)(0, &mut memory, &file, 0x10, &mut [0]);
@@ -41,7 +41,7 @@ fn load(calls: &ModuleCalls, order: u8) -> f64 {
 }
 
 /// A save.
-fn save(calls: &ModuleCalls) -> f64 {
+fn save(calls: &Implementation) -> f64 {
     let (memory, mut output) = (vec![7; 2 * CODE], vec![0; 12 + CODE]);
     let cells = (CODE / 4) as u32;
     microseconds(|| {
@@ -57,8 +57,8 @@ fn copy() -> f64 {
 }
 
 /// The calls of both sides.
-fn calls() -> [ModuleCalls; 2] {
-    SIDES.map(|side| side.calls().modules.expect("linked"))
+fn calls() -> [Implementation; 2] {
+    SIDES.map(|side| side.calls())
 }
 
 /// A line for each act.

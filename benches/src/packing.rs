@@ -2,7 +2,7 @@
 
 use std::hint::black_box;
 
-use beetle_tests::call::PackerCalls;
+use beetle_tests::call::Implementation;
 
 use crate::listings::{self, Listing};
 use crate::measure::nanoseconds;
@@ -12,7 +12,7 @@ use crate::tables::{both, head, SIDES};
 const IMAGE: usize = 4 * 2 * 4096;
 
 /// Packs a listing.
-fn pack(calls: &PackerCalls, listing: &Listing, image: &mut [u8]) {
+fn pack(calls: &Implementation, listing: &Listing, image: &mut [u8]) {
     let mut out = [0];
     let (kinds, operands) = (&listing.kinds, &listing.operands);
     let answer = (calls.pack)(0, kinds, operands, 0x10, image, &mut out);
@@ -20,7 +20,7 @@ fn pack(calls: &PackerCalls, listing: &Listing, image: &mut [u8]) {
 }
 
 /// The image of a listing.
-fn image(calls: &PackerCalls, listing: &Listing) -> Vec<u8> {
+fn image(calls: &Implementation, listing: &Listing) -> Vec<u8> {
     let mut image = vec![0; IMAGE];
     pack(calls, listing, &mut image);
     image
@@ -37,7 +37,7 @@ pub fn table() {
         "ratio",
     ];
     head("Packing by beetle_pack", &columns);
-    let calls = SIDES.map(|side| side.calls().packer.expect("linked"));
+    let calls = SIDES.map(|side| side.calls());
     for listing in [listings::plain(), listings::most_rounds()] {
         let [left, right] = calls.map(|calls| image(&calls, &listing));
         assert!(left == right, "both pack to the same image");

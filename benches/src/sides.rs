@@ -1,7 +1,6 @@
 //! The two sides: the proved library and the independent implementation of `tests/`.
 
-use beetle_tests::call::{reference, Implementation};
-use beetle_tests::ffi::library;
+use beetle_tests::call::{library, reference, Implementation};
 
 #[derive(Clone, Copy, PartialEq, Eq, Debug)]
 pub enum Side {

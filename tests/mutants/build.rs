@@ -22,11 +22,10 @@ fn main() {
         write_mutant(&folder, edit);
         let root = folder.join("mod.rs");
         modules += &format!("#[path = {root:?}]\n#[allow(warnings)]\nmod mutant{number};\n");
-        table += &format!("({number}, {}!(mutant{number})),\n", edit.group);
+        let (group, name) = (edit.group, edit.name);
+        table += &format!("({group:?}, {name:?}, implementation!(mutant{number}::calls)),\n");
     }
-    let text = format!(
-        "{modules}\nfn mutants() -> Vec<(usize, Implementation)> {{\nvec![\n{table}]\n}}\n"
-    );
+    let text = format!("{modules}\nfn mutants() -> Vec<Mutant> {{\nvec![\n{table}]\n}}\n");
     fs::write(results.join("mutants.rs"), text).expect("a writable folder");
 }
 

@@ -1,6 +1,6 @@
 /// A wrong implementation: the reference with one edit.
 pub struct Mutant {
-    /// processor, modules, packer, or demand3: a packer and processor that break demand 3.
+    /// The group of suites that finds it, or demand3: a packer and processor that break demand 3.
     pub group: &'static str,
     pub name: &'static str,
     pub file: &'static str,

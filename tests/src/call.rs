@@ -5,58 +5,47 @@
 
 use std::hint::black_box;
 
-/// The calls of the processor.
+pub type ListRun = fn(u8, &[u8], &[u32], u32, &mut [u8], &mut [u32], u32, &mut [u32]) -> u32;
+
+/// The eight calls of the interface.
 #[derive(Clone, Copy)]
-pub struct ProcessorCalls {
+pub struct Implementation {
     pub start: fn(u8, &mut [u8], u32, u32, &mut [u32], &mut [u32]) -> u32,
     pub cycle: fn(u8, &mut [u8], &mut [u32], &mut [u32]) -> u32,
     pub run: fn(u8, &mut [u8], &mut [u32], u32, &mut [u32]) -> u32,
-}
-
-/// The calls for modules.
-#[derive(Clone, Copy)]
-pub struct ModuleCalls {
     pub load: fn(u8, &mut [u8], &[u8], u32, &mut [u32]) -> u32,
     pub save: fn(u8, &[u8], u32, u32, &mut [u8], &mut [u32]) -> u32,
-}
-
-pub type ListRun = fn(u8, &[u8], &[u32], u32, &mut [u8], &mut [u32], u32, &mut [u32]) -> u32;
-
-/// The calls of the packer and the list machine.
-#[derive(Clone, Copy)]
-pub struct PackerCalls {
     pub pack: fn(u8, &[u8], &[u32], u32, &mut [u8], &mut [u32]) -> u32,
     pub pack_file: fn(u8, &[u8], &mut [u8], &mut [u32]) -> u32,
     pub list_run: ListRun,
 }
 
-/// An implementation has some of the groups.
-#[derive(Clone, Copy, Default)]
-pub struct Implementation {
-    pub processor: Option<ProcessorCalls>,
-    pub modules: Option<ModuleCalls>,
-    pub packer: Option<PackerCalls>,
+/// The implementation that the functions of a module are.
+#[macro_export]
+macro_rules! implementation {
+    ($($module:ident)::+) => {
+        $crate::call::Implementation {
+            start: $($module)::+::start,
+            cycle: $($module)::+::cycle,
+            run: $($module)::+::run,
+            load: $($module)::+::load,
+            save: $($module)::+::save,
+            pack: $($module)::+::pack,
+            pack_file: $($module)::+::pack_file,
+            list_run: $($module)::+::list_run,
+        }
+    };
 }
 
-/// The reference, with all groups.
+/// The second implementation.
 pub fn reference() -> Implementation {
-    use crate::reference::calls;
-    Implementation {
-        processor: Some(ProcessorCalls {
-            start: calls::start,
-            cycle: calls::cycle,
-            run: calls::run,
-        }),
-        modules: Some(ModuleCalls {
-            load: calls::load,
-            save: calls::save,
-        }),
-        packer: Some(PackerCalls {
-            pack: calls::pack,
-            pack_file: calls::pack_file,
-            list_run: calls::list_run,
-        }),
-    }
+    implementation!(crate::reference::calls)
+}
+
+/// The static library.
+#[cfg(feature = "library")]
+pub fn library() -> Implementation {
+    implementation!(beetle_bindings)
 }
 
 #[derive(Clone, Copy, PartialEq, Eq, Debug)]
@@ -149,47 +138,65 @@ impl<T: Copy + PartialEq> Margined<T> {
     }
 }
 
-const ABSENT: &str = "the implementation has no such call";
+/// The arrays of a call, with their margins.
+struct Arrays {
+    memory: Margined<u8>,
+    file: Margined<u8>,
+    kinds: Margined<u8>,
+    operands: Margined<u32>,
+    output: Margined<u8>,
+    registers: Margined<u32>,
+    out: Margined<u32>,
+}
+
+impl Arrays {
+    fn of(call: &Call) -> Self {
+        Arrays {
+            memory: Margined::new(&call.memory, 0xA5),
+            file: Margined::new(&call.file, 0xA5),
+            kinds: Margined::new(&call.kinds, 0xA5),
+            operands: Margined::new(&call.operands, 0xA5A5_A5A5),
+            output: Margined::new(&call.output, 0xA5),
+            registers: Margined::new(&call.registers, 0xA5A5_A5A5),
+            out: Margined::new(&call.out, 0xA5A5_A5A5),
+        }
+    }
+
+    /// Makes the call on these arrays: its answer.
+    fn lend(&mut self, to: &Implementation, call: &Call) -> u32 {
+        let (order, [x, y]) = (call.order, call.numbers);
+        let (m, f) = (self.memory.lent(), self.file.lent());
+        let (k, v, w) = (self.kinds.lent(), self.operands.lent(), self.output.lent());
+        let (r, o) = (self.registers.lent(), self.out.lent());
+        match call.entry {
+            Entry::Start => (to.start)(order, m, x, y, r, o),
+            Entry::Cycle => (to.cycle)(order, m, r, o),
+            Entry::Run => (to.run)(order, m, r, x, o),
+            Entry::Load => (to.load)(order, m, f, x, o),
+            Entry::Save => (to.save)(order, m, x, y, w, o),
+            Entry::Pack => (to.pack)(order, k, v, x, w, o),
+            Entry::PackFile => (to.pack_file)(order, f, w, o),
+            Entry::ListRun => (to.list_run)(order, k, v, x, m, r, y, o),
+        }
+    }
+}
 
 /// Makes the call.
 pub fn perform(implementation: &Implementation, call: &Call) -> Returned {
-    let mut memory = Margined::new(&call.memory, 0xA5);
-    let mut file = Margined::new(&call.file, 0xA5);
-    let mut kinds = Margined::new(&call.kinds, 0xA5);
-    let mut operands = Margined::new(&call.operands, 0xA5A5_A5A5);
-    let mut output = Margined::new(&call.output, 0xA5);
-    let mut registers = Margined::new(&call.registers, 0xA5A5_A5A5);
-    let mut out = Margined::new(&call.out, 0xA5A5_A5A5);
-    let (order, [x, y]) = (call.order, call.numbers);
-    let answer = {
-        let (m, f) = (memory.lent(), file.lent());
-        let (k, v, w) = (kinds.lent(), operands.lent(), output.lent());
-        let (r, o) = (registers.lent(), out.lent());
-        let (processor, modules) = (&implementation.processor, &implementation.modules);
-        let packer = &implementation.packer;
-        match call.entry {
-            Entry::Start => (processor.expect(ABSENT).start)(order, m, x, y, r, o),
-            Entry::Cycle => (processor.expect(ABSENT).cycle)(order, m, r, o),
-            Entry::Run => (processor.expect(ABSENT).run)(order, m, r, x, o),
-            Entry::Load => (modules.expect(ABSENT).load)(order, m, f, x, o),
-            Entry::Save => (modules.expect(ABSENT).save)(order, m, x, y, w, o),
-            Entry::Pack => (packer.expect(ABSENT).pack)(order, k, v, x, w, o),
-            Entry::PackFile => (packer.expect(ABSENT).pack_file)(order, f, w, o),
-            Entry::ListRun => (packer.expect(ABSENT).list_run)(order, k, v, x, m, r, y, o),
-        }
-    };
+    let mut arrays = Arrays::of(call);
+    let answer = arrays.lend(implementation, call);
     let mut kept = true;
     let lent = Call {
         entry: call.entry,
-        order,
+        order: call.order,
         numbers: call.numbers,
-        memory: memory.taken_back(&mut kept),
-        file: file.taken_back(&mut kept),
-        kinds: kinds.taken_back(&mut kept),
-        operands: operands.taken_back(&mut kept),
-        output: output.taken_back(&mut kept),
-        registers: registers.taken_back(&mut kept),
-        out: out.taken_back(&mut kept),
+        memory: arrays.memory.taken_back(&mut kept),
+        file: arrays.file.taken_back(&mut kept),
+        kinds: arrays.kinds.taken_back(&mut kept),
+        operands: arrays.operands.taken_back(&mut kept),
+        output: arrays.output.taken_back(&mut kept),
+        registers: arrays.registers.taken_back(&mut kept),
+        out: arrays.out.taken_back(&mut kept),
     };
     Returned {
         answer,

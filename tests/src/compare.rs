@@ -8,35 +8,18 @@ use crate::demand3::follow;
 use crate::random::Random;
 use crate::shrink::{call_text, returned_text, smallest};
 
-#[derive(Clone, Copy, PartialEq, Eq, Debug)]
-pub enum Group {
-    Processor,
-    Modules,
-    Packer,
-}
-
-impl Group {
-    /// Whether the implementation has this group.
-    pub fn is_in(self, implementation: &Implementation) -> bool {
-        match self {
-            Group::Processor => implementation.processor.is_some(),
-            Group::Modules => implementation.modules.is_some(),
-            Group::Packer => implementation.packer.is_some(),
-        }
-    }
-}
-
 /// Calls of one sort, with the number that is drawn by default.
 pub struct Suite {
     pub name: &'static str,
-    pub group: Group,
+    /// processor, modules or packer.
+    pub group: &'static str,
     pub cases: u32,
     pub make: fn(&mut Random, u32) -> Call,
 }
 
 const fn suite(
     name: &'static str,
-    group: Group,
+    group: &'static str,
     cases: u32,
     make: fn(&mut Random, u32) -> Call,
 ) -> Suite {
@@ -49,18 +32,18 @@ const fn suite(
 }
 
 pub const SUITES: [Suite; 12] = [
-    suite("cycles", Group::Processor, 400_000, processor::cycle),
-    suite("starts", Group::Processor, 20_000, processor::start),
-    suite("runs", Group::Processor, 40_000, processor::run),
-    suite("large memories", Group::Processor, 24, processor::large),
-    suite("loads", Group::Modules, 60_000, modules::load),
-    suite("saves", Group::Modules, 60_000, modules::save),
-    suite("large modules", Group::Modules, 24, modules::large),
-    suite("packs", Group::Packer, 20_000, listings::pack),
-    suite("pack files", Group::Packer, 20_000, listings::pack_file),
-    suite("list runs", Group::Packer, 60_000, rules::list_run),
-    suite("large listings", Group::Packer, 60, listings::large),
-    suite("large list runs", Group::Packer, 24, rules::large),
+    suite("cycles", "processor", 400_000, processor::cycle),
+    suite("starts", "processor", 20_000, processor::start),
+    suite("runs", "processor", 40_000, processor::run),
+    suite("large memories", "processor", 24, processor::large),
+    suite("loads", "modules", 60_000, modules::load),
+    suite("saves", "modules", 60_000, modules::save),
+    suite("large modules", "modules", 24, modules::large),
+    suite("packs", "packer", 20_000, listings::pack),
+    suite("pack files", "packer", 20_000, listings::pack_file),
+    suite("list runs", "packer", 60_000, rules::list_run),
+    suite("large listings", "packer", 60, listings::large),
+    suite("large list runs", "packer", 24, rules::large),
 ];
 
 /// How many rules demand 3 is tried on by default.

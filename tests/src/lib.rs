@@ -4,7 +4,6 @@ pub mod call;
 pub mod cases;
 pub mod compare;
 pub mod demand3;
-pub mod ffi;
 pub mod random;
 pub mod reference;
 pub mod shrink;

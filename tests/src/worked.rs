@@ -1,17 +1,17 @@
 //! The rows of document 01's "Worked on paper", tried on an implementation.
 
-use crate::call::{ModuleCalls, PackerCalls, ProcessorCalls};
+use crate::call::Implementation;
 
 const DUP: u8 = 0x01;
 const LITERAL: u8 = 0x52;
 
 /// The cells of a listing's image at 10h.
-fn image(packer: &PackerCalls, items: &[(u8, u32)]) -> Vec<u32> {
+fn image(calls: &Implementation, items: &[(u8, u32)]) -> Vec<u32> {
     let kinds: Vec<u8> = items.iter().map(|(kind, _)| *kind).collect();
     let operands: Vec<u32> = items.iter().map(|(_, operand)| *operand).collect();
     let mut output = vec![0; 8 * items.len()];
     let mut out = [0];
-    let answer = (packer.pack)(0, &kinds, &operands, 0x10, &mut output, &mut out);
+    let answer = (calls.pack)(0, &kinds, &operands, 0x10, &mut output, &mut out);
     assert_eq!(answer, 0, "the listing is packed");
     output[..4 * out[0] as usize]
         .chunks(4)
@@ -20,28 +20,28 @@ fn image(packer: &PackerCalls, items: &[(u8, u32)]) -> Vec<u32> {
 }
 
 /// The literal after two DUPs.
-fn after_two_dups(packer: &PackerCalls, value: i32) -> Vec<u32> {
-    image(packer, &[(DUP, 0), (DUP, 0), (LITERAL, value as u32)])
+fn after_two_dups(calls: &Implementation, value: i32) -> Vec<u32> {
+    image(calls, &[(DUP, 0), (DUP, 0), (LITERAL, value as u32)])
 }
 
-pub fn packing(packer: &PackerCalls) {
+pub fn packing(calls: &Implementation) {
     let sum = [(LITERAL, 2), (LITERAL, 3), (0x1E, 0), (0x55, 0)];
-    assert_eq!(image(packer, &sum), [0x0000_0253, 0x0000_0353, 0x0000_551E]);
-    assert_eq!(after_two_dups(packer, -1), [0xFF53_0101]);
+    assert_eq!(image(calls, &sum), [0x0000_0253, 0x0000_0353, 0x0000_551E]);
+    assert_eq!(after_two_dups(calls, -1), [0xFF53_0101]);
     for fits in [127, -128] {
-        assert_eq!(after_two_dups(packer, fits).len(), 1);
+        assert_eq!(after_two_dups(calls, fits).len(), 1);
     }
     for does_not in [128, -129] {
         assert_eq!(
-            after_two_dups(packer, does_not),
+            after_two_dups(calls, does_not),
             [0x0052_0101, does_not as u32]
         );
     }
-    assert_eq!(image(packer, &[(LITERAL, 8_388_607)]), [0x7FFF_FF53]);
-    assert_eq!(image(packer, &[(LITERAL, 8_388_608)]), [0x52, 0x0080_0000]);
+    assert_eq!(image(calls, &[(LITERAL, 8_388_607)]), [0x7FFF_FF53]);
+    assert_eq!(image(calls, &[(LITERAL, 8_388_608)]), [0x52, 0x0080_0000]);
     let dups = [(DUP, 0), (DUP, 0), (DUP, 0), (LITERAL, 0)];
-    assert_eq!(image(packer, &dups), [0x5201_0101, 0]);
-    assert_eq!(image(packer, &[(0x42, 0)]), [0xFFFF_FF43]);
+    assert_eq!(image(calls, &dups), [0x5201_0101, 0]);
+    assert_eq!(image(calls, &[(0x42, 0)]), [0xFFFF_FF43]);
 }
 
 fn put(memory: &mut [u8], address: usize, cell: u32) {
@@ -54,60 +54,54 @@ fn cell(memory: &[u8], address: usize) -> u32 {
 }
 
 /// Started at 10h with these cells there.
-fn started(processor: &ProcessorCalls, cells: &[u32]) -> (Vec<u8>, [u32; 4]) {
+fn started(calls: &Implementation, cells: &[u32]) -> (Vec<u8>, [u32; 4]) {
     let mut memory = vec![0; 0x400];
     for (number, cell) in cells.iter().enumerate() {
         put(&mut memory, 0x10 + 4 * number, *cell);
     }
     let mut registers = [0; 4];
     let mut out = [0];
-    let answer = (processor.start)(0, &mut memory, 0x10, 0x10, &mut registers, &mut out);
+    let answer = (calls.start)(0, &mut memory, 0x10, 0x10, &mut registers, &mut out);
     assert_eq!(answer, 0, "the machine is ready");
     (memory, registers)
 }
 
 /// Second and top item after dividing -7 by 2.
-fn divided(processor: &ProcessorCalls, opcode: u32) -> (i32, i32) {
-    let (mut memory, mut registers) = started(processor, &[opcode]);
+fn divided(calls: &Implementation, opcode: u32) -> (i32, i32) {
+    let (mut memory, mut registers) = started(calls, &[opcode]);
     put(&mut memory, 0x204, -7_i32 as u32);
     put(&mut memory, 0x200, 2);
     registers[2] = 0x200;
-    assert_eq!(
-        (processor.cycle)(0, &mut memory, &mut registers, &mut [0]),
-        0
-    );
+    assert_eq!((calls.cycle)(0, &mut memory, &mut registers, &mut [0]), 0);
     (cell(&memory, 0x204) as i32, cell(&memory, 0x200) as i32)
 }
 
-pub fn running(processor: &ProcessorCalls) {
+pub fn running(calls: &Implementation) {
     let sum = [0x0000_0253, 0x0000_0353, 0x0000_551E];
-    let (mut memory, mut registers) = started(processor, &sum);
+    let (mut memory, mut registers) = started(calls, &sum);
     let mut out = [0; 2];
-    let answer = (processor.run)(0, &mut memory, &mut registers, 100, &mut out);
+    let answer = (calls.run)(0, &mut memory, &mut registers, 100, &mut out);
     assert_eq!((answer, out), (1, [5, 4]), "reason 5, four cycles");
 
-    assert_eq!(divided(processor, 0x28), (1, -4), "/MOD");
-    assert_eq!(divided(processor, 0x2A), (-1, -3), "S/REM");
+    assert_eq!(divided(calls, 0x28), (1, -4), "/MOD");
+    assert_eq!(divided(calls, 0x2A), (-1, -3), "S/REM");
 
-    let (mut memory, mut registers) = started(processor, &[0x0D]);
-    assert_eq!(
-        (processor.cycle)(0, &mut memory, &mut registers, &mut [0]),
-        0
-    );
+    let (mut memory, mut registers) = started(calls, &[0x0D]);
+    assert_eq!((calls.cycle)(0, &mut memory, &mut registers, &mut [0]), 0);
     assert_eq!(cell(&memory, 0x2FC) as i32, -9, "R> at start");
     assert_eq!(cell(&memory, 0xC), 0x400, "R> at start");
 
-    let (mut memory, mut registers) = started(processor, &[0x01]);
+    let (mut memory, mut registers) = started(calls, &[0x01]);
     registers[2] = 0;
     let (before, mut out) = (memory.clone(), [0]);
-    let answer = (processor.cycle)(0, &mut memory, &mut registers, &mut out);
+    let answer = (calls.cycle)(0, &mut memory, &mut registers, &mut out);
     assert_eq!((answer, out[0] as i32), (1, -258), "DUP with SP 0");
     assert_eq!(memory, before, "DUP with SP 0");
 }
 
-pub fn loading(modules: &ModuleCalls) {
+pub fn loading(calls: &Implementation) {
     let mut memory = vec![0xFF; 0x400];
     let file = b"BEETLE\0\0\x01\0\0\0\x55\0\0\0";
-    let answer = (modules.load)(1, &mut memory, file, 0x10, &mut [0]);
+    let answer = (calls.load)(1, &mut memory, file, 0x10, &mut [0]);
     assert_eq!((answer, &memory[0x10..0x14]), (0, &[0, 0, 0, 0x55][..]));
 }

@@ -1,12 +1,12 @@
-//! The worked rows, on the reference and on what is linked of the library.
+//! The worked rows, on the reference and, where it is linked, on the library.
 
 use beetle_tests::call::{reference, Implementation};
 use beetle_tests::worked;
 
 fn all_rows(implementation: &Implementation) {
-    implementation.processor.iter().for_each(worked::running);
-    implementation.modules.iter().for_each(worked::loading);
-    implementation.packer.iter().for_each(worked::packing);
+    worked::running(implementation);
+    worked::loading(implementation);
+    worked::packing(implementation);
 }
 
 #[test]
@@ -15,7 +15,7 @@ fn reference_rows() {
 }
 
 #[test]
-#[cfg(any(feature = "processor", feature = "modules", feature = "packer"))]
+#[cfg(feature = "library")]
 fn library_rows() {
-    all_rows(&beetle_tests::ffi::library());
+    all_rows(&beetle_tests::call::library());
 }

@@ -1,60 +1,12 @@
 //! Shows that the comparison can fail: each mutant of the reference is told from the reference by
 //! the default number of cases, and the reference is not told from itself.
 
-use beetle_tests::call::{reference, Implementation, ModuleCalls, PackerCalls, ProcessorCalls};
+use beetle_tests::call::{reference, Implementation};
 use beetle_tests::compare::{compare, explain, try_rules, Difference, RULES, SUITES};
+use beetle_tests::implementation;
 
-#[allow(dead_code)]
-mod edits {
-    include!("../edits.rs");
-}
-
-macro_rules! processor {
-    ($mutant:ident) => {
-        Implementation {
-            processor: Some(ProcessorCalls {
-                start: $mutant::calls::start,
-                cycle: $mutant::calls::cycle,
-                run: $mutant::calls::run,
-            }),
-            ..Implementation::default()
-        }
-    };
-}
-
-macro_rules! modules {
-    ($mutant:ident) => {
-        Implementation {
-            modules: Some(ModuleCalls {
-                load: $mutant::calls::load,
-                save: $mutant::calls::save,
-            }),
-            ..Implementation::default()
-        }
-    };
-}
-
-macro_rules! packer {
-    ($mutant:ident) => {
-        Implementation {
-            packer: Some(PackerCalls {
-                pack: $mutant::calls::pack,
-                pack_file: $mutant::calls::pack_file,
-                list_run: $mutant::calls::list_run,
-            }),
-            ..Implementation::default()
-        }
-    };
-}
-
-macro_rules! demand3 {
-    ($mutant:ident) => {
-        Implementation {
-            processor: processor!($mutant).processor,
-            ..packer!($mutant)
-        }
-    };
-}
+/// Its group, its name, and its calls.
+type Mutant = (&'static str, &'static str, Implementation);
 
 include!(concat!(env!("OUT_DIR"), "/mutants.rs"));
 
@@ -63,7 +15,7 @@ fn found(group: &str, mutant: &Implementation) -> Option<Difference> {
     if group == "demand3" {
         return try_rules(mutant, RULES).err();
     }
-    let suites = || SUITES.iter().filter(|suite| suite.group.is_in(mutant));
+    let suites = || SUITES.iter().filter(|suite| suite.group == group);
     // The start of each suite first, as most are found there.
     let starts = suites().map(|suite| (suite, (suite.cases / 100).max(12)));
     let wholes = suites().map(|suite| (suite, suite.cases));
@@ -75,11 +27,10 @@ fn found(group: &str, mutant: &Implementation) -> Option<Difference> {
 #[test]
 fn every_mutant_is_found() {
     let mut missed = Vec::new();
-    for (number, mutant) in mutants() {
-        let edit = &edits::MUTANTS[number];
-        match found(edit.group, &mutant) {
-            Some(by) => println!("{}: found by {}, case {}", edit.name, by.name, by.index),
-            None => missed.push(edit.name),
+    for (group, name, mutant) in mutants() {
+        match found(group, &mutant) {
+            Some(by) => println!("{name}: found by {}, case {}", by.name, by.index),
+            None => missed.push(name),
         }
     }
     assert!(missed.is_empty(), "not found: {missed:?}");
@@ -88,8 +39,8 @@ fn every_mutant_is_found() {
 /// The first mutant shifts A as unsigned: a single cell, FFh or a byte above 7Fh, shows it.
 #[test]
 fn a_difference_is_made_small() {
-    let (number, mutant) = mutants()[0];
-    let difference = found(edits::MUTANTS[number].group, &mutant).expect("a difference");
+    let (group, _, mutant) = mutants()[0];
+    let difference = found(group, &mutant).expect("a difference");
     let text = explain(&difference, &reference(), &mutant);
     println!("{text}");
     assert!(text.contains("memory: 1024 bytes; ; 0 more"), "{text}");

@@ -1,12 +1,10 @@
-//! Compares the library with the reference on all suites of the groups that were linked, and tries
-//! demand 3. With no group linked, only the reference's own demand 3 is tried.
+//! Compares the library with the reference on all suites, and tries demand 3 on both.
 
 use std::process::ExitCode;
 use std::time::Instant;
 
-use beetle_tests::call::{reference, Implementation};
+use beetle_tests::call::{library, reference, Implementation};
 use beetle_tests::compare::{compare, explain, explain_rule, raised, try_rules, RULES, SUITES};
-use beetle_tests::ffi::library;
 
 /// Prints what a part came to; whether it was good.
 fn report<T: std::fmt::Debug>(name: &str, since: Instant, result: Result<T, String>) -> bool {
@@ -28,15 +26,13 @@ fn demand_3(name: &str, implementation: &Implementation) -> bool {
 fn main() -> ExitCode {
     let (reference, library) = (reference(), library());
     let mut good = demand_3("reference", &reference);
-    for suite in SUITES.iter().filter(|suite| suite.group.is_in(&library)) {
+    for suite in &SUITES {
         let since = Instant::now();
         let result = compare(suite, &reference, &library, raised(suite.cases));
         let result = result.map_err(|difference| explain(&difference, &reference, &library));
         good &= report(suite.name, since, result);
     }
-    if library.processor.is_some() && library.packer.is_some() {
-        good &= demand_3("library", &library);
-    }
+    good &= demand_3("library", &library);
     if good {
         ExitCode::SUCCESS
     } else {

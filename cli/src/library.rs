@@ -1,7 +1,4 @@
-//! The proved library's calls, as Rust functions. Nothing is decided here: numbers and slices go
-//! in, and what comes back is named.
-
-mod c;
+//! The proved library's calls, with names for what comes back. Nothing is decided here.
 
 use crate::failure::Failure;
 
@@ -62,16 +59,17 @@ pub struct Listing {
 }
 
 /// The answers that are no refusal.
-const STOPPED: i32 = 1;
-const OUTSIDE: i32 = 2;
+const STOPPED: u32 = 1;
+const OUTSIDE: u32 = 2;
 
 /// No listing packs to more bytes: 4,096 items, each in a cell with an operand cell.
 const MOST_IMAGE_BYTES: usize = 4 * 2 * 4096;
 
 /// A refusal is a number below 0.
-fn accepted(answer: i32) -> Result<i32, Failure> {
-    if answer < 0 {
-        Err(Failure::Refused(answer))
+fn accepted(answer: u32) -> Result<u32, Failure> {
+    let number = answer as i32;
+    if number < 0 {
+        Err(Failure::Refused(number))
     } else {
         Ok(answer)
     }
@@ -84,12 +82,8 @@ pub fn start(
     ep: u32,
     handler: u32,
 ) -> Result<(Registers, Option<u32>), Failure> {
-    let (m, length) = (memory.as_mut_ptr(), memory.len());
-    let mut r = [0; 4];
-    let mut out = [0; 1];
-    let (p, o) = (r.as_mut_ptr(), out.as_mut_ptr());
-    // SAFETY: each pointer goes with its array's length; no two arrays overlap.
-    let answer = unsafe { c::beetle_start(order, m, length, ep, handler, p, 4, o, 1) };
+    let (mut r, mut out) = ([0; 4], [0]);
+    let answer = beetle_bindings::start(order, memory, ep, handler, &mut r, &mut out);
     let stopped = accepted(answer)? == STOPPED;
     Ok((Registers::from_array(r), stopped.then_some(out[0])))
 }
@@ -101,12 +95,8 @@ pub fn run(
     registers: &mut Registers,
     budget: u32,
 ) -> Result<Ran, Failure> {
-    let (m, length) = (memory.as_mut_ptr(), memory.len());
-    let mut r = registers.to_array();
-    let mut out = [0; 2];
-    let (p, o) = (r.as_mut_ptr(), out.as_mut_ptr());
-    // SAFETY: as above.
-    let answer = unsafe { c::beetle_run(order, m, length, p, 4, budget, o, 2) };
+    let (mut r, mut out) = (registers.to_array(), [0; 2]);
+    let answer = beetle_bindings::run(order, memory, &mut r, budget, &mut out);
     let stopped = accepted(answer)? == STOPPED;
     *registers = Registers::from_array(r);
     Ok(Ran {
@@ -117,25 +107,16 @@ pub fn run(
 
 /// Loads a module to an address: its number of cells.
 pub fn load(order: u8, memory: &mut [u8], file: &[u8], address: u32) -> Result<u32, Failure> {
-    let (m, length) = (memory.as_mut_ptr(), memory.len());
-    let (f, f_length) = (file.as_ptr(), file.len());
-    let mut out = [0; 1];
-    let o = out.as_mut_ptr();
-    // SAFETY: as above.
-    let answer = unsafe { c::beetle_load(order, m, length, f, f_length, address, o, 1) };
+    let mut out = [0];
+    let answer = beetle_bindings::load(order, memory, file, address, &mut out);
     accepted(answer)?;
     Ok(out[0])
 }
 
 /// Saves cells from an address on: the module's file.
 pub fn save(order: u8, memory: &[u8], address: u32, cells: u32) -> Result<Vec<u8>, Failure> {
-    let (m, length) = (memory.as_ptr(), memory.len());
-    let mut file = vec![0; 12 + length];
-    let (f, f_length) = (file.as_mut_ptr(), file.len());
-    let mut out = [0; 1];
-    let o = out.as_mut_ptr();
-    // SAFETY: as above.
-    let answer = unsafe { c::beetle_save(order, m, length, address, cells, f, f_length, o, 1) };
+    let (mut file, mut out) = (vec![0; 12 + memory.len()], [0]);
+    let answer = beetle_bindings::save(order, memory, address, cells, &mut file, &mut out);
     accepted(answer)?;
     file.truncate(out[0] as usize);
     Ok(file)
@@ -143,13 +124,8 @@ pub fn save(order: u8, memory: &[u8], address: u32, cells: u32) -> Result<Vec<u8
 
 /// Packs a listing file: the image's bytes.
 pub fn pack_file(order: u8, file: &[u8]) -> Result<Vec<u8>, Failure> {
-    let (f, f_length) = (file.as_ptr(), file.len());
-    let mut image = vec![0; MOST_IMAGE_BYTES];
-    let (i, i_length) = (image.as_mut_ptr(), image.len());
-    let mut out = [0; 1];
-    let o = out.as_mut_ptr();
-    // SAFETY: as above.
-    let answer = unsafe { c::beetle_pack_file(order, f, f_length, i, i_length, o, 1) };
+    let (mut image, mut out) = (vec![0; MOST_IMAGE_BYTES], [0]);
+    let answer = beetle_bindings::pack_file(order, file, &mut image, &mut out);
     accepted(answer)?;
     image.truncate(4 * out[0] as usize);
     Ok(image)
@@ -163,22 +139,17 @@ pub fn list_run(
     pointers: (u32, u32),
     items: u32,
 ) -> Result<Listed, Failure> {
-    let (k, n) = (listing.kinds.as_ptr(), listing.kinds.len());
-    let (v, v_length) = (listing.operands.as_ptr(), listing.operands.len());
-    let (m, length) = (memory.as_mut_ptr(), memory.len());
-    let mut stacks = [pointers.0, pointers.1];
-    let mut out = [0; 5];
-    let (p, o) = (stacks.as_mut_ptr(), out.as_mut_ptr());
-    let base = listing.base;
-    // SAFETY: as above.
-    let answer =
-        unsafe { c::beetle_list_run(order, k, n, v, v_length, base, m, length, p, 2, items, o, 5) };
+    let (kinds, operands, base) = (&listing.kinds, &listing.operands, listing.base);
+    let (mut p, mut out) = ([pointers.0, pointers.1], [0; 5]);
+    let answer = beetle_bindings::list_run(
+        order, kinds, operands, base, memory, &mut p, items, &mut out,
+    );
     let end = match accepted(answer)? {
         STOPPED => End::Stopped(out[0]),
         OUTSIDE => End::Outside,
         _ => End::WentOn,
     };
-    Ok(listed(end, stacks, out))
+    Ok(listed(end, p, out))
 }
 
 fn listed(end: End, stacks: [u32; 2], out: [u32; 5]) -> Listed {

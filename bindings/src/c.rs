@@ -1,4 +1,4 @@
-//! The functions of `include/beetle.h` that the command uses.
+//! The functions of `include/beetle.h`.
 
 extern "C" {
     pub fn beetle_start(
@@ -11,7 +11,16 @@ extern "C" {
         registers_length: usize,
         out: *mut u32,
         out_length: usize,
-    ) -> i32;
+    ) -> u32;
+    pub fn beetle_cycle(
+        order: u8,
+        memory: *mut u8,
+        memory_length: usize,
+        registers: *mut u32,
+        registers_length: usize,
+        out: *mut u32,
+        out_length: usize,
+    ) -> u32;
     pub fn beetle_run(
         order: u8,
         memory: *mut u8,
@@ -21,7 +30,7 @@ extern "C" {
         budget: u32,
         out: *mut u32,
         out_length: usize,
-    ) -> i32;
+    ) -> u32;
     pub fn beetle_load(
         order: u8,
         memory: *mut u8,
@@ -31,7 +40,7 @@ extern "C" {
         address: u32,
         out: *mut u32,
         out_length: usize,
-    ) -> i32;
+    ) -> u32;
     pub fn beetle_save(
         order: u8,
         memory: *const u8,
@@ -42,7 +51,19 @@ extern "C" {
         output_length: usize,
         out: *mut u32,
         out_length: usize,
-    ) -> i32;
+    ) -> u32;
+    pub fn beetle_pack(
+        order: u8,
+        kinds: *const u8,
+        kinds_length: usize,
+        operands: *const u32,
+        operands_length: usize,
+        base: u32,
+        output: *mut u8,
+        output_length: usize,
+        out: *mut u32,
+        out_length: usize,
+    ) -> u32;
     pub fn beetle_pack_file(
         order: u8,
         file: *const u8,
@@ -51,7 +72,7 @@ extern "C" {
         output_length: usize,
         out: *mut u32,
         out_length: usize,
-    ) -> i32;
+    ) -> u32;
     pub fn beetle_list_run(
         order: u8,
         kinds: *const u8,
@@ -66,5 +87,5 @@ extern "C" {
         items: u32,
         out: *mut u32,
         out_length: usize,
-    ) -> i32;
+    ) -> u32;
 }
