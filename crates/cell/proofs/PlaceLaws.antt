@@ -1,7 +1,7 @@
 -- What the check of a place tells.
 use mathlib.Core.Path.{_≡_, refl, ap}
 use mathlib.Core.Bool.{Bool, true, false}
-use Prim.Native.Nat.{ℕ, _+_, _%_, _<_, _≤_}
+use Prim.Native.Nat.{ℕ, _+_, _*_, _/_, _%_, _^_, _<_, _≤_}
 use native.Mathlib.Omega.{arith}
 use lib.Dec.{ltb, eqb}
 use borrow.Author.Tests.{ltb-true, eqb-true}
@@ -36,3 +36,12 @@ good-byte len a = go (ltb a len) refl
     go : (s : Bool) → ltb a len ≡ s → if s Good (Bad (Range (address a))) ≡ Good → a < len
     go true p e = ltb-true a len p
     go false p e = absurd (let z : _≡_ {A = ℕ} 0 1 = cc in omega arith)
+
+-- `check_cell` turns an address right by two bits out of 64 and holds it against the count of cells: in a length that 64 bits hold, an aligned
+-- address inside memory passes
+pub turned-good : (len a : ℕ) → len < 2 ^ 64 → a / 4 + a % 4 * 0x4000000000000000 < len / 4 + (len % 4 + 3) / 4 → Place len a
+turned-good len a l e = record { inside = omega (arith, l, e); aligned = omega (arith, l, e) }
+
+-- and one that does not pass, yet lies inside memory, is not aligned
+pub turned-bad : (len a : ℕ) → len / 4 + (len % 4 + 3) / 4 ≤ a / 4 + a % 4 * 0x4000000000000000 → a < len → a % 4 ≡ 0 → ⊥
+turned-bad len a e i t = omega (arith, e, i, t)

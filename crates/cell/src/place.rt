@@ -19,18 +19,19 @@ pub fn check_byte(length: usize, address: Address) -> Checked
     }
 }
 
+// One comparison finds a good place: the address, turned right by two bits, is the number of its cell, or past every number if it is not aligned.
 pub fn check_cell(length: usize, address: Address) -> Checked
     ensures { λ r. ⌜ r ≡ place.checkCell length (address .0) ⌝ }
 {
-    if (address.0 as usize) < length {
-        if address.0 % 4 == 0 {
-            Checked::Good
-        } else {
-            Checked::Bad(Fault::Alignment(address))
-        }
-    } else {
-        Checked::Bad(Fault::Range(address))
+    let a = address.0 as usize;
+    let cells = length / 4 + (length % 4 + 3) / 4;
+    if a / 4 + a % 4 * 0x4000000000000000 < cells {
+        return Checked::Good;
     }
+    if a < length {
+        return Checked::Bad(Fault::Alignment(address));
+    }
+    Checked::Bad(Fault::Range(address))
 }
 
 // The cell at an address, or the fault of its place.
