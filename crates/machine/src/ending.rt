@@ -45,12 +45,26 @@ fn to_handler(machine: Machine, memory: &[u8], r: Registers, ended: Ended, h: u3
     let got = fetch(machine, Access::Stream, memory, Address(h));
     let Fetched::Cell(x) = got else {
         return Turn {
-            registers: r,
+            registers: Registers {
+                ep: r.ep,
+                a: r.a,
+                sp: r.sp,
+                rp: r.rp,
+            },
             ended: Ended::Stopped(0xFFFFFEFD),
         };
     };
     Turn {
-        registers: enter(h, x, r),
+        registers: enter(
+            h,
+            x,
+            Registers {
+                ep: r.ep,
+                a: r.a,
+                sp: r.sp,
+                rp: r.rp,
+            },
+        ),
         ended: ended,
     }
 }
@@ -63,7 +77,18 @@ pub fn handle(machine: Machine, memory: &mut [u8], r: Registers, ended: Ended) -
 {
     store(machine.order, memory, 8, r.ep);
     let h = load(machine.order, memory, 0);
-    to_handler(machine, memory, r, ended, h)
+    to_handler(
+        machine,
+        memory,
+        Registers {
+            ep: r.ep,
+            a: r.a,
+            sp: r.sp,
+            rp: r.rp,
+        },
+        ended,
+        h,
+    )
 }
 
 // -ADDRESS is set by -9 and -23 alone.
@@ -120,10 +145,25 @@ fn throw_given(machine: Machine, memory: &mut [u8], r: Registers) -> Turn
     ensures { λ t. ⌜ throws.turnedTo (now (memory .exit)) t ≡ throws.throwingOf machine (now (memory .entry)) r ⌝ }
 {
     if r.sp % 4 == 0 {
-        return handle(machine, memory, r, Ended::Went);
+        return handle(
+            machine,
+            memory,
+            Registers {
+                ep: r.ep,
+                a: r.a,
+                sp: r.sp,
+                rp: r.rp,
+            },
+            Ended::Went,
+        );
     }
     Turn {
-        registers: r,
+        registers: Registers {
+            ep: r.ep,
+            a: r.a,
+            sp: r.sp,
+            rp: r.rp,
+        },
         ended: Ended::Stopped(0xFFFFFEFE),
     }
 }
@@ -136,7 +176,16 @@ pub fn next(machine: Machine, memory: &mut [u8], r: Registers) -> Turn
     let got = fetch(machine, Access::Stream, memory, Address(r.ep));
     match got {
         Fetched::Cell(x) => Turn {
-            registers: enter(r.ep, x, r),
+            registers: enter(
+                r.ep,
+                x,
+                Registers {
+                    ep: r.ep,
+                    a: r.a,
+                    sp: r.sp,
+                    rp: r.rp,
+                },
+            ),
             ended: Ended::Went,
         },
         Fetched::Failed(f) => throw(
