@@ -2,6 +2,7 @@
 use mathlib.Core.Bool.{Bool, true, false}
 use mathlib.Core.List.{List}
 use Prim.Native.Nat.{ℕ, zero, suc}
+use lib.Dec.{eqb}
 use lib.ListN.{length}
 use Rattle.cell.specs.Refusals.{judgeMachine}
 use Rattle.cell.specs.declared.Judged.{Judged}
@@ -78,6 +79,12 @@ abbrev pub isStop : Ended → Bool
 isStop Went = false
 isStop (Threw f) = false
 isStop (Stopped x) = true
+
+-- a cycle that ends a run with so much of its budget left: a stop, or a throw in the last one
+abbrev pub isLast : Ended → ℕ → Bool
+isLast Went n = false
+isLast (Threw f) n = eqb n 0
+isLast (Stopped x) n = true
 
 -- run: the cycles done within a budget, the stopping one counted
 abbrev pub counted : Ended → ℕ → ℕ

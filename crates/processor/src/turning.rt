@@ -40,17 +40,19 @@ fn turn(machine: Machine, memory: &mut [u8], r: Registers) -> Turn
     finish(machine, memory, s)
 }
 
-fn is_stop(ended: Ended) -> bool
-    ensures { λ t. ⌜ t ≡ answers.isStop ended ⌝ }
+// Whether a run ends with this cycle: it stopped, or it threw and the budget is spent.
+fn is_last(ended: Ended, left: u32) -> bool
+    ensures { λ t. ⌜ t ≡ answers.isLast ended left ⌝ }
 {
     match ended {
         Ended::Went => false,
-        Ended::Threw(_) => false,
+        Ended::Threw(_) => left == 0,
         Ended::Stopped(_) => true,
     }
 }
 
-// Cycles until one stops or the budget is spent.
+// Cycles until one stops or the budget is spent. What the last cycle was is not carried from one to the next: the loop's own end is reached
+// only from a cycle that went on.
 pub fn turns(machine: Machine, memory: &mut [u8], r: Registers, budget: u32) -> Progress
     requires { ⌜ places.Whole (now memory) ⌝ }
     requires { ⌜ 16 ≤ length (now memory) ⌝ }
@@ -67,15 +69,19 @@ pub fn turns(machine: Machine, memory: &mut [u8], r: Registers, budget: u32) -> 
         last = turn(machine, memory, last.registers);
         left -= 1;
         let ended = last.ended;
-        if is_stop(ended) {
+        if is_last(ended, left) {
             return Progress {
                 turn: last,
                 done: budget - left,
             };
         }
     }
+    let registers = last.registers;
     Progress {
-        turn: last,
+        turn: Turn {
+            registers: registers,
+            ended: Ended::Went,
+        },
         done: budget,
     }
 }

@@ -22,29 +22,47 @@ turn-requires c κs = (rw (c .before .before .loop .inv .long) (c .before .befor
 sub-left : tie.Need-sub-left Inv-loop μ-loop
 sub-left c = omega (arith, c .before .before .before .before .loop-test .taken)
 
-is-stop-requires : tie.Need-is-stop-requires Inv-loop μ-loop
-is-stop-requires c κs = search needs
+is-last-requires : tie.Need-is-last-requires Inv-loop μ-loop
+is-last-requires c κs = search needs
 
-sub-t13 : tie.Need-sub-t13 Inv-loop μ-loop
-sub-t13 c = omega (arith, c .before .before .before .before .before .before .before .loop .inv .within)
+sub-t14 : tie.Need-sub-t14 Inv-loop μ-loop
+sub-t14 c = omega (arith, c .before .before .before .before .before .before .before .loop .inv .within)
 
 same-length : tie.Need-same-length Inv-loop μ-loop
 same-length c = c .before .before .before .before .turn .kept .1 .0 ∙ c .before .before .before .before .before .before .before .loop .inv .long
 
 returns : tie.Need-returns Inv-loop μ-loop
-returns c = let d = stops-at (c .before .before .before .before .before .before .before .before .before .args .machine) (now (c .before .before .before .before .before .before .before .before .before .args .memory)) _ (c .before .before .before .before .before .before .before .before .before .args .budget) (c .before .before .before .before .before .before .before .loop .memory) (c .before .before .before .before .before .before .before .loop .last) (c .before .before .before .before .before .before .before .loop .left) (c .before .before .before .before .before .before .before .loop .inv) (c .before .before .before .before .before .before .loop-test .taken) _ (c .before .before .before .before .turn .result) (c .before .before .before .before .turn .ensures) (sym (c .before .is-stop .ensures) ∙ c .if1 .taken) in (d .count, d .state)
+returns c =
+    let a = c .before .before .before .before .before .before .before .before .before .args in
+    let l = c .before .before .before .before .before .before .before .loop in
+    let t = c .before .before .before .before .turn in
+    let d =
+    stops-at (a .machine) (now (a .memory)) _ (a .budget) (l .memory) (l .last) (l .left) (l .inv)
+    (c .before .before .before .before .before .before .loop-test .taken) _ (t .result) (t .ensures)
+    (sym (c .before .is-last .ensures) ∙ c .if1 .taken) in
+    (d .count, d .state)
 
 loop-less : tie.Need-loop-less Inv-loop μ-loop
 loop-less c = omega (arith, c .before .before .before .before .before .before .loop-test .taken)
 
 loop-again : tie.Need-loop-again Inv-loop μ-loop
-loop-again c = turns-at (c .before .before .before .before .before .before .before .before .before .args .machine) (now (c .before .before .before .before .before .before .before .before .before .args .memory)) _ (c .before .before .before .before .before .before .before .before .before .args .budget) (c .before .before .before .before .before .before .before .loop .memory) (c .before .before .before .before .before .before .before .loop .last) (c .before .before .before .before .before .before .before .loop .left) (c .before .before .before .before .before .before .before .loop .inv) (c .before .before .before .before .before .before .loop-test .taken) _ (c .before .before .before .before .turn .result) (c .before .before .before .before .turn .ensures) (c .before .before .before .before .turn .kept .1 .0) (sym (c .before .is-stop .ensures) ∙ c .if1 .left)
+loop-again c =
+    let a = c .before .before .before .before .before .before .before .before .before .args in
+    let l = c .before .before .before .before .before .before .before .loop in
+    let t = c .before .before .before .before .turn in
+    turns-at (a .machine) (now (a .memory)) _ (a .budget) (l .memory) (l .last) (l .left) (l .inv)
+    (c .before .before .before .before .before .before .loop-test .taken) _ (t .result) (t .ensures) (t .kept .1 .0)
+    (sym (c .before .is-last .ensures) ∙ c .if1 .left)
 
 same-length-2 : tie.Need-same-length-2 Inv-loop μ-loop
-same-length-2 c = c .before .loop .inv .long
+same-length-2 c = c .before .before .loop .inv .long
 
 returns-2 : tie.Need-returns-2 Inv-loop μ-loop
-returns-2 c = let d = ends-at (c .before .before .before .args .machine) (now (c .before .before .before .args .memory)) _ (c .before .before .before .args .budget) (c .before .loop .memory) (c .before .loop .last) (c .before .loop .left) (c .before .loop .inv) (c .loop-test .left) in (d .count, d .state)
+returns-2 c =
+    let a = c .before .before .before .before .args in
+    let l = c .before .before .loop in
+    let d = ends-at (a .machine) (now (a .memory)) _ (a .budget) (l .memory) (l .last) (l .left) (l .inv) (c .before .loop-test .left) in
+    (d .count, d .state)
 
 pub turns-spec : {M : Type 1} → statement M
 turns-spec =
@@ -55,8 +73,8 @@ turns-spec =
     loop-holds
     turn-requires
     sub-left
-    is-stop-requires
-    sub-t13
+    is-last-requires
+    sub-t14
     same-length
     returns
     loop-less
