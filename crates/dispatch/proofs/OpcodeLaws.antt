@@ -1,5 +1,6 @@
 -- The opcodes that raise -256.
 use mathlib.Core.Path.{_≡_, refl}
+use mathlib.Core.Logic.{_⊎_, inl, inr}
 use Prim.Native.Nat.{ℕ, suc, _/_, _<_, _≤_}
 use native.Mathlib.Decide.{decLe, decLt}
 use native.Mathlib.Omega.{arith}
@@ -37,6 +38,10 @@ loop-is n h = go (decLt n 0x4D) (decLt n 0x4E) (decLt n 0x4F)
     go (no a) (no b) (yes d) = let e : n ≡ 0x4E = omega arith in rw e
     go (no a) (no b) (no d) = let e : n ≡ 0x4F = omega arith in rw e
 
--- a number from 4Ch on that is none of the four
-pub past-loops : {n : ℕ} → 0x4C ≤ n → (n / 4 ≡ 0x13 → ⊥) → 0x50 ≤ n
-past-loops h e = omega arith
+pub loop-quarter : {n : ℕ} → 0x4C ≤ n → n < 0x50 → n / 4 ≡ 0x13
+loop-quarter h l = omega arith
+
+-- one of two ways
+pub either : {A B C : Type 0} → A ⊎ B → (A → C) → (B → C) → C
+either (inl a) f g = f a
+either (inr b) f g = g b

@@ -7,7 +7,6 @@ ghost use Rattle.machine.specs.Commits as commits;
 ghost use Rattle.dispatch.specs.Dispatch as dispatch;
 use crate::looping::execute_loop;
 use cell::Fault;
-use instruction::Form;
 use instruction::control::branch;
 use instruction::control::call;
 use instruction::control::execute;
@@ -20,6 +19,7 @@ use instruction::control::unloop;
 use instruction::exceptions::halt;
 use instruction::exceptions::lib;
 use instruction::literals::literal;
+use instruction::Form;
 use instruction::shape::onward;
 use machine::Machine;
 use machine::NoStore;
@@ -166,6 +166,8 @@ pub fn execute_fourth(machine: Machine, memory: &mut [u8], r: Registers, opcode:
         0x4A => commit_none(machine, memory, r, exit(machine, memory, r)),
         // (DO)
         0x4B => commit_two(machine, memory, r, start_loop(machine, memory, r)),
+        // (LOOP), (LOOP)I, (+LOOP), (+LOOP)I
+        0x4C | 0x4D | 0x4E | 0x4F => execute_loop(machine, memory, r, opcode),
         // UNLOOP
         0x50 => commit_none(machine, memory, r, unloop(machine, memory, r)),
         // J
@@ -225,20 +227,18 @@ pub fn execute_fourth(machine: Machine, memory: &mut [u8], r: Registers, opcode:
         0x55 => commit_none(machine, memory, r, halt(machine, memory, r)),
         // LIB
         0x57 => commit_none(machine, memory, r, lib(machine, memory, r)),
-        // NEXT
-        0xFF => Step {
-            registers: Registers {
-                ep: r.ep,
-                a: r.a,
-                sp: r.sp,
-                rp: r.rp,
-            },
-            outcome: Outcome::Next,
-        },
-        // (LOOP), (LOOP)I, (+LOOP), (+LOOP)I, and the opcodes that raise -256
+        // NEXT at FFh, tested here so that the table of jumps ends at 57h; the other opcodes raise -256
         _ => {
-            if opcode / 4 == 0x13 {
-                return execute_loop(machine, memory, r, opcode);
+            if opcode == 0xFF {
+                return Step {
+                    registers: Registers {
+                        ep: r.ep,
+                        a: r.a,
+                        sp: r.sp,
+                        rp: r.rp,
+                    },
+                    outcome: Outcome::Next,
+                };
             }
             commit_none(
                 machine,
