@@ -1,4 +1,2 @@
 -- Laws that belong to no one function.
 pub mod ShapeLaws
-pub mod RollingLaws
-pub mod LoopLaws

@@ -1,15 +1,6 @@
-// The effect of each instruction of table 7 (document 001): what it asks for, before anything is written. The files follow the paper's sections.
-pub mod arithmetic;
-pub mod comparison;
-pub mod control;
-pub mod exceptions;
-pub mod literals;
-pub mod logic;
-pub mod memory;
-pub mod registers;
-pub mod rolling;
+// The instructions, and the parts that their effects share. The effects, what each instruction of table 7 (document 001) asks for before anything
+// is written, stand in the crates `storage`, `operators` and `flow`.
 pub mod shape;
-pub mod stack;
 
 // The instructions in opcode order. `Illegal` stands for every opcode that raises -256.
 pub enum Instruction {

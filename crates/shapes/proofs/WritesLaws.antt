@@ -16,7 +16,7 @@ use Rattle.machine.specs.Commits.{firstBad, placesOf, storedOf, stepped, commit
 use Rattle.machine.specs.declared.Machine.{Machine}
 use Rattle.machine.specs.declared.Registers.{Registers}
 use Rattle.machine.specs.declared.Outcome.the-variants.{Went}
-use Rattle.instruction.proofs.RollingLaws.{rolled-places}
+use Rattle.storage.proofs.RollingLaws.{rolled-places}
 use Rattle.shapes.specs.Shapes.{Fits, shapeEffect}
 use Rattle.shapes.specs.declared.Rolling.{Rolling}
 use Rattle.shapes.specs.declared.Shape.the-variants.{Roll}

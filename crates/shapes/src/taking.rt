@@ -6,11 +6,11 @@ ghost use Rattle.shapes.specs.Shapes as shapes;
 use crate::Shape;
 use crate::looping::propose_loop;
 use crate::looping::propose_plus_loop;
+use flow::control::branch;
+use flow::control::call;
+use flow::control::question_branch;
+use flow::literals::literal;
 use instruction::Form;
-use instruction::control::branch;
-use instruction::control::call;
-use instruction::control::question_branch;
-use instruction::literals::literal;
 use machine::Machine;
 use machine::Registers;
 

@@ -5,7 +5,7 @@ use Rattle.shapes.proofs.judging.check_places.Tie as tie
 use mathlib.Core.Path.{sym, _∙_}
 use native.Mathlib.Omega.{arith}
 use Rattle.machine.specs.Commits as commits
-use Rattle.instruction.proofs.RollingLaws.{rolled-places}
+use Rattle.storage.proofs.RollingLaws.{rolled-places}
 use Rattle.shapes.proofs.WritesLaws.{first-good}
 use mathlib.Core.Path.{ap₂}
 use Rattle.shapes.proofs.WritesLaws.{places-more}

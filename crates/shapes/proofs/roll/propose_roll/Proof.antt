@@ -8,7 +8,7 @@ use denote.Ref.{now}
 use native.Mathlib.Omega.{arith}
 use Rattle.machine.specs.declared.Access.the-variants.{DataRead}
 use Rattle.instruction.specs.Plain as plain
-use Rattle.instruction.proofs.RollingLaws.{fetched-place, deep-place}
+use Rattle.storage.proofs.RollingLaws.{fetched-place, deep-place}
 
 fetch-requires : tie.Need-fetch-requires
 fetch-requires c κs = search needs

@@ -1,0 +1,91 @@
+-- `outer_index` meets its contract: a fetch that fails is raised, and else the effect is the clause of specs/.
+use borrow.Author.Needs.{needs}
+use Rattle.flow.proofs.control.outer_index.Statement.{statement}
+use Rattle.flow.proofs.control.outer_index.Tie as tie
+use Rattle.instruction.specs.Plain as plain
+use mathlib.Core.Path.{_∙_, sym, ap}
+
+fetch-requires : tie.Need-fetch-requires
+fetch-requires c κs = search needs
+
+enum-told : tie.Need-enum-told
+enum-told c = search needs
+
+enum-told-2 : tie.Need-enum-told-2
+enum-told-2 c = search needs
+
+fail-one-requires : tie.Need-fail-one-requires
+fail-one-requires c κs = search needs
+
+returns : tie.Need-returns
+unfolding plain.plainOf
+returns c = simp (sym (c .before .before .before .fetch .ensures) ∙ c .before .enum-told2 .given .1) (c .fail-one .ensures ∙ ap plain.failed (c .before .enum-told2 .given .1))
+
+add-requires : tie.Need-add-requires
+add-requires c κs = search needs
+
+fetch-requires-2 : tie.Need-fetch-requires-2
+fetch-requires-2 c κs = search needs
+
+enum-told-3 : tie.Need-enum-told-3
+enum-told-3 c = search needs
+
+enum-told-4 : tie.Need-enum-told-4
+enum-told-4 c = search needs
+
+fail-one-requires-2 : tie.Need-fail-one-requires-2
+fail-one-requires-2 c κs = search needs
+
+returns-2 : tie.Need-returns-2
+unfolding plain.plainOf
+returns-2 c = simp (sym (c .before .before .before .before .before .before .before .fetch .ensures) ∙ c .before .before .before .before .before .enum-told .given .1, rw (c .before .before .before .before .add .ensures) at (sym (c .before .before .before .fetch2 .ensures) ∙ c .before .enum-told4 .given .1)) (c .fail-one2 .ensures ∙ ap plain.failed (c .before .enum-told4 .given .1))
+
+add-requires-2 : tie.Need-add-requires-2
+add-requires-2 c κs = search needs
+
+fetch-requires-3 : tie.Need-fetch-requires-3
+fetch-requires-3 c κs = search needs
+
+enum-known-got3 : tie.Need-enum-known-got3
+enum-known-got3 c = search needs
+
+enum-told-5 : tie.Need-enum-told-5
+enum-told-5 c = search needs
+
+fail-one-requires-3 : tie.Need-fail-one-requires-3
+fail-one-requires-3 c κs = search needs
+
+returns-3 : tie.Need-returns-3
+unfolding plain.plainOf
+returns-3 c = simp (sym (c .before .before .before .before .before .before .before .before .before .before .before .fetch .ensures) ∙ c .before .before .before .before .before .before .before .before .before .enum-told .given .1, rw (c .before .before .before .before .before .before .before .before .add .ensures) at (sym (c .before .before .before .before .before .before .before .fetch2 .ensures) ∙ c .before .before .before .before .before .enum-told3 .given .1), rw (c .before .before .before .before .add2 .ensures) at (sym (c .before .before .before .fetch3 .ensures) ∙ c .before .enum-told5 .given .1)) (c .fail-one3 .ensures ∙ ap plain.failed (c .before .enum-told5 .given .1))
+
+push-requires : tie.Need-push-requires
+push-requires c κs = search needs
+
+returns-4 : tie.Need-returns-4
+unfolding plain.plainOf
+returns-4 c = simp (sym (c .before .before .before .before .before .before .before .before .before .before .before .before .fetch .ensures) ∙ c .before .before .before .before .before .before .before .before .before .before .enum-told .given .1, rw (c .before .before .before .before .before .before .before .before .before .add .ensures) at (sym (c .before .before .before .before .before .before .before .before .fetch2 .ensures) ∙ c .before .before .before .before .before .before .enum-told3 .given .1), rw (c .before .before .before .before .before .add2 .ensures) at (sym (c .before .before .before .before .fetch3 .ensures) ∙ c .before .before .got3 .given .1)) (c .push .ensures)
+
+pub outer-index-spec : {M : Type 1} → statement M
+outer-index-spec =
+    tie.close
+    (tie.spec
+    fetch-requires
+    enum-told
+    enum-told-2
+    fail-one-requires
+    returns
+    add-requires
+    fetch-requires-2
+    enum-told-3
+    enum-told-4
+    fail-one-requires-2
+    returns-2
+    add-requires-2
+    fetch-requires-3
+    enum-known-got3
+    enum-told-5
+    fail-one-requires-3
+    returns-3
+    push-requires
+    returns-4)

@@ -1,0 +1,301 @@
+// Control structures.
+ghost use mathlib.Core.Path.{_≡_};
+ghost use Rattle.machine.specs.Places as places;
+ghost use Rattle.machine.specs.Effects as effects;
+ghost use Rattle.instruction.specs.Plain as plain;
+ghost use Rattle.instruction.specs.Taking as taking;
+use cell::Address;
+use cell::Fetched;
+use cell::number::add;
+use cell::number::flag;
+use cell::number::subtract;
+use instruction::Form;
+use instruction::Instruction;
+use instruction::shape::branch_operand;
+use instruction::shape::fail_maybe;
+use instruction::shape::fail_none;
+use instruction::shape::fail_one;
+use instruction::shape::fail_two;
+use instruction::shape::is_crossed;
+use instruction::shape::maybe_not;
+use instruction::shape::push;
+use instruction::shape::return_address;
+use machine::Access;
+use machine::Machine;
+use machine::MaybeStore;
+use machine::NoStore;
+use machine::OneStore;
+use machine::Registers;
+use machine::Then;
+use machine::TwoStores;
+use machine::Write;
+use machine::places::fetch;
+
+// 42h BRANCH, 43h BRANCHI ( -- )
+pub fn branch(machine: Machine, memory: &[u8], r: Registers, form: Form) -> NoStore
+    requires { ⌜ places.Whole (now memory) ⌝ }
+    ensures { λ e. ⌜ effects.noStore e ≡ taking.takingAt machine form taking.branch (now (memory .entry)) r ⌝ }
+{
+    let got = branch_operand(machine, memory, r, form);
+    let Fetched::Cell(to) = got else {
+        return fail_none(got);
+    };
+    NoStore {
+        sp: r.sp,
+        rp: r.rp,
+        then: Then::Jump(Address(to)),
+    }
+}
+
+// 44h ?BRANCH, 45h ?BRANCHI ( flag -- )
+pub fn question_branch(machine: Machine, memory: &[u8], r: Registers, form: Form) -> NoStore
+    requires { ⌜ places.Whole (now memory) ⌝ }
+    ensures { λ e. ⌜ effects.noStore e ≡ taking.takingAt machine form taking.questionBranch (now (memory .entry)) r ⌝ }
+{
+    let got = fetch(machine, Access::DataRead, memory, Address(r.sp));
+    let Fetched::Cell(x) = got else {
+        return fail_none(got);
+    };
+    if x != 0 {
+        return NoStore {
+            sp: add(r.sp, 4),
+            rp: r.rp,
+            then: Then::GoOn,
+        };
+    }
+    let got2 = branch_operand(machine, memory, r, form);
+    let Fetched::Cell(to) = got2 else {
+        return fail_none(got2);
+    };
+    NoStore {
+        sp: add(r.sp, 4),
+        rp: r.rp,
+        then: Then::Jump(Address(to)),
+    }
+}
+
+// 46h EXECUTE ( xt -- ) R: ( -- a-addr )
+pub fn execute(machine: Machine, memory: &[u8], r: Registers) -> OneStore
+    requires { ⌜ places.Whole (now memory) ⌝ }
+    ensures { λ e. ⌜ effects.oneStore e ≡ plain.plainAt machine Instruction.Execute (now (memory .entry)) r ⌝ }
+{
+    let got = fetch(machine, Access::DataRead, memory, Address(r.sp));
+    let Fetched::Cell(to) = got else {
+        return fail_one(got);
+    };
+    OneStore {
+        sp: add(r.sp, 4),
+        rp: subtract(r.rp, 4),
+        write: Write {
+            access: Access::ReturnWrite,
+            at: Address(subtract(r.rp, 4)),
+            value: r.ep,
+        },
+        then: Then::Jump(Address(to)),
+    }
+}
+
+// 47h @EXECUTE ( a-addr1 -- ) R: ( -- a-addr2 )
+pub fn fetch_execute(machine: Machine, memory: &[u8], r: Registers) -> OneStore
+    requires { ⌜ places.Whole (now memory) ⌝ }
+    ensures { λ e. ⌜ effects.oneStore e ≡ plain.plainAt machine Instruction.FetchExecute (now (memory .entry)) r ⌝ }
+{
+    let got = fetch(machine, Access::DataRead, memory, Address(r.sp));
+    let Fetched::Cell(a) = got else {
+        return fail_one(got);
+    };
+    let got2 = fetch(machine, Access::NamedRead, memory, Address(a));
+    let Fetched::Cell(to) = got2 else {
+        return fail_one(got2);
+    };
+    OneStore {
+        sp: add(r.sp, 4),
+        rp: subtract(r.rp, 4),
+        write: Write {
+            access: Access::ReturnWrite,
+            at: Address(subtract(r.rp, 4)),
+            value: r.ep,
+        },
+        then: Then::Jump(Address(to)),
+    }
+}
+
+// 48h CALL, 49h CALLI ( -- ) R: ( -- a-addr )
+pub fn call(machine: Machine, memory: &[u8], r: Registers, form: Form) -> OneStore
+    requires { ⌜ places.Whole (now memory) ⌝ }
+    ensures { λ e. ⌜ effects.oneStore e ≡ taking.takingAt machine form taking.call (now (memory .entry)) r ⌝ }
+{
+    let got = branch_operand(machine, memory, r, form);
+    let Fetched::Cell(to) = got else {
+        return fail_one(got);
+    };
+    let rp = subtract(r.rp, 4);
+    OneStore {
+        sp: r.sp,
+        rp: rp,
+        write: Write {
+            access: Access::ReturnWrite,
+            at: Address(rp),
+            value: return_address(r, form),
+        },
+        then: Then::Jump(Address(to)),
+    }
+}
+
+// 4Ah EXIT ( -- ) R: ( a-addr -- )
+pub fn exit(machine: Machine, memory: &[u8], r: Registers) -> NoStore
+    requires { ⌜ places.Whole (now memory) ⌝ }
+    ensures { λ e. ⌜ effects.noStore e ≡ plain.plainAt machine Instruction.Exit (now (memory .entry)) r ⌝ }
+{
+    let got = fetch(machine, Access::ReturnRead, memory, Address(r.rp));
+    let Fetched::Cell(to) = got else {
+        return fail_none(got);
+    };
+    NoStore {
+        sp: r.sp,
+        rp: add(r.rp, 4),
+        then: Then::Jump(Address(to)),
+    }
+}
+
+// 4Bh (DO) ( x1 x2 -- ) R: ( -- x1 x2 )
+pub fn start_loop(machine: Machine, memory: &[u8], r: Registers) -> TwoStores
+    requires { ⌜ places.Whole (now memory) ⌝ }
+    ensures { λ e. ⌜ effects.twoStores e ≡ plain.plainAt machine Instruction.Do (now (memory .entry)) r ⌝ }
+{
+    let got = fetch(machine, Access::DataRead, memory, Address(r.sp));
+    let Fetched::Cell(x2) = got else {
+        return fail_two(got);
+    };
+    let got2 = fetch(machine, Access::DataRead, memory, Address(add(r.sp, 4)));
+    let Fetched::Cell(x1) = got2 else {
+        return fail_two(got2);
+    };
+    TwoStores {
+        sp: add(r.sp, 8),
+        rp: subtract(r.rp, 8),
+        first: Write {
+            access: Access::ReturnWrite,
+            at: Address(subtract(r.rp, 4)),
+            value: x1,
+        },
+        second: Write {
+            access: Access::ReturnWrite,
+            at: Address(subtract(r.rp, 8)),
+            value: x2,
+        },
+        then: Then::GoOn,
+    }
+}
+
+// 4Ch (LOOP), 4Dh (LOOP)I R: ( n1 n2 -- | n1 n3 )
+pub fn turn_loop(machine: Machine, memory: &[u8], r: Registers, form: Form) -> MaybeStore
+    requires { ⌜ places.Whole (now memory) ⌝ }
+    ensures { λ e. ⌜ effects.maybeStore e ≡ taking.takingAt machine form taking.loop (now (memory .entry)) r ⌝ }
+{
+    let got = fetch(machine, Access::ReturnRead, memory, Address(r.rp));
+    let Fetched::Cell(index) = got else {
+        return fail_maybe(got);
+    };
+    let got2 = fetch(machine, Access::ReturnRead, memory, Address(add(r.rp, 4)));
+    let Fetched::Cell(limit) = got2 else {
+        return fail_maybe(got2);
+    };
+    let next = add(index, 1);
+    if next == limit {
+        return maybe_not(r.sp, add(r.rp, 8));
+    }
+    let got3 = branch_operand(machine, memory, r, form);
+    let Fetched::Cell(to) = got3 else {
+        return fail_maybe(got3);
+    };
+    MaybeStore {
+        sp: r.sp,
+        rp: r.rp,
+        writes: true,
+        write: Write {
+            access: Access::ReturnWrite,
+            at: Address(r.rp),
+            value: next,
+        },
+        then: Then::Jump(Address(to)),
+    }
+}
+
+// 4Eh (+LOOP), 4Fh (+LOOP)I ( n -- ) R: ( n2 n3 -- | n2 n4 )
+pub fn turn_plus_loop(machine: Machine, memory: &[u8], r: Registers, form: Form) -> MaybeStore
+    requires { ⌜ places.Whole (now memory) ⌝ }
+    ensures { λ e. ⌜ effects.maybeStore e ≡ taking.takingAt machine form taking.plusLoop (now (memory .entry)) r ⌝ }
+{
+    let got = fetch(machine, Access::DataRead, memory, Address(r.sp));
+    let Fetched::Cell(n) = got else {
+        return fail_maybe(got);
+    };
+    let got2 = fetch(machine, Access::ReturnRead, memory, Address(r.rp));
+    let Fetched::Cell(index) = got2 else {
+        return fail_maybe(got2);
+    };
+    let got3 = fetch(machine, Access::ReturnRead, memory, Address(add(r.rp, 4)));
+    let Fetched::Cell(limit) = got3 else {
+        return fail_maybe(got3);
+    };
+    let next = add(index, n);
+    if is_crossed(index, next, limit) {
+        return maybe_not(add(r.sp, 4), add(r.rp, 8));
+    }
+    let got4 = branch_operand(machine, memory, r, form);
+    let Fetched::Cell(to) = got4 else {
+        return fail_maybe(got4);
+    };
+    MaybeStore {
+        sp: add(r.sp, 4),
+        rp: r.rp,
+        writes: true,
+        write: Write {
+            access: Access::ReturnWrite,
+            at: Address(r.rp),
+            value: next,
+        },
+        then: Then::Jump(Address(to)),
+    }
+}
+
+// 50h UNLOOP R: ( x1 x2 -- )
+pub fn unloop(machine: Machine, memory: &[u8], r: Registers) -> NoStore
+    requires { ⌜ places.Whole (now memory) ⌝ }
+    ensures { λ e. ⌜ effects.noStore e ≡ plain.plainAt machine Instruction.Unloop (now (memory .entry)) r ⌝ }
+{
+    let got = fetch(machine, Access::ReturnRead, memory, Address(r.rp));
+    let Fetched::Cell(_) = got else {
+        return fail_none(got);
+    };
+    let got2 = fetch(machine, Access::ReturnRead, memory, Address(add(r.rp, 4)));
+    let Fetched::Cell(_) = got2 else {
+        return fail_none(got2);
+    };
+    NoStore {
+        sp: r.sp,
+        rp: add(r.rp, 8),
+        then: Then::GoOn,
+    }
+}
+
+// 51h J ( -- x1 ) R: ( x1 x2 x3 -- x1 x2 x3 )
+pub fn outer_index(machine: Machine, memory: &[u8], r: Registers) -> OneStore
+    requires { ⌜ places.Whole (now memory) ⌝ }
+    ensures { λ e. ⌜ effects.oneStore e ≡ plain.plainAt machine Instruction.J (now (memory .entry)) r ⌝ }
+{
+    let got = fetch(machine, Access::ReturnRead, memory, Address(r.rp));
+    let Fetched::Cell(_) = got else {
+        return fail_one(got);
+    };
+    let got2 = fetch(machine, Access::ReturnRead, memory, Address(add(r.rp, 4)));
+    let Fetched::Cell(_) = got2 else {
+        return fail_one(got2);
+    };
+    let got3 = fetch(machine, Access::ReturnRead, memory, Address(add(r.rp, 8)));
+    let Fetched::Cell(x1) = got3 else {
+        return fail_one(got3);
+    };
+    push(r, x1)
+}

@@ -1,0 +1,53 @@
+// Exceptions.
+ghost use mathlib.Core.Path.{_≡_};
+ghost use Rattle.machine.specs.Places as places;
+ghost use Rattle.machine.specs.Effects as effects;
+ghost use Rattle.instruction.specs.Plain as plain;
+use cell::Address;
+use cell::Fault;
+use cell::Fetched;
+use cell::number::add;
+use instruction::Instruction;
+use instruction::shape::fail_none;
+use machine::Access;
+use machine::Machine;
+use machine::NoStore;
+use machine::Registers;
+use machine::Then;
+use machine::places::fetch;
+
+// 55h HALT ( x -- ): an SP that is no valid cell stops the machine with -258.
+pub fn halt(machine: Machine, memory: &[u8], r: Registers) -> NoStore
+    requires { ⌜ places.Whole (now memory) ⌝ }
+    ensures { λ e. ⌜ effects.noStore e ≡ plain.plainAt machine Instruction.Halt (now (memory .entry)) r ⌝ }
+{
+    let got = fetch(machine, Access::DataRead, memory, Address(r.sp));
+    let Fetched::Cell(x) = got else {
+        return NoStore {
+            sp: r.sp,
+            rp: r.rp,
+            then: Then::Halt(0xFFFFFEFE),
+        };
+    };
+    NoStore {
+        sp: add(r.sp, 4),
+        rp: r.rp,
+        then: Then::Halt(x),
+    }
+}
+
+// 57h LIB ( n -- )
+pub fn lib(machine: Machine, memory: &[u8], r: Registers) -> NoStore
+    requires { ⌜ places.Whole (now memory) ⌝ }
+    ensures { λ e. ⌜ effects.noStore e ≡ plain.plainAt machine Instruction.Lib (now (memory .entry)) r ⌝ }
+{
+    let got = fetch(machine, Access::DataRead, memory, Address(r.sp));
+    let Fetched::Cell(_) = got else {
+        return fail_none(got);
+    };
+    NoStore {
+        sp: r.sp,
+        rp: r.rp,
+        then: Then::Raise(Fault::Library),
+    }
+}

@@ -1,0 +1,45 @@
+-- `negate` meets its contract: a fetch that fails is raised, and else the effect is the clause of specs/.
+use borrow.Author.Needs.{needs}
+use Rattle.operators.proofs.arithmetic.negate.Statement.{statement}
+use Rattle.operators.proofs.arithmetic.negate.Tie as tie
+use Rattle.instruction.specs.Plain as plain
+use mathlib.Core.Path.{_∙_, sym, ap}
+
+fetch-requires : tie.Need-fetch-requires
+fetch-requires c κs = search needs
+
+enum-known-got : tie.Need-enum-known-got
+enum-known-got c = search needs
+
+enum-told : tie.Need-enum-told
+enum-told c = search needs
+
+fail-one-requires : tie.Need-fail-one-requires
+fail-one-requires c κs = search needs
+
+returns : tie.Need-returns
+unfolding plain.plainOf
+returns c = simp (sym (c .before .before .before .fetch .ensures) ∙ c .before .enum-told .given .1) (c .fail-one .ensures ∙ ap plain.failed (c .before .enum-told .given .1))
+
+negate-requires : tie.Need-negate-requires
+negate-requires c κs = search needs
+
+replace-requires : tie.Need-replace-requires
+replace-requires c κs = search needs
+
+returns-2 : tie.Need-returns-2
+unfolding plain.plainOf
+returns-2 c = simp (sym (c .before .before .before .before .before .fetch .ensures) ∙ c .before .before .before .got .given .1) (c .replace .ensures ∙ ap (plain.replaces (c .before .before .before .before .before .before .before .args .r .sp) (c .before .before .before .before .before .before .before .args .r .rp)) (c .before .negate .ensures))
+
+pub negate-spec : {M : Type 1} → statement M
+negate-spec =
+    tie.close
+    (tie.spec
+    fetch-requires
+    enum-known-got
+    enum-told
+    fail-one-requires
+    returns
+    negate-requires
+    replace-requires
+    returns-2)

@@ -1,0 +1,80 @@
+-- `s_slash_rem` meets its contract: a fetch that fails is raised, and else the effect is the clause of specs/.
+use borrow.Author.Needs.{needs}
+use Rattle.operators.proofs.arithmetic.s_slash_rem.Statement.{statement}
+use Rattle.operators.proofs.arithmetic.s_slash_rem.Tie as tie
+use Rattle.instruction.specs.Plain as plain
+use borrow.Author.Tests.{eq-eqb, ne-eqb}
+use mathlib.Core.Path.{_∙_, sym, ap}
+
+fetch-requires : tie.Need-fetch-requires
+fetch-requires c κs = search needs
+
+enum-known-got : tie.Need-enum-known-got
+enum-known-got c = search needs
+
+enum-told : tie.Need-enum-told
+enum-told c = search needs
+
+fail-two-requires : tie.Need-fail-two-requires
+fail-two-requires c κs = search needs
+
+returns : tie.Need-returns
+unfolding plain.plainOf
+returns c = simp (sym (c .before .before .before .fetch .ensures) ∙ c .before .enum-told .given .1) (c .fail-two .ensures ∙ ap plain.failed (c .before .enum-told .given .1))
+
+add-requires : tie.Need-add-requires
+add-requires c κs = search needs
+
+fetch-requires-2 : tie.Need-fetch-requires-2
+fetch-requires-2 c κs = search needs
+
+enum-known-got2 : tie.Need-enum-known-got2
+enum-known-got2 c = search needs
+
+enum-told-2 : tie.Need-enum-told-2
+enum-told-2 c = search needs
+
+fail-two-requires-2 : tie.Need-fail-two-requires-2
+fail-two-requires-2 c κs = search needs
+
+returns-2 : tie.Need-returns-2
+unfolding plain.plainOf
+returns-2 c = simp (sym (c .before .before .before .before .before .before .before .before .fetch .ensures) ∙ c .before .before .before .before .before .before .got .given .1, rw (c .before .before .before .before .add .ensures) at (sym (c .before .before .before .fetch2 .ensures) ∙ c .before .enum-told2 .given .1)) (c .fail-two2 .ensures ∙ ap plain.failed (c .before .enum-told2 .given .1))
+
+fail-two-requires-3 : tie.Need-fail-two-requires-3
+fail-two-requires-3 c κs = search needs
+
+returns-3 : tie.Need-returns-3
+unfolding plain.plainOf
+returns-3 c = simp (sym (c .before .before .before .before .before .before .before .before .before .before .fetch .ensures) ∙ c .before .before .before .before .before .before .before .before .got .given .1, rw (c .before .before .before .before .before .before .add .ensures) at (sym (c .before .before .before .before .before .fetch2 .ensures) ∙ c .before .before .before .got2 .given .1), eq-eqb _ _ (c .before .if1 .taken)) (c .fail-two3 .ensures)
+
+divide-symmetric-requires : tie.Need-divide-symmetric-requires
+divide-symmetric-requires c κs = search needs
+
+replace-both-requires : tie.Need-replace-both-requires
+replace-both-requires c κs = search needs
+
+returns-4 : tie.Need-returns-4
+unfolding plain.plainOf
+returns-4 c = simp (sym (c .before .before .before .before .before .before .before .before .before .before .before .fetch .ensures) ∙ c .before .before .before .before .before .before .before .before .before .got .given .1, rw (c .before .before .before .before .before .before .before .add .ensures) at (sym (c .before .before .before .before .before .before .fetch2 .ensures) ∙ c .before .before .before .before .got2 .given .1), ne-eqb _ _ (c .before .before .if1 .left)) (c .replace-both .ensures ∙ ap (plain.dividedBoth (c .before .before .before .before .before .before .before .before .before .before .before .before .before .args .r .sp) (c .before .before .before .before .before .before .before .before .before .before .before .before .before .args .r .rp)) (c .before .divide-symmetric .ensures))
+
+pub s-slash-rem-spec : {M : Type 1} → statement M
+s-slash-rem-spec =
+    tie.close
+    (tie.spec
+    fetch-requires
+    enum-known-got
+    enum-told
+    fail-two-requires
+    returns
+    add-requires
+    fetch-requires-2
+    enum-known-got2
+    enum-told-2
+    fail-two-requires-2
+    returns-2
+    fail-two-requires-3
+    returns-3
+    divide-symmetric-requires
+    replace-both-requires
+    returns-4)

@@ -1,0 +1,41 @@
+-- `drop` meets its contract: a fetch that fails is raised, and else the effect is the clause of specs/.
+use borrow.Author.Needs.{needs}
+use Rattle.storage.proofs.stack.drop.Statement.{statement}
+use Rattle.storage.proofs.stack.drop.Tie as tie
+use Rattle.instruction.specs.Plain as plain
+use mathlib.Core.Path.{_∙_, sym, ap}
+
+fetch-requires : tie.Need-fetch-requires
+fetch-requires c κs = search needs
+
+enum-told : tie.Need-enum-told
+enum-told c = search needs
+
+enum-told-2 : tie.Need-enum-told-2
+enum-told-2 c = search needs
+
+fail-none-requires : tie.Need-fail-none-requires
+fail-none-requires c κs = search needs
+
+returns : tie.Need-returns
+unfolding plain.plainOf
+returns c = simp (sym (c .before .before .before .fetch .ensures) ∙ c .before .enum-told2 .given .1) (c .fail-none .ensures ∙ ap plain.failed (c .before .enum-told2 .given .1))
+
+add-requires : tie.Need-add-requires
+add-requires c κs = search needs
+
+returns-2 : tie.Need-returns-2
+unfolding plain.plainOf
+returns-2 c = simp (sym (c .before .before .before .fetch .ensures) ∙ c .before .enum-told .given .1, c .add .ensures)
+
+pub drop-spec : {M : Type 1} → statement M
+drop-spec =
+    tie.close
+    (tie.spec
+    fetch-requires
+    enum-told
+    enum-told-2
+    fail-none-requires
+    returns
+    add-requires
+    returns-2)

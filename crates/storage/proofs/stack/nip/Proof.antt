@@ -1,0 +1,66 @@
+-- `nip` meets its contract: a fetch that fails is raised, and else the effect is the clause of specs/.
+use borrow.Author.Needs.{needs}
+use Rattle.storage.proofs.stack.nip.Statement.{statement}
+use Rattle.storage.proofs.stack.nip.Tie as tie
+use Rattle.instruction.specs.Plain as plain
+use mathlib.Core.Path.{_∙_, sym, ap}
+
+fetch-requires : tie.Need-fetch-requires
+fetch-requires c κs = search needs
+
+enum-known-got : tie.Need-enum-known-got
+enum-known-got c = search needs
+
+enum-told : tie.Need-enum-told
+enum-told c = search needs
+
+fail-one-requires : tie.Need-fail-one-requires
+fail-one-requires c κs = search needs
+
+returns : tie.Need-returns
+unfolding plain.plainOf
+returns c = simp (sym (c .before .before .before .fetch .ensures) ∙ c .before .enum-told .given .1) (c .fail-one .ensures ∙ ap plain.failed (c .before .enum-told .given .1))
+
+add-requires : tie.Need-add-requires
+add-requires c κs = search needs
+
+fetch-requires-2 : tie.Need-fetch-requires-2
+fetch-requires-2 c κs = search needs
+
+enum-told-2 : tie.Need-enum-told-2
+enum-told-2 c = search needs
+
+enum-told-3 : tie.Need-enum-told-3
+enum-told-3 c = search needs
+
+fail-one-requires-2 : tie.Need-fail-one-requires-2
+fail-one-requires-2 c κs = search needs
+
+returns-2 : tie.Need-returns-2
+unfolding plain.plainOf
+returns-2 c = simp (sym (c .before .before .before .before .before .before .before .before .fetch .ensures) ∙ c .before .before .before .before .before .before .got .given .1, rw (c .before .before .before .before .add .ensures) at (sym (c .before .before .before .fetch2 .ensures) ∙ c .before .enum-told3 .given .1)) (c .fail-one2 .ensures ∙ ap plain.failed (c .before .enum-told3 .given .1))
+
+reduce-requires : tie.Need-reduce-requires
+reduce-requires c κs = search needs
+
+returns-3 : tie.Need-returns-3
+unfolding plain.plainOf
+returns-3 c = simp (sym (c .before .before .before .before .before .before .before .before .fetch .ensures) ∙ c .before .before .before .before .before .before .got .given .1, rw (c .before .before .before .before .add .ensures) at (sym (c .before .before .before .fetch2 .ensures) ∙ c .before .enum-told2 .given .1)) (c .reduce .ensures)
+
+pub nip-spec : {M : Type 1} → statement M
+nip-spec =
+    tie.close
+    (tie.spec
+    fetch-requires
+    enum-known-got
+    enum-told
+    fail-one-requires
+    returns
+    add-requires
+    fetch-requires-2
+    enum-told-2
+    enum-told-3
+    fail-one-requires-2
+    returns-2
+    reduce-requires
+    returns-3)

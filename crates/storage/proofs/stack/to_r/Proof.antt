@@ -1,0 +1,49 @@
+-- `to_r` meets its contract: a fetch that fails is raised, and else the effect is the clause of specs/.
+use borrow.Author.Needs.{needs}
+use Rattle.storage.proofs.stack.to_r.Statement.{statement}
+use Rattle.storage.proofs.stack.to_r.Tie as tie
+use Rattle.instruction.specs.Plain as plain
+use mathlib.Core.Path.{_∙_, sym, ap}
+
+fetch-requires : tie.Need-fetch-requires
+fetch-requires c κs = search needs
+
+enum-known-got : tie.Need-enum-known-got
+enum-known-got c = search needs
+
+enum-told : tie.Need-enum-told
+enum-told c = search needs
+
+fail-one-requires : tie.Need-fail-one-requires
+fail-one-requires c κs = search needs
+
+returns : tie.Need-returns
+unfolding plain.plainOf
+returns c = simp (sym (c .before .before .before .fetch .ensures) ∙ c .before .enum-told .given .1) (c .fail-one .ensures ∙ ap plain.failed (c .before .enum-told .given .1))
+
+add-requires : tie.Need-add-requires
+add-requires c κs = search needs
+
+subtract-requires : tie.Need-subtract-requires
+subtract-requires c κs = search needs
+
+subtract-requires-2 : tie.Need-subtract-requires-2
+subtract-requires-2 c κs = search needs
+
+returns-2 : tie.Need-returns-2
+unfolding plain.plainOf
+returns-2 c = simp (sym (c .before .before .before .before .before .before .fetch .ensures) ∙ c .before .before .before .before .got .given .1, c .before .before .add .ensures, c .before .subtract .ensures, c .subtract2 .ensures)
+
+pub to-r-spec : {M : Type 1} → statement M
+to-r-spec =
+    tie.close
+    (tie.spec
+    fetch-requires
+    enum-known-got
+    enum-told
+    fail-one-requires
+    returns
+    add-requires
+    subtract-requires
+    subtract-requires-2
+    returns-2)
