@@ -1,4 +1,5 @@
 -- Laws that belong to no one function.
+pub mod BooleanLaws
 pub mod BytesLaws
 pub mod NumberLaws
 pub mod PlaceLaws
