@@ -21,7 +21,7 @@ use Rattle.layout.proofs.Listing.{first-none, some-item}
 use Rattle.layout.proofs.Placing.{at-most}
 use Rattle.layout.proofs.Packing.{base-of}
 use Rattle.packer.specs.Judgement.{named, refusalOf, after, inOrder, judgeOrder, judgeArrays, judgePlace, judgeRoom, judgeInput, judgeImage, judgeListing, judgeAll, judgePack}
-use Rattle.packer.specs.Pack.{cellCount}
+use Rattle.cell.specs.Memory.{cellCount}
 
 -- four judgements in order: where the first two turn back, they decide; where they pass, the last two do
 halves : (a b c d : Judged) → inOrder (a ∷ b ∷ c ∷ d ∷ []) ≡ after (inOrder (a ∷ b ∷ [])) (inOrder (c ∷ d ∷ []))
