@@ -4,3 +4,4 @@ pub mod BytesLaws
 pub mod NumberLaws
 pub mod PlaceLaws
 pub mod MemoryLaws
+pub mod JudgementLaws

@@ -3,15 +3,15 @@ use mathlib.Core.List.{List, [], _∷_}
 use Prim.{Unit}
 use Prim.Native.Nat.{ℕ}
 use lib.ListN.{length}
-use Rattle.cell.specs.Refusals.{refusalNumber, judgeMachine}
+use Rattle.cell.specs.Refusals.{refusalNumber, inOrder, judgeMachine}
 use Rattle.cell.specs.declared.Refusal.{Refusal}
 use Rattle.cell.specs.declared.Judged.{Judged}
 use Rattle.cell.specs.declared.Judged.the-variants as judged
 use Rattle.processor.specs.Answers.{machineOf, begun}
 use Rattle.layout.specs.Listing.{Listing, listed}
 use Rattle.layout.specs.Packing.{imageCells}
-use Rattle.packer.specs.Judgement.{inOrder, judgeArrays, judgePlace}
-use Rattle.list_machine.specs.Runs.{Run, runOf, beginning}
+use Rattle.packer.specs.Judgement.{judgeArrays, judgePlace}
+use Rattle.list_machine.specs.Runs.{Course, goesOn, stoppedBy, stoodOutside, Run, runOf, beginning}
 use Rattle.list_machine.specs.Demand3.{Holds, firstRegisters, Agree}
 use Rattle.items.specs.Stands.{runAs}
 use Rattle.items.specs.declared.Ending.{Ending}
