@@ -32,7 +32,7 @@ counted-stop Went n q = absurd (true≢false (sym q))
 counted-stop (Threw f) n q = absurd (true≢false (sym q))
 counted-stop (Stopped x) n q = refl
 
-counted-goes : (e : Ended) (n : ℕ) → isStop e ≡ false → counted e n ≡ suc n
+pub counted-goes : (e : Ended) (n : ℕ) → isStop e ≡ false → counted e n ≡ suc n
 counted-goes Went n q = refl
 counted-goes (Threw f) n q = refl
 counted-goes (Stopped x) n q = absurd (true≢false q)
@@ -104,7 +104,7 @@ module _ (machine : Machine) (m0 : List ℕ) (t0 : Turn) (budget : ℕ) (m : Lis
   pub ends-at : k ≤ 0 → Done machine m0 t0 budget budget m t
   ends-at h = let n : k ≡ 0 = omega arith in run-ends machine m0 t0 budget m t (rw n at s)
 
-counted-first : (e : Ended) → counted e 0 ≡ 1
+pub counted-first : (e : Ended) → counted e 0 ≡ 1
 counted-first Went = refl
 counted-first (Threw f) = refl
 counted-first (Stopped x) = refl
