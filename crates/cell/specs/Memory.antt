@@ -3,6 +3,10 @@ use mathlib.Core.Path.{_≡_}
 use mathlib.Core.List.{List}
 use Prim.Native.Nat.{ℕ, zero, suc, _+_, _*_, _/_, _%_, _≤_, _<_}
 use lib.ListN.{getD, set}
+use Rattle.cell.specs.declared.CellCount.{CellCount}
+
+abbrev pub cellCount : ℕ → CellCount
+cellCount n = record { 0 = n }
 
 -- the four bytes of a cell, least significant first
 abbrev pub byte0 : ℕ → ℕ

@@ -1,8 +1,9 @@
 -- Refusals: their numbers, and the first that applies. Document 01, "Turned back for the input", "Turned back for the state", and
 -- "Order: -4101, -4102, input list, -4104, -1, -4110, -4105, each where it applies".
+use mathlib.Core.Path.{_≡_}
 use mathlib.Core.Bool.{Bool, true, false, not, _||_}
 use mathlib.Core.List.{List, [], _∷_}
-use Prim.Native.Nat.{ℕ, _-_, _%_, _^_}
+use Prim.Native.Nat.{ℕ, _-_, _%_, _^_, _≤_}
 use lib.Dec.{ltb, eqb}
 use Rattle.cell.specs.Choice.{if}
 use Rattle.cell.specs.declared.Refusal.{Refusal}
@@ -35,6 +36,16 @@ abbrev pub judge : List Ground → Judged
 judge [] = Passed
 judge (g ∷ gs) = if (g .applies) (Refused (g .refusal)) (judge gs)
 
+-- the second judgement, where the first passes
+abbrev pub after : Judged → Judged → Judged
+after Passed j = j
+after (Refused r) j = Refused r
+
+-- of judgements in order, the first that turns back
+abbrev pub inOrder : List Judged → Judged
+inOrder [] = Passed
+inOrder (j ∷ js) = after j (inOrder js)
+
 -- -4101: "MEMORY is the length of the lent memory: 1,024 to 16,777,216 bytes, a multiple of 4"
 abbrev pub memoryLength : ℕ → Ground
 memoryLength len =
@@ -47,3 +58,14 @@ byteOrder order = record { applies = ltb 1 order; refusal = ByteOrder }
 -- what every call on a lent memory judges first
 unfoldable pub judgeMachine : ℕ → ℕ → Judged
 judgeMachine len order = judge (memoryLength len ∷ byteOrder order ∷ [])
+
+-- a memory's length that -4101 does not turn back
+pub record Lent (len : ℕ) : Type 0 where
+  pub whole : len % 4 ≡ 0
+  pub least : 1024 ≤ len
+  pub most : len ≤ 16777216
+
+-- neither -4101 nor -4102
+pub record GoodMachine (len order : ℕ) : Type 0 where
+  pub lent : Lent len
+  pub known : order ≤ 1

@@ -1,29 +1,18 @@
 -- The call for the list machine from what its parts leave.
-use mathlib.Core.Path.{_≡_, refl, sym, ap, _∙_}
-use mathlib.Core.List.{List, [], _∷_}
+use mathlib.Core.Path.{_≡_, refl, _∙_}
+use mathlib.Core.List.{List, []}
 use Prim.Native.Nat.{ℕ, _≤_}
-use native.Mathlib.Omega.{arith}
-use lib.ListN.{length, getD, set, drop}
+use lib.ListN.{length, getD}
 use Rattle.cell.specs.Refusals.{refusalNumber}
 use Rattle.cell.specs.declared.Refusal.{Refusal}
-use Rattle.cell.specs.declared.Judged.{Judged}
 use Rattle.cell.specs.declared.Judged.the-variants.{Passed, Refused}
-use Rattle.follow.specs.Follow.{judgeFollow, FollowResult, answerAs, followedTo, followOf}
+use Rattle.follow.specs.Follow.{judgeFollow, answerAs, followedTo, followOf}
 use Rattle.follow.specs.declared.Followed.{Followed}
 use Rattle.follow.specs.declared.Followed.the-variants as followed
 use Rattle.exports.specs.Lending.{withRoom}
 use Rattle.exports.specs.Machines.{told, called}
 use Rattle.exports.specs.Lists.{listTold, judgeList, listCall}
 use Rattle.exports.proofs.LendingLaws.{roomy}
-
-pub five-written : (l : List ℕ) (p q r s t : ℕ) → 5 ≤ length l
-    → set (set (set (set (set l 0 p) 1 q) 2 r) 3 s) 4 t ≡ p ∷ q ∷ r ∷ s ∷ t ∷ drop 5 l
-five-written [] p q r s t h = absurd (omega arith)
-five-written (a ∷ []) p q r s t h = absurd (omega arith)
-five-written (a ∷ b ∷ []) p q r s t h = absurd (omega arith)
-five-written (a ∷ b ∷ c ∷ []) p q r s t h = absurd (omega arith)
-five-written (a ∷ b ∷ c ∷ d ∷ []) p q r s t h = absurd (omega arith)
-five-written (a ∷ b ∷ c ∷ d ∷ e ∷ l) p q r s t h = refl
 
 pub list-roomy : (len order : ℕ) (kinds operands : List ℕ) (base pointers out : ℕ) → judgeList len order kinds operands base pointers out ≡ Passed
     → (2 ≤ pointers) × (5 ≤ out)

@@ -3,10 +3,9 @@ use mathlib.Core.List.{List, [], _∷_, _++_}
 use Prim.Native.Nat.{ℕ}
 use lib.Dec.{ltb}
 use lib.ListN.{length, getD, drop}
-use Rattle.cell.specs.Choice.{if}
+use Rattle.cell.specs.Refusals.{Ground, judge, after}
 use Rattle.cell.specs.declared.Refusal.the-variants.{ShortOutput}
 use Rattle.cell.specs.declared.Judged.{Judged}
-use Rattle.cell.specs.declared.Judged.the-variants.{Passed, Refused}
 use Rattle.machine.specs.declared.Registers.{Registers}
 
 -- the first of a lent array are written, the rest stay
@@ -21,6 +20,8 @@ abbrev pub registerList : Registers → List ℕ
 registerList r = r .ep ∷ r .a ∷ r .sp ∷ r .rp ∷ []
 
 -- -4105: "a lent output shorter than what the success would write there". Document 01, Order: it comes last.
+abbrev pub shortArray : ℕ → ℕ → Ground
+shortArray size needed = record { applies = ltb size needed; refusal = ShortOutput }
+
 abbrev pub withRoom : Judged → ℕ → ℕ → Judged
-withRoom (Refused n) size needed = Refused n
-withRoom Passed size needed = if (ltb size needed) (Refused ShortOutput) Passed
+withRoom j size needed = after j (judge (shortArray size needed ∷ []))

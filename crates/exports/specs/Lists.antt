@@ -6,15 +6,9 @@ use Rattle.cell.specs.Refusals.{refusalNumber}
 use Rattle.cell.specs.declared.Judged.{Judged}
 use Rattle.cell.specs.declared.Judged.the-variants as judged
 use Rattle.list_machine.specs.Runs.{Course, goesOn, stoppedBy, stoodOutside, Run}
-use Rattle.follow.specs.Follow.{Answer, refused, ran, judgeFollow, followOf}
+use Rattle.follow.specs.Follow.{Answer, refused, ran, judgeFollow, courseNumber, followOf}
 use Rattle.exports.specs.Lending.{written, withRoom}
 use Rattle.exports.specs.Machines.{Told, told, Called, called}
-
--- 0, that many items were carried out; 1, stopped; 2, outside
-abbrev pub courseNumber : Course → ℕ
-courseNumber goesOn = 0
-courseNumber (stoppedBy x) = 1
-courseNumber stoodOutside = 2
 
 -- the reason of a stop, or 0
 abbrev pub reasonIn : Course → ℕ

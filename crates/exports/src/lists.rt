@@ -14,20 +14,11 @@ use cell::Address;
 use cell::Judged;
 use cell::judgement::refusal_number;
 use follow::Followed;
+use follow::answers::ending_number;
 use follow::follow::list_run;
 use follow::judgement::judge_follow;
 use items::Ending;
 use items::Ran;
-
-fn course_number(ending: Ending) -> u32
-    ensures { λ n. ⌜ n ≡ lists.courseNumber (stands.courseOf ending) ⌝ }
-{
-    match ending {
-        Ending::GoesOn => 0,
-        Ending::Stopped(_) => 1,
-        Ending::Outside => 2,
-    }
-}
 
 fn reason_in(ending: Ending) -> u32
     ensures { λ n. ⌜ n ≡ lists.reasonIn (stands.courseOf ending) ⌝ }
@@ -62,7 +53,7 @@ fn note_run(ran: Ran, pointers: &mut [u32], out: &mut [u32]) -> u32
     let high = (cycles / 4294967296) as u32;
     write_two(pointers, stand.sp, stand.rp);
     write_five(out, reason_in(ending), item.0, ran.items, low, high);
-    course_number(ending)
+    ending_number(ending)
 }
 
 fn note_followed(answer: Followed, pointers: &mut [u32], out: &mut [u32]) -> u32

@@ -1,27 +1,25 @@
 -- What a run of the list machine rests on once it passed, and that it runs as its packed cells do.
-use mathlib.Core.Path.{_≡_, refl, sym, ap, _∙_}
+use mathlib.Core.Path.{_≡_, refl}
 use mathlib.Core.List.{List, [], _∷_}
 use Prim.Native.Nat.{ℕ, _^_, _≤_, _<_}
-use native.Mathlib.Omega.{arith}
 use lib.ListN.{length, getD}
-use Rattle.cell.specs.Refusals.{judgeMachine}
+use Rattle.cell.specs.Refusals.{after, inOrder, judgeMachine, Lent}
 use Rattle.cell.specs.declared.Refusal.{Refusal}
 use Rattle.cell.specs.declared.Judged.{Judged}
 use Rattle.cell.specs.declared.Judged.the-variants.{Passed, Refused}
-use Rattle.processor.specs.Answers.{machineOf, begun}
+use Rattle.cell.proofs.JudgementLaws.{both-pass}
+use Rattle.processor.specs.Answers.{machineOf}
 use Rattle.processor.proofs.EntryLaws.{passed}
 use Rattle.layout.specs.Refusals.{accepted}
-use Rattle.layout.specs.Listing.{Listing, listed, Checked}
-use Rattle.layout.specs.Packing.{imageCells, judgedPlace, Legal}
-use Rattle.packer.specs.Judgement.{after, inOrder, judgeArrays, judgePlace, judgeListing}
+use Rattle.layout.specs.Listing.{listed, Checked}
+use Rattle.layout.specs.Packing.{imageCells, judgedPlace}
+use Rattle.packer.specs.Judgement.{judgeArrays, judgePlace, judgeListing}
 use Rattle.packer.proofs.Judging.{refused-none, arrays-checked, items-most}
-use Rattle.list_machine.specs.Runs.{Run, runOf, beginning}
-use Rattle.list_machine.specs.Demand3.{Holds, firstRegisters, Agree}
+use Rattle.list_machine.specs.Runs.{runOf, beginning}
 use Rattle.list_machine.proofs.Simulation.{demand3}
-use Rattle.items.specs.Arrays.{Lent}
 use Rattle.items.specs.Stands.{runAs}
 use Rattle.items.specs.declared.Ran.{Ran}
-use Rattle.follow.specs.Follow.{judgeFollow, FollowResult, followedTo, followOf, AsPacked}
+use Rattle.follow.specs.Follow.{judgeFollow, followedTo, followOf, AsPacked}
 use Rattle.follow.specs.declared.Followed.the-variants as followed
 
 -- a judgement is that of the machine, then that of the listing and its base
@@ -30,15 +28,9 @@ pub in-turn : (len order : ℕ) (kinds operands : List ℕ) (base : ℕ)
 unfolding judgeFollow judgeListing
 in-turn len order kinds operands base = refl
 
-all-passed : (a b c : Judged) → inOrder (a ∷ b ∷ c ∷ []) ≡ Passed → (a ≡ Passed) × (b ≡ Passed) × (c ≡ Passed)
-all-passed Passed Passed Passed e = (refl, refl, refl)
-all-passed Passed Passed (Refused r) e = absurd (let z : _≡_ {A = ℕ} 0 1 = cc in omega arith)
-all-passed Passed (Refused r) c e = absurd (let z : _≡_ {A = ℕ} 0 1 = cc in omega arith)
-all-passed (Refused r) b c e = absurd (let z : _≡_ {A = ℕ} 0 1 = cc in omega arith)
-
 -- what passed: the memory, the arrays, the base
 pub record Passes (m kinds operands : List ℕ) (base : ℕ) : Type 0 where
-  pub lent : Lent m
+  pub lent : Lent (length m)
   pub checked : Checked kinds operands
   pub place : judgedPlace base (imageCells (listed kinds operands)) ≡ accepted
   pub most : length kinds ≤ 4096
@@ -47,13 +39,14 @@ pub passes : (m : List ℕ) (order : ℕ) (kinds operands : List ℕ) (base : �
     → Passes m kinds operands base
 unfolding judgeFollow
 passes m order kinds operands base e =
-    let s = all-passed (judgeMachine (length m) order) (judgeArrays kinds operands) (judgePlace base (imageCells (listed kinds operands))) e in
-    let t = passed (length m) order (s .0) in
-    let k = arrays-checked kinds operands (s .1) in
+    let place : Judged = judgePlace base (imageCells (listed kinds operands)) in
+    let s = both-pass (judgeMachine (length m) order) (inOrder (judgeArrays kinds operands ∷ place ∷ [])) e in
+    let t = both-pass (judgeArrays kinds operands) (inOrder (place ∷ [])) (s .1) in
+    let k = arrays-checked kinds operands (t .0) in
     record {
-      lent = record { whole = t .whole; least = t .least; most = t .most };
+      lent = passed (length m) order (s .0);
       checked = k;
-      place = refused-none (judgedPlace base (imageCells (listed kinds operands))) (s .2);
+      place = refused-none (judgedPlace base (imageCells (listed kinds operands))) (both-pass place Passed (t .1) .0);
       most = items-most kinds operands k;
     }
 

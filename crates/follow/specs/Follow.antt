@@ -3,19 +3,17 @@ use mathlib.Core.List.{List, [], _∷_}
 use Prim.{Unit}
 use Prim.Native.Nat.{ℕ}
 use lib.ListN.{length}
-use Rattle.cell.specs.Refusals.{refusalNumber, judgeMachine}
+use Rattle.cell.specs.Refusals.{refusalNumber, inOrder, judgeMachine}
 use Rattle.cell.specs.declared.Refusal.{Refusal}
 use Rattle.cell.specs.declared.Judged.{Judged}
 use Rattle.cell.specs.declared.Judged.the-variants as judged
 use Rattle.processor.specs.Answers.{machineOf, begun}
 use Rattle.layout.specs.Listing.{Listing, listed}
 use Rattle.layout.specs.Packing.{imageCells}
-use Rattle.packer.specs.Judgement.{inOrder, judgeArrays, judgePlace}
-use Rattle.list_machine.specs.Runs.{Run, runOf, beginning}
+use Rattle.packer.specs.Judgement.{judgeArrays, judgePlace}
+use Rattle.list_machine.specs.Runs.{Course, goesOn, stoppedBy, stoodOutside, Run, runOf, beginning}
 use Rattle.list_machine.specs.Demand3.{Holds, firstRegisters, Agree}
-use Rattle.items.specs.Stands.{runAs}
-use Rattle.items.specs.declared.Ending.{Ending}
-use Rattle.items.specs.declared.Ending.the-variants as ending
+use Rattle.items.specs.Stands.{courseOf, runAs}
 use Rattle.follow.specs.declared.Followed.{Followed}
 use Rattle.follow.specs.declared.Followed.the-variants as followed
 
@@ -54,14 +52,14 @@ followOf order kinds operands base m sp rp items =
     followIf (judgeFollow (length m) order kinds operands base) order base (listed kinds operands) m sp rp items
 
 -- the number of each answer: the refusal's; 0, all items asked for were carried out; 1, stopped by a reason; 2, outside
-abbrev pub endingNumber : Ending → ℕ
-endingNumber ending.GoesOn = 0
-endingNumber (ending.Stopped x) = 1
-endingNumber ending.Outside = 2
+abbrev pub courseNumber : Course → ℕ
+courseNumber goesOn = 0
+courseNumber (stoppedBy x) = 1
+courseNumber stoodOutside = 2
 
 abbrev pub followNumber : Followed → ℕ
 followNumber (followed.Refused r) = refusalNumber r
-followNumber (followed.Ran x) = endingNumber (x .ending)
+followNumber (followed.Ran x) = courseNumber (courseOf (x .ending))
 
 -- demand 3, of this answer: where the memory m held the image, the processor's counted cycles leave what the list machine left
 abbrev pub AsPacked : ℕ → ℕ → Listing → List ℕ → ℕ → ℕ → List ℕ → Followed → Type 0

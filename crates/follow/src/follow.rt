@@ -1,12 +1,12 @@
 // list_run: a number of items of a listing.
 ghost use mathlib.Core.Path.{_≡_};
 ghost use lib.ListN.{length};
+ghost use Rattle.cell.specs.Refusals.{Lent};
 ghost use Rattle.layout.specs.Listing.{listed, Checked};
 ghost use Rattle.layout.specs.Packing.{imageCells, judgedPlace};
 ghost use Rattle.layout.specs.Refusals.{accepted};
 ghost use Rattle.packer.specs.Prepared.{Places};
 ghost use Rattle.list_machine.specs.Runs as runs;
-ghost use Rattle.items.specs.Arrays as arrays;
 ghost use Rattle.items.specs.Stands as stands;
 ghost use Rattle.follow.specs.Follow as follows;
 use crate::Followed;
@@ -34,7 +34,7 @@ fn follow_checked(
     rp: u32,
     items: u32,
 ) -> Ran
-    requires { ⌜ arrays.Lent (now memory) ⌝ }
+    requires { ⌜ Lent (length (now memory)) ⌝ }
     requires { ⌜ Checked (now kinds) (now operands) ⌝ }
     requires { ⌜ judgedPlace (base .0) (imageCells (listed (now kinds) (now operands))) ≡ accepted ⌝ }
     requires { ⌜ Places (length (now kinds)) (now entries) (now marks) (now ats) (now eps) (now lefts) ⌝ }

@@ -6,6 +6,7 @@ use Prim.Native.Nat.{ℕ, _+_, _*_, _<_}
 use native.Mathlib.Omega.{arith}
 use lib.Dec.{eqb}
 use lib.ListN.{length, getD}
+use Rattle.cell.specs.Refusals.{Lent}
 use Rattle.machine.specs.Commits.{placesOf}
 use Rattle.machine.specs.declared.Machine.{Machine}
 use Rattle.machine.specs.declared.Registers.{Registers}
@@ -22,14 +23,14 @@ use Rattle.shapes.specs.declared.Shape.{Shape}
 use Rattle.shapes.proofs.Alone.{Alone}
 use Rattle.items.specs.Stands.{positionOf}
 use Rattle.items.specs.Ways.{entryIn, intentOf, performed, effectFor}
-use Rattle.items.specs.Arrays.{Lent, Settled}
+use Rattle.items.specs.Arrays.{Settled}
 use Rattle.items.specs.declared.Stand.{Stand}
 use Rattle.items.specs.declared.Intent.{Intent}
 use Rattle.items.proofs.IntentLaws.{intent-is}
 use Rattle.items.proofs.ItemLaws.{finds, ep-is, form-is, target-is, effect-is, effect-alone}
 
 module _ (kinds operands entries marks ats eps lefts : List ℕ) (base cells : ℕ)
-    (s : Settled kinds operands entries marks ats eps lefts base cells) (machine : Machine) (m : List ℕ) (n : Lent m) (st : Stand)
+    (s : Settled kinds operands entries marks ats eps lefts base cells) (machine : Machine) (m : List ℕ) (n : Lent (length m)) (st : Stand)
     (h : st .item .0 < length kinds) where
   -- the registers of the item, as the code has them
   abbrev pub regs : Registers

@@ -1,13 +1,11 @@
 -- The arrays of a settled listing, read for one item.
 use mathlib.Core.Path.{_≡_, refl, ap, _∙_}
-use mathlib.Core.Bool.{Bool, true, false, _||_}
+use mathlib.Core.Bool.{Bool, true, false}
 use mathlib.Core.List.{List}
-use Prim.Native.Nat.{ℕ, zero, suc, _+_, _*_, _%_, _≤_, _<_}
+use Prim.Native.Nat.{ℕ, zero, suc, _+_, _*_, _≤_, _<_}
 use native.Mathlib.Omega.{arith}
-use borrow.Author.Tests.{ltb-false}
-use lib.Dec.{ltb, eqb}
+use lib.Dec.{eqb}
 use lib.ListN.{length, getD}
-use Rattle.cell.specs.Shift.{pick}
 use Rattle.cell.specs.declared.Fetched.the-variants.{Cell}
 use Rattle.machine.specs.declared.Machine.{Machine}
 use Rattle.instruction.specs.Taking.{Taking, branch, questionBranch, call, loop, plusLoop, literal}
@@ -19,27 +17,16 @@ use Rattle.layout.specs.declared.Form.{Form}
 use Rattle.layout.specs.Flags.{bit, flagged}
 use Rattle.layout.specs.Listing.{Listing, listed, entry}
 use Rattle.layout.specs.Layout.{extra, mid, left, formAt}
-use Rattle.layout.specs.Packing.{marks as marksOf, formOf, layout, imageCells, addressOf, epValue, behind, entryBelow, entryAt, judgedPlace}
+use Rattle.layout.specs.Packing.{marks as marksOf, formOf, layout, imageCells, addressOf, epValue, behind, entryBelow, entryAt}
+use Rattle.layout.proofs.KindLaws.{literal-is}
+use Rattle.layout.proofs.Packing.{Placed, base-of}
 use Rattle.layout.proofs.Placing.{left-le, at-most, at-before, reach}
-use Rattle.layout.proofs.Listing.{first-none, target-below, some-item}
+use Rattle.layout.proofs.Listing.{target-below, some-item}
 use Rattle.list_machine.specs.ListMachine.{Position, operandAt, effectAs, effectAt, registersAt}
+use Rattle.list_machine.proofs.Opcodes.{plain-decodes}
 use Rattle.shapes.proofs.Alone.{Alone, raises, plain-alone, taking-alone}
 use Rattle.items.specs.Ways.{entryIn, operandFor, effectBy, effectFor}
 use Rattle.items.specs.Arrays.{Settled}
-use Rattle.items.proofs.KindLaws.{plain-kind, literal-is}
-
--- what the judgement of the base leaves
-pub record Based (base size : ℕ) : Type 0 where
-  pub above : 0x10 ≤ base
-  pub inside : base + 4 * size ≤ 16777216
-
-based : (base size : ℕ) → judgedPlace base size ≡ 0 → Based base size
-based base size e = go (ltb base 0x10) refl (ltb 16777216 (base + 4 * size)) refl (first-none (pick (eqb (base % 4) 0) 0 4104) _ e .1)
-  where
-    go : (b : Bool) → ltb base 0x10 ≡ b → (d : Bool) → ltb 16777216 (base + 4 * size) ≡ d → pick (b || d) 4110 0 ≡ 0 → Based base size
-    go true q d r e = absurd (omega arith)
-    go false q true r e = absurd (omega arith)
-    go false q false r e = record { above = ltb-false base 0x10 q; inside = ltb-false 16777216 (base + 4 * size) r }
 
 flag-is : (x : ℕ) (b : Bool) → x ≡ bit b → eqb x 1 ≡ b
 flag-is x true e = rw e
@@ -60,8 +47,8 @@ module _ (kinds operands entries marks ats eps lefts : List ℕ) (base cells : �
   unfolding entryAt
   finds a = entry-in (length kinds) a (omega arith)
 
-  pub place-is : Based base (imageCells l)
-  place-is = based base (imageCells l) (rw (← s .size) (s .place))
+  pub place-is : Placed base (imageCells l)
+  place-is = base-of base (imageCells l) (rw (← s .size) (s .place))
 
   -- the image has a cell
   pub some-cell : (0 < imageCells l) × (imageCells l ≤ 8192)
@@ -137,7 +124,7 @@ module _ (machine : Machine) (base : ℕ) (l : Listing) (p : Position) (to after
   pub effect-is : (c : declared.Class) → sorts.classOf (l .kind (p .item)) ≡ c → (c ≡ class.NoKind → ⊥)
       → (c ≡ class.Branch → to ≡ addressOf base l (l .operand (p .item)))
       → effectFor machine (p .memory) (registersAt machine base l p) (l .kind (p .item)) (l .operand (p .item)) to after ≡ effectAt machine base l p
-  effect-is class.Plain q k f = effect-plain (classOf (decodeOf (l .kind (p .item)))) (plain-kind (l .kind (p .item)) q)
+  effect-is class.Plain q k f = effect-plain (classOf (decodeOf (l .kind (p .item)))) (plain-decodes (l .kind (p .item)) q)
   effect-is class.Literal q k f = effect-literal (l .kind (p .item)) (literal-is (l .kind (p .item)) q)
   effect-is class.Branch q k f = effect-branch (f refl) (classOf (decodeOf (l .kind (p .item))))
   effect-is class.NoKind q k f = absurd (k refl)

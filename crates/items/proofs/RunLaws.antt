@@ -17,7 +17,7 @@ use Rattle.layout.proofs.Placing.{opens-is}
 use Rattle.list_machine.specs.ListMachine.{Carried, carryOut, cyclesAt}
 use Rattle.list_machine.specs.Runs.{Run, furtherBy, further, runOf, beginning}
 use Rattle.items.specs.Stands.{positionOf, carriedAs, Left, left, leaves, memoryAfter, runAs, begun, counted, isOver}
-use Rattle.items.specs.Arrays.{Lent, Settled}
+use Rattle.items.specs.Arrays.{Settled}
 use Rattle.items.specs.declared.Stand.{Stand}
 use Rattle.items.specs.declared.Carried as code
 use Rattle.items.specs.declared.Carried.the-variants.{On, Stopped, Outside}
@@ -137,8 +137,3 @@ cycles-is kinds operands entries marks ats eps lefts base cells t machine m s h 
 pub few-cycles : (b : Bool) (k : ℕ) → k ≡ if b 2 1 → k ≤ 2
 few-cycles true k e = omega arith
 few-cycles false k e = omega arith
-
--- a memory of the same length may be lent as well
-pub lent-still : (m m2 : List ℕ) → length m2 ≡ length m → Lent m → Lent m2
-lent-still m m2 e n =
-    record { whole = rw e (n .whole); least = omega (arith, n .least); most = omega (arith, n .most) }

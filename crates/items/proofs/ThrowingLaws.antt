@@ -27,6 +27,7 @@ use Rattle.machine.specs.declared.Access.the-variants.{Push, Stream}
 use Rattle.machine.specs.declared.Ended.{Ended}
 use Rattle.machine.specs.declared.Ended.the-variants.{Went, Threw, Stopped}
 use Rattle.machine.proofs.CommitLaws.{room-place}
+use Rattle.iteration.proofs.LengthLaws.{noted-length}
 use Rattle.layout.specs.Listing.{Listing}
 use Rattle.layout.specs.Packing.{imageCells, epValue, entryAt}
 use Rattle.layout.specs.declared.Entry.{Entry}
@@ -42,13 +43,6 @@ code-below (Alignment a) = omega arith
 code-below Divisor = omega arith
 code-below Illegal = omega arith
 code-below Library = omega arith
-
-noted-length : (machine : Machine) (m : List ℕ) (f : Fault) → length (noted machine m f) ≡ length m
-noted-length machine m (Range a) = store-length (machine .order) m 12 (a .0)
-noted-length machine m (Alignment a) = store-length (machine .order) m 12 (a .0)
-noted-length machine m Divisor = refl
-noted-length machine m Illegal = refl
-noted-length machine m Library = refl
 
 -- a store from 4 on leaves the cell at 0
 kept : (order : ℕ) (m : List ℕ) (a x : ℕ) → 4 ≤ a → cellAt order (storeCell order m a x) 0 ≡ cellAt order m 0

@@ -1,20 +1,13 @@
--- What the code is handed: a listing in two arrays, its settled layout, and a memory.
+-- What the code is handed: a listing in two arrays, and its settled layout.
 use mathlib.Core.Path.{_≡_}
 use mathlib.Core.List.{List}
-use Prim.Native.Nat.{ℕ, _≤_}
+use Prim.Native.Nat.{ℕ}
 use lib.ListN.{length}
-use Rattle.machine.specs.Places.{Whole}
 use Rattle.layout.specs.Refusals.{accepted}
 use Rattle.layout.specs.Listing.{listed, entry, Checked}
 use Rattle.layout.specs.Flags.{Flags, flagged}
 use Rattle.layout.specs.Layout.{Laid}
 use Rattle.layout.specs.Packing.{marks as marksOf, layout, imageCells, judgedPlace}
-
--- MEMORY of document 01, The processor: 1,024 to 16,777,216 bytes, in whole cells
-pub record Lent (m : List ℕ) : Type 0 where
-  pub whole : Whole m
-  pub least : 1024 ≤ length m
-  pub most : length m ≤ 16777216
 
 -- an accepted listing, its entries, its marks and its layout, and a legal base
 pub record Settled (kinds operands entries marks ats eps lefts : List ℕ) (base cells : ℕ) : Type 0 where

@@ -2,6 +2,7 @@
 ghost use mathlib.Core.Path.{_≡_};
 ghost use Prim.Native.Nat.{_≤_, _<_};
 ghost use lib.ListN.{length};
+ghost use Rattle.cell.specs.Refusals.{Lent};
 ghost use Rattle.machine.specs.Places as places;
 ghost use Rattle.machine.specs.Commits as commits;
 ghost use Rattle.machine.specs.Throws as throws;
@@ -156,7 +157,7 @@ pub fn carry_out(
     cells: u32,
     s: Stand,
 ) -> Carried
-    requires { ⌜ arrays.Lent (now memory) ⌝ }
+    requires { ⌜ Lent (length (now memory)) ⌝ }
     requires { ⌜ arrays.Settled (now kinds) (now operands) (now entries) (now marks) (now ats) (now eps) (now lefts) base cells ⌝ }
     requires { ⌜ s .item .0 < length (now kinds) ⌝ }
     ensures { λ c. ⌜ stands.left (now (memory .exit)) c ≡ stands.leaves (now (memory .entry)) (lists.carryOut machine base (listed (now (kinds .entry)) (now (operands .entry))) (stands.positionOf (now (memory .entry)) s)) ⌝ }

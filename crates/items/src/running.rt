@@ -5,6 +5,7 @@ ghost use Prim.Native.Nat.{_<_, _≤_};
 ghost use lib.Dec.{eqb};
 ghost use lib.ListN.{length, getD};
 ghost use Rattle.cell.specs.Choice.{if};
+ghost use Rattle.cell.specs.Refusals.{Lent};
 ghost use Rattle.layout.specs.Listing.{listed};
 ghost use Rattle.list_machine.specs.Runs as runs;
 ghost use Rattle.items.specs.Arrays as arrays;
@@ -107,7 +108,7 @@ pub fn run_items(
     rp: u32,
     items: u32,
 ) -> Ran
-    requires { ⌜ arrays.Lent (now memory) ⌝ }
+    requires { ⌜ Lent (length (now memory)) ⌝ }
     requires { ⌜ arrays.Settled (now kinds) (now operands) (now entries) (now marks) (now ats) (now eps) (now lefts) base cells ⌝ }
     ensures { λ r. ⌜ stands.runAs (now (memory .exit)) r ≡ runs.runOf machine base (listed (now (kinds .entry)) (now (operands .entry))) items (runs.beginning (now (memory .entry)) sp rp) ⌝ }
 {

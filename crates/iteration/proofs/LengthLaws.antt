@@ -58,7 +58,7 @@ module _ (machine : Machine) where
       let h : ℕ = cellAt (machine .order) stored handlerCell in
       handed-length stored r e h (fetchOf machine Stream stored h) ∙ store-length (machine .order) m badCell (r .ep)
 
-  noted-length : (m : List ℕ) (f : Fault) → length (noted machine m f) ≡ length m
+  pub noted-length : (m : List ℕ) (f : Fault) → length (noted machine m f) ≡ length m
   noted-length m (Range a) = store-length (machine .order) m _ _
   noted-length m (Alignment a) = store-length (machine .order) m _ _
   noted-length m Divisor = refl

@@ -1,7 +1,7 @@
 -- A shift uncovers what was packed, and the immediate rule for any number of bytes.
 -- Assumes nothing.
 use mathlib.Core.Path.{_≡_, refl, ap, _∙_}
-use mathlib.Core.Bool.{Bool, true, false, _&&_, _||_, false≢true}
+use mathlib.Core.Bool.{true, _&&_}
 use mathlib.Core.Logic.{_⊎_, inl, inr}
 use mathlib.Core.List.{List, [], _∷_}
 use Prim.Native.Nat.{ℕ, zero, suc, _+_, _-_, _/_, _%_, _^_, _≤_, _<_}
@@ -11,6 +11,7 @@ use borrow.Author.Tests.{ltb-true, leb-true, eqb-true, le-leb, lt-leb}
 use lib.Dec.{leb, ltb}
 use lib.ListN.{length}
 use Rattle.cell.specs.Shift.{asr8}
+use Rattle.cell.proofs.BooleanLaws.{both-true, either-true}
 use Rattle.layout.specs.Bytes.{half, fits, pack, packs, shifts, AllBelow}
 
 -- the low byte of a packed cell
@@ -26,14 +27,6 @@ pack-below b x h = omega arith
 abbrev pub Fits : ℕ → ℕ → Type 0
 Fits zero x = x ≡ 0
 Fits (suc f) x = (x < half f) ⊎ ((2 ^ 32 ≤ x + half f) × (x < 2 ^ 32))
-
-pub both-true : (a b : Bool) → (a && b) ≡ true → (a ≡ true) × (b ≡ true)
-both-true true b e = (refl, e)
-both-true false b e = absurd (false≢true e)
-
-either-true : (a b : Bool) → (a || b) ≡ true → (a ≡ true) ⊎ (b ≡ true)
-either-true true b e = inl refl
-either-true false b e = inr e
 
 pub fits-case : (f x : ℕ) → fits f x ≡ true → Fits f x
 unfolding fits

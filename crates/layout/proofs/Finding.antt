@@ -7,11 +7,11 @@ use native.Mathlib.Decide.{decLt}
 use native.Mathlib.Omega.{arith}
 use borrow.Author.Tests.{eqb-true, eq-eqb}
 use lib.Dec.{eqb}
+use Rattle.cell.proofs.BooleanLaws.{both-true}
 use Rattle.layout.specs.declared.Entry.the-variants.{Item, Nothing}
 use Rattle.layout.specs.declared.ItemNumber.{ItemNumber}
 use Rattle.layout.specs.Listing.{Listing, entry}
 use Rattle.layout.specs.Packing.{layout, addressOf, pickEntry, entryBelow, entryAt}
-use Rattle.layout.proofs.Bytes.{both-true}
 use Rattle.layout.proofs.Placing.{entry-opens, one-entry}
 
 pub record Found (base : ℕ) (l : Listing) (k a j : ℕ) : Type 0 where

@@ -1,4 +1,5 @@
 pub mod Classes
+pub mod KindLaws
 pub mod Bytes
 pub mod Placing
 pub mod Image

@@ -1,7 +1,7 @@
 -- What an accepted listing has: kinds below 5Ch, plain operands 0, targets among the items; and its entries.
 -- Assumes nothing.
 use mathlib.Core.Path.{_≡_, refl, sym, ap, _∙_}
-use mathlib.Core.Bool.{Bool, true, false, _||_, true≢false, false≢true}
+use mathlib.Core.Bool.{Bool, true, false, _||_, true≢false}
 use Prim.Native.Nat.{ℕ, zero, suc, _+_, _≤_, _<_}
 use native.Mathlib.Decide.{decLt}
 use native.Mathlib.Omega.{arith}
@@ -59,10 +59,6 @@ any-some p (suc n) i h e = go (p n) refl (decLt i n) (λ l. any-some p n i l e)
     go false q (yes l) f = f l
     go false q (no l) f = absurd (true≢false (sym e ∙ ap p (let t : i ≡ n = omega arith in t) ∙ q))
 
-or-left : (a b : Bool) → a ≡ true → (a || b) ≡ true
-or-left true b e = refl
-or-left false b e = absurd (false≢true e)
-
 or-right : (a b : Bool) → b ≡ true → (a || b) ≡ true
 or-right true b e = refl
 or-right false b e = e
@@ -84,7 +80,7 @@ target-entry l i h q =
 
 pub call-entry : (l : Listing) (i : ℕ) → calls (l .kind i) ≡ true → entry l (suc i) ≡ true
 unfolding entry
-call-entry l i q = or-left _ _ q
+call-entry l i q = rw q
 
 pub is-branch : (c : Class) → isBranch c ≡ true → c ≡ branch
 is-branch plain q = cc

@@ -3,13 +3,14 @@
 use mathlib.Core.List.{List, [], _∷_}
 use Prim.Native.Nat.{ℕ, zero, suc, _+_, _*_}
 use lib.Dec.{leb, eqb}
-use lib.ListN.{length, getD, take, drop}
+use lib.ListN.{length, take, drop}
+use Rattle.cell.specs.Memory.{cellAt}
 use Rattle.cell.specs.Shift.{pick}
 use Rattle.layout.specs.Refusals.{accepted, badCount, first}
 use Rattle.layout.specs.Listing.{Listing, listed, judgedArrays}
 
 abbrev pub leastFirst : List ℕ → ℕ → ℕ
-leastFirst s a = getD s a 0 + 256 * getD s (a + 1) 0 + 65536 * getD s (a + 2) 0 + 16777216 * getD s (a + 3) 0
+leastFirst s a = cellAt 0 s a
 
 -- k cells from the byte a on
 unfoldable pub cellsFrom : List ℕ → ℕ → ℕ → List ℕ

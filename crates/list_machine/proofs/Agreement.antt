@@ -1,19 +1,16 @@
 -- One item: a cycle of the processor at the item does what the list machine does with it.
 use mathlib.Core.Path.{_≡_, refl, sym, ap, _∙_}
-use mathlib.Core.Bool.{Bool, true, false, not, false≢true, true≢false}
+use mathlib.Core.Bool.{Bool, true, false, false≢true, true≢false}
 use mathlib.Core.List.{List}
 use mathlib.Core.Logic.{_⊎_, inl, inr}
 use Prim.Native.Nat.{ℕ, zero, suc, _+_, _*_, _%_, _^_, _<_}
 use native.Mathlib.Omega.{arith}
-use lib.ListN.{getD}
 use Rattle.cell.specs.Number.{sum}
 use Rattle.cell.specs.Shift.{asr8}
-use Rattle.cell.specs.declared.Fetched.{Fetched}
 use Rattle.cell.specs.declared.Fetched.the-variants.{Cell}
 use Rattle.machine.specs.Places.{fetchOf}
-use Rattle.machine.specs.Effects.{Effect}
-use Rattle.machine.specs.Commits.{Stepped, stepped, commitOf}
-use Rattle.machine.specs.Throws.{Turned, turned, nextOf, finishOf}
+use Rattle.machine.specs.Commits.{stepped, commitOf}
+use Rattle.machine.specs.Throws.{turned, finishOf}
 use Rattle.machine.specs.declared.Machine.{Machine}
 use Rattle.machine.specs.declared.Registers.{Registers}
 use Rattle.machine.specs.declared.Outcome.{Outcome}
@@ -24,7 +21,7 @@ use Rattle.instruction.specs.Plain.{plainAt}
 use Rattle.instruction.specs.Taking.{Taking, branch, questionBranch, call, loop, plusLoop, literal, takingOf, takingAt, branchOperand, literalOperand, operandOf, afterOf}
 use Rattle.instruction.specs.declared.Form as stream
 use Rattle.instruction.specs.declared.Form.the-variants as stream-form
-use Rattle.dispatch.specs.Dispatch.{decodeOf, plain, taking, classOf, taken, executed, executeOf}
+use Rattle.dispatch.specs.Dispatch.{decodeOf, plain, taking, classOf, taken, executeOf}
 use Rattle.processor.specs.Cycles.{cycleOf}
 use Rattle.layout.specs.Kinds as kinds
 use Rattle.layout.specs.declared.Class as kind
@@ -35,16 +32,16 @@ use Rattle.layout.specs.Listing.{Listing}
 use Rattle.layout.specs.Layout.{extra, opens, mid, left, formAt}
 use Rattle.layout.specs.Image.{byteOf}
 use Rattle.layout.specs.Packing as packing
-use Rattle.layout.specs.Packing.{marks, layout, imageCells, image, value, addressOf, epValue, behind, register, Legal}
+use Rattle.layout.specs.Packing.{marks, layout, value, addressOf, epValue, behind, register, Legal}
 use Rattle.layout.proofs.Listing.{is-kind}
 use Rattle.layout.proofs.Packing.{placed, ep-inside, size-is}
 use Rattle.layout.proofs.Meet.{opcode, advance, run-into, immediate-value, immediate-next, operand-cell, operand-inside, literal-value, branch-lands, branch-cell}
-use Rattle.list_machine.specs.ListMachine.{Position, operandAt, effectAs, carryOut}
+use Rattle.list_machine.specs.ListMachine.{operandAt, carryOut}
 use Rattle.list_machine.specs.Demand3.{Holds}
 use Rattle.list_machine.proofs.Opcodes.{leads, Taken, literal-taken, branch-taken, plain-decodes}
 use Rattle.list_machine.proofs.Image.{atItem, image-fetch, next-enters}
 use Rattle.list_machine.proofs.Meets.{Meets, standing, registersFor}
-use Rattle.list_machine.proofs.Carrying.{Way, isWent, carried-meets}
+use Rattle.list_machine.proofs.Carrying.{Way, isWent, standsAt, carried-meets}
 
 -- the form of an item by its class
 plain-form : (c : kind.Class) (m : Bool) (x f : ℕ) → c ≡ Plain → packing.formOf c m x f ≡ Alone
@@ -221,12 +218,9 @@ module _ (machine : Machine) (base : ℕ) (l : Listing) (ok : Legal base l) (i :
       → takingAt machine form t m (here sp rp) ≡ takingOf machine t m sp rp (Cell (operandAt machine base l i t)) (behind base l i)
   effect-is m sp rp form t p q = rw (p, q)
 
-  abbrev standsAt : Bool → List ℕ → ℕ → ℕ → Position
-  standsAt ran m sp rp = record { item = i; ran = ran; memory = m; sp = sp; rp = rp }
-
   module _ (ran : Bool) (m : List ℕ) (sp rp : ℕ) (holds : Holds machine base l m) where
     plain-meets : formAt (layout l) i ≡ Alone → classOf (decodeOf (l .kind i)) ≡ plain
-        → Meets machine base l (carryOut machine base l (standsAt ran m sp rp)) (cycleOf machine m (atItem base l i sp rp))
+        → Meets machine base l (carryOut machine base l (standsAt i ran m sp rp)) (cycleOf machine m (atItem base l i sp rp))
     unfolding carryOut
     plain-meets q d =
         rw (cycle-is m sp rp (l .kind i) (ap (λ (g : Form). byteOf g (l .kind i)) q), executes-plain m (here sp rp) (l .kind i) d, d)
@@ -234,7 +228,7 @@ module _ (machine : Machine) (base : ℕ) (l : Listing) (ok : Legal base l) (i :
 
     cell-meets : formAt (layout l) i ≡ InCell → (t : Taking) → classOf (decodeOf (l .kind i)) ≡ taking stream-form.InCell t
         → operandOf machine stream-form.InCell t m (epValue base l i) rest ≡ Cell (operandAt machine base l i t)
-        → Meets machine base l (carryOut machine base l (standsAt ran m sp rp)) (cycleOf machine m (atItem base l i sp rp))
+        → Meets machine base l (carryOut machine base l (standsAt i ran m sp rp)) (cycleOf machine m (atItem base l i sp rp))
     unfolding carryOut
     cell-meets q t d o =
         rw (
@@ -249,7 +243,7 @@ module _ (machine : Machine) (base : ℕ) (l : Listing) (ok : Legal base l) (i :
     immediate-meets : formAt (layout l) i ≡ Immediate → (t : Taking) → classOf (decodeOf (l .kind i)) ≡ taking stream-form.InCell t
         → classOf (decodeOf (l .kind i + 1)) ≡ taking stream-form.Immediate t
         → operandOf machine stream-form.Immediate t m (epValue base l i) rest ≡ Cell (operandAt machine base l i t)
-        → Meets machine base l (carryOut machine base l (standsAt ran m sp rp)) (cycleOf machine m (atItem base l i sp rp))
+        → Meets machine base l (carryOut machine base l (standsAt i ran m sp rp)) (cycleOf machine m (atItem base l i sp rp))
     unfolding carryOut
     immediate-meets q t d e o =
         rw (
@@ -262,28 +256,28 @@ module _ (machine : Machine) (base : ℕ) (l : Listing) (ok : Legal base l) (i :
         (takingOf machine t m sp rp (Cell (operandAt machine base l i t)) (behind base l i)) holds)
 
     literal-meets : kinds.classOf (l .kind i) ≡ Literal
-        → Meets machine base l (carryOut machine base l (standsAt ran m sp rp)) (cycleOf machine m (atItem base l i sp rp))
+        → Meets machine base l (carryOut machine base l (standsAt i ran m sp rp)) (cycleOf machine m (atItem base l i sp rp))
     literal-meets c = go (literal-taken (l .kind i) c) (literal-form (kinds.classOf (l .kind i)) (marks l i) (l .operand i) (left (layout l) i) c)
       where
         go : (t : Taken (l .kind i)) × (leads (t .what) ≡ false) → (formAt (layout l) i ≡ Immediate) ⊎ (formAt (layout l) i ≡ InCell)
-            → Meets machine base l (carryOut machine base l (standsAt ran m sp rp)) (cycleOf machine m (atItem base l i sp rp))
+            → Meets machine base l (carryOut machine base l (standsAt i ran m sp rp)) (cycleOf machine m (atItem base l i sp rp))
         go t (inl q) = immediate-meets q (t .0 .what) (t .0 .in-cell) (t .0 .immediate) (literal-rest m (t .0 .what) (t .1) c q)
         go t (inr q) = cell-meets q (t .0 .what) (t .0 .in-cell) (literal-cell m holds (t .0 .what) (t .1) c q)
 
     branch-meets : kinds.classOf (l .kind i) ≡ Branch
-        → Meets machine base l (carryOut machine base l (standsAt ran m sp rp)) (cycleOf machine m (atItem base l i sp rp))
+        → Meets machine base l (carryOut machine base l (standsAt i ran m sp rp)) (cycleOf machine m (atItem base l i sp rp))
     branch-meets c = go (branch-taken (l .kind i) c) (branch-form (kinds.classOf (l .kind i)) (marks l i) (l .operand i) (left (layout l) i) c)
       where
         go : (t : Taken (l .kind i)) × (leads (t .what) ≡ true) → (formAt (layout l) i ≡ Immediate) ⊎ (formAt (layout l) i ≡ InCell)
-            → Meets machine base l (carryOut machine base l (standsAt ran m sp rp)) (cycleOf machine m (atItem base l i sp rp))
+            → Meets machine base l (carryOut machine base l (standsAt i ran m sp rp)) (cycleOf machine m (atItem base l i sp rp))
         go t (inl q) = immediate-meets q (t .0 .what) (t .0 .in-cell) (t .0 .immediate) (branch-by m (t .0 .what) (t .1) c q)
         go t (inr q) = cell-meets q (t .0 .what) (t .0 .in-cell) (branch-to m holds (t .0 .what) (t .1) c q)
 
-    pub item-meets : Meets machine base l (carryOut machine base l (standsAt ran m sp rp)) (cycleOf machine m (atItem base l i sp rp))
+    pub item-meets : Meets machine base l (carryOut machine base l (standsAt i ran m sp rp)) (cycleOf machine m (atItem base l i sp rp))
     item-meets = go (kinds.classOf (l .kind i)) refl
       where
         go : (c : kind.Class) → kinds.classOf (l .kind i) ≡ c
-            → Meets machine base l (carryOut machine base l (standsAt ran m sp rp)) (cycleOf machine m (atItem base l i sp rp))
+            → Meets machine base l (carryOut machine base l (standsAt i ran m sp rp)) (cycleOf machine m (atItem base l i sp rp))
         go Plain c = plain-meets (plain-form (kinds.classOf (l .kind i)) (marks l i) (l .operand i) (left (layout l) i) c) (plain-decodes (l .kind i) c)
         go Literal c = literal-meets c
         go Branch c = branch-meets c

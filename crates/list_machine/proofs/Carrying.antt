@@ -1,20 +1,17 @@
 -- An effect committed by the processor and carried out by the list machine.
-use mathlib.Core.Path.{_≡_, refl, sym, ap, _∙_}
+use mathlib.Core.Path.{_≡_, refl}
 use mathlib.Core.Bool.{Bool, true, false, not}
-use mathlib.Core.List.{List, [], _∷_}
+use mathlib.Core.List.{List}
 use Prim.Native.Nat.{ℕ, suc, _+_, _*_, _<_}
-use native.Mathlib.Omega.{arith}
 use borrow.Author.Tests.{ltb-true}
 use lib.Dec.{ltb}
 use lib.ListN.{length}
 use Rattle.cell.specs.Choice.{if}
 use Rattle.cell.specs.declared.Checked.{Checked}
 use Rattle.cell.specs.declared.Checked.the-variants.{Good, Bad}
-use Rattle.cell.specs.declared.Fetched.{Fetched}
-use Rattle.machine.specs.Places.{fetchOf}
 use Rattle.machine.specs.Effects.{Control, goOn, jump, halt, throwing, Action, Effect, act, raise}
 use Rattle.machine.specs.Commits.{Stepped, stepped, placesOf, storedOf, controlled, carriedOut, commitOf}
-use Rattle.machine.specs.Throws.{Turned, turned, nextOf, finishOf}
+use Rattle.machine.specs.Throws.{turned, nextOf, finishOf}
 use Rattle.machine.specs.declared.Machine.{Machine}
 use Rattle.machine.specs.declared.Registers.{Registers}
 use Rattle.machine.specs.declared.Outcome.{Outcome}
@@ -28,7 +25,7 @@ use Rattle.layout.specs.declared.Entry.{Entry}
 use Rattle.layout.specs.declared.Entry.the-variants.{Item, Nothing}
 use Rattle.layout.proofs.Placing.{entry-opens}
 use Rattle.layout.proofs.Finding.{found}
-use Rattle.list_machine.specs.ListMachine.{Position, Carried, on, stopped, outside, isImmediate, actedTo, movedTo, enteredAt, writesImage, followed, acted, carriedBy}
+use Rattle.list_machine.specs.ListMachine.{Position, on, outside, isImmediate, actedTo, movedTo, enteredAt, writesImage, followed, acted, carriedBy}
 use Rattle.list_machine.specs.Demand3.{Holds}
 use Rattle.list_machine.proofs.Frame.{stores-frame}
 use Rattle.list_machine.proofs.Image.{still-holds, next-enters}
@@ -41,6 +38,9 @@ isWent Next = false
 isWent (Raise f) = false
 isWent (Halt x) = false
 isWent Throw = false
+
+abbrev pub standsAt : ℕ → Bool → List ℕ → ℕ → ℕ → Position
+standsAt i ran m sp rp = record { item = i; ran = ran; memory = m; sp = sp; rp = rp }
 
 -- what an instruction does to a step that went: nothing, past the operand cell, or NEXT. a is A after the shift
 pub record Way (machine : Machine) (base : ℕ) (l : Listing) (i a : ℕ) (onward : Stepped → Stepped) : Type 0 where
@@ -58,16 +58,13 @@ module _ (machine : Machine) (base : ℕ) (l : Listing) (ok : Legal base l) (i a
   abbrev here : ℕ → ℕ → Registers
   here sp rp = record { ep = epValue base l i; a = a; sp = sp; rp = rp }
 
-  abbrev standsAt : Bool → List ℕ → ℕ → ℕ → Position
-  standsAt ran m sp rp = record { item = i; ran = ran; memory = m; sp = sp; rp = rp }
-
   jump-meets : (ran : Bool) (m : List ℕ) (sp rp to : ℕ) → Holds machine base l m
-      → Meets machine base l (followed machine base l (jump to) (standsAt ran m sp rp))
+      → Meets machine base l (followed machine base l (jump to) (standsAt i ran m sp rp))
       (nextOf machine m (record { ep = to; a = a; sp = sp; rp = rp }))
   jump-meets ran m sp rp to holds = go (entryAt base l to) refl
     where
       go : (n : Entry) → entryAt base l to ≡ n
-          → Meets machine base l (enteredAt n (standsAt ran m sp rp)) (nextOf machine m (record { ep = to; a = a; sp = sp; rp = rp }))
+          → Meets machine base l (enteredAt n (standsAt i ran m sp rp)) (nextOf machine m (record { ep = to; a = a; sp = sp; rp = rp }))
       go Nothing q = tt
       go (Item j) q =
           let f = found base l to (j .0) q in
@@ -76,12 +73,12 @@ module _ (machine : Machine) (base : ℕ) (l : Listing) (ok : Legal base l) (i a
 
   -- what follows the stores
   followed-meets : (ran : Bool) (m : List ℕ) (sp rp : ℕ) (c : Control) → Holds machine base l m
-      → Meets machine base l (followed machine base l c (standsAt ran m sp rp)) (finishOf machine (onward (stepped m (controlled c (here sp rp)))))
+      → Meets machine base l (followed machine base l c (standsAt i ran m sp rp)) (finishOf machine (onward (stepped m (controlled c (here sp rp)))))
   unfolding finishOf
   followed-meets ran m sp rp goOn holds = go (ltb (suc i) (l .count)) refl
     where
       go : (b : Bool) → ltb (suc i) (l .count) ≡ b
-          → Meets machine base l (if b (on (movedTo (suc i) (not (isImmediate (formAt (layout l) i))) (standsAt ran m sp rp))) outside)
+          → Meets machine base l (if b (on (movedTo (suc i) (not (isImmediate (formAt (layout l) i))) (standsAt i ran m sp rp))) outside)
           (finishOf machine (onward (stepped m (record { registers = here sp rp; outcome = Went }))))
       go false q = tt
       go true q =
@@ -92,17 +89,17 @@ module _ (machine : Machine) (base : ℕ) (l : Listing) (ok : Legal base l) (i a
   followed-meets ran m sp rp (halt x) holds =
       rw (w .kept m (here sp rp) (Halt x) refl) (record { memory = refl; sp = refl; rp = refl; ended = refl })
   followed-meets ran m sp rp throwing holds =
-      rw (w .kept m (here sp rp) Throw refl) (throwing-meets machine base l ok (standsAt ran m sp rp) a holds)
+      rw (w .kept m (here sp rp) Throw refl) (throwing-meets machine base l ok (standsAt i ran m sp rp) a holds)
 
   acted-meets : (ran : Bool) (m : List ℕ) (sp rp : ℕ) (x : Action) (c : Checked) → Holds machine base l m
-      → Meets machine base l (acted machine base l (standsAt ran m sp rp) x c) (finishOf machine (onward (carriedOut machine m (here sp rp) x c)))
+      → Meets machine base l (acted machine base l (standsAt i ran m sp rp) x c) (finishOf machine (onward (carriedOut machine m (here sp rp) x c)))
   unfolding finishOf
   acted-meets ran m sp rp x (Bad f) holds =
-      rw (w .kept m (here sp rp) (Raise f) refl) (throw-meets machine base l ok (standsAt ran m sp rp) f a holds)
+      rw (w .kept m (here sp rp) (Raise f) refl) (throw-meets machine base l ok (standsAt i ran m sp rp) f a holds)
   acted-meets ran m sp rp x Good holds = go (writesImage machine base l (x .stores)) refl
     where
       go : (b : Bool) → writesImage machine base l (x .stores) ≡ b
-          → Meets machine base l (if b outside (followed machine base l (x .control) (actedTo machine (standsAt ran m sp rp) x)))
+          → Meets machine base l (if b outside (followed machine base l (x .control) (actedTo machine (standsAt i ran m sp rp) x)))
           (finishOf machine (onward (carriedOut machine m (here sp rp) x Good)))
       go true q = tt
       go false q =
@@ -111,8 +108,8 @@ module _ (machine : Machine) (base : ℕ) (l : Listing) (ok : Legal base l) (i a
           (stores-frame machine base (base + 4 * imageCells l) m (x .stores) q) (stored-length machine m (x .stores)))
 
   pub carried-meets : (ran : Bool) (m : List ℕ) (sp rp : ℕ) (e : Effect) → Holds machine base l m
-      → Meets machine base l (carriedBy machine base l (standsAt ran m sp rp) e) (finishOf machine (onward (commitOf machine m (here sp rp) e)))
+      → Meets machine base l (carriedBy machine base l (standsAt i ran m sp rp) e) (finishOf machine (onward (commitOf machine m (here sp rp) e)))
   unfolding commitOf finishOf
   carried-meets ran m sp rp (raise f) holds =
-      rw (w .kept m (here sp rp) (Raise f) refl) (throw-meets machine base l ok (standsAt ran m sp rp) f a holds)
+      rw (w .kept m (here sp rp) (Raise f) refl) (throw-meets machine base l ok (standsAt i ran m sp rp) f a holds)
   carried-meets ran m sp rp (act x) holds = acted-meets ran m sp rp x (placesOf machine (length m) (x .stores)) holds

@@ -5,30 +5,19 @@ use Prim.Native.Nat.{ℕ, zero, suc, _+_}
 use native.Mathlib.Nat.{zero-add, suc-add}
 use Rattle.machine.specs.Throws.{Turned}
 use Rattle.machine.specs.declared.Machine.{Machine}
-use Rattle.machine.specs.declared.Ended.{Ended}
-use Rattle.machine.specs.declared.Ended.the-variants.{Went, Threw, Stopped}
 use Rattle.processor.specs.Cycles.{advance, cyclesOf}
-use Rattle.processor.specs.Answers.{isStop, counted, doneOf}
+use Rattle.processor.specs.Answers.{isStop, doneOf}
 use Rattle.processor.proofs.CycleLaws.{stop-final}
-
-counted-last : (e : Ended) → counted e 0 ≡ 1
-counted-last Went = refl
-counted-last (Threw f) = refl
-counted-last (Stopped x) = refl
-
-counted-more : (e : Ended) (n : ℕ) → isStop e ≡ false → counted e n ≡ suc n
-counted-more Went n q = refl
-counted-more (Threw f) n q = refl
-counted-more (Stopped x) n q = absurd (true≢false q)
+use Rattle.processor.proofs.RunLaws.{counted-goes, counted-first}
 
 module _ (machine : Machine) where
   pub one-done : (s : Turned) → doneOf machine 1 s ≡ 1
   unfolding doneOf
-  one-done s = counted-last (advance machine s .turn .ended)
+  one-done s = counted-first (advance machine s .turn .ended)
 
   pub two-done : (s : Turned) → isStop (advance machine s .turn .ended) ≡ false → doneOf machine 2 s ≡ 2
   unfolding doneOf
-  two-done s q = counted-more (advance machine s .turn .ended) (doneOf machine 1 (advance machine s)) q ∙ ap suc (one-done (advance machine s))
+  two-done s q = counted-goes (advance machine s .turn .ended) (doneOf machine 1 (advance machine s)) q ∙ ap suc (one-done (advance machine s))
 
   -- a machine that has not stopped after some cycles had not stopped before them
   not-before : (n : ℕ) (s : Turned) → isStop (cyclesOf machine n s .turn .ended) ≡ false → isStop (s .turn .ended) ≡ false
@@ -44,5 +33,5 @@ module _ (machine : Machine) where
   done-cut zero b s q = rw (zero-add b, zero-add (doneOf machine b s))
   done-cut (suc a) b s q =
       rw (suc-add a b, suc-add a (doneOf machine b (cyclesOf machine (suc a) s)))
-      (counted-more (advance machine s .turn .ended) (doneOf machine (a + b) (advance machine s)) (not-before a (advance machine s) q)
+      (counted-goes (advance machine s .turn .ended) (doneOf machine (a + b) (advance machine s)) (not-before a (advance machine s) q)
       ∙ ap suc (done-cut a b (advance machine s) q))

@@ -1,23 +1,18 @@
 -- Stores that write no byte of a range leave the range alone.
 use mathlib.Core.Path.{_≡_, refl}
-use mathlib.Core.Bool.{Bool, true, false, _&&_, _||_, true≢false}
+use mathlib.Core.Bool.{Bool, true, false, _&&_, true≢false}
 use mathlib.Core.List.{List, [], _∷_}
 use mathlib.Core.Logic.{inl, inr}
 use Prim.Native.Nat.{ℕ, _+_}
-use native.Mathlib.Omega.{arith}
 use borrow.Author.Tests.{ltb-false}
 use lib.Dec.{ltb}
 use Rattle.cell.specs.Memory.{Alike}
+use Rattle.cell.proofs.BooleanLaws.{neither}
 use Rattle.cell.proofs.MemoryLaws.{Apart, cell-frame, byte-frame, alike-refl, alike-trans}
 use Rattle.machine.specs.Places.{Width, oneByte, oneCell}
 use Rattle.machine.specs.Effects.{Store}
 use Rattle.machine.specs.Commits.{putStore, storedOf, widthOf, touches}
 use Rattle.machine.specs.declared.Machine.{Machine}
-
--- neither of two tests holds
-pub neither : (a b : Bool) → (a || b) ≡ false → (a ≡ false) × (b ≡ false)
-neither true b e = absurd (true≢false e)
-neither false b e = (refl, e)
 
 apart : (lo hi a n : ℕ) → (ltb a hi && ltb lo (a + n)) ≡ false → Apart lo hi a n
 apart lo hi a n e = go (ltb a hi) refl (ltb lo (a + n)) refl e

@@ -1,20 +1,17 @@
 -- The kinds of a listing as the processor decodes them: a plain kind is a plain instruction; a literal or a branch takes its operand, in its operand
 -- cell under its own opcode and from A under the next.
-use mathlib.Core.Path.{_≡_, refl, sym, _∙_, ap}
-use mathlib.Core.Bool.{Bool, true, false, not, _&&_, _||_, true≢false, false≢true}
-use mathlib.Core.List.{List, [], _∷_}
+use mathlib.Core.Path.{_≡_, refl, _∙_, ap}
+use mathlib.Core.Bool.{Bool, true, false, not, _&&_, _||_, false≢true}
 use Prim.Native.Nat.{ℕ, zero, suc, _+_, _<_}
-use mathlib.Core.Logic.{_⊎_, inl, inr}
 use native.Mathlib.Decide.{decLt}
 use native.Mathlib.Omega.{arith}
-use borrow.Author.Tests.{eqb-true}
-use lib.Dec.{eqb}
 use Rattle.instruction.specs.Taking.{Taking, branch, questionBranch, call, loop, plusLoop, literal}
 use Rattle.instruction.specs.declared.Form.the-variants.{InCell, Immediate}
 use Rattle.dispatch.specs.Dispatch.{decodeOf, Class, next, plain, taking, classOf}
 use Rattle.layout.specs.Kinds as kinds
 use Rattle.layout.specs.declared.Class as kind
 use Rattle.layout.specs.declared.Class.the-variants.{Plain, Literal, Branch, NoKind}
+use Rattle.layout.proofs.KindLaws.{literal-is, branch-among, AllOf, one-among}
 use Rattle.layout.proofs.Listing.{kind-low}
 
 -- whether an operand is an address that a branch leads to
@@ -32,27 +29,6 @@ pub record Taken (k : ℕ) : Type 0 where
   pub in-cell : classOf (decodeOf k) ≡ taking InCell what
   pub immediate : classOf (decodeOf (k + 1)) ≡ taking Immediate what
 
--- a class that was picked
-picked : (a b d : Bool) → kinds.pickClass a Literal (kinds.pickClass b Branch (kinds.pickClass d NoKind Plain)) ≡ Literal → a ≡ true
-picked true b d e = refl
-picked false true d e = cc
-picked false false true e = cc
-picked false false false e = cc
-
-picked-branch : (a b d : Bool) → kinds.pickClass a Literal (kinds.pickClass b Branch (kinds.pickClass d NoKind Plain)) ≡ Branch → b ≡ true
-picked-branch true b d e = cc
-picked-branch false true d e = refl
-picked-branch false false true e = cc
-picked-branch false false false e = cc
-
-either : (a b : Bool) → (a || b) ≡ true → (a ≡ true) ⊎ (b ≡ true)
-either true b e = inl refl
-either false b e = inr e
-
-literal-is : (k : ℕ) → kinds.classOf k ≡ Literal → k ≡ 0x52
-unfolding kinds.classOf
-literal-is k e = eqb-true k 0x52 (picked (eqb k 0x52) (kinds.among k kinds.branches) (kinds.outside k || kinds.among k kinds.immediates || kinds.among k kinds.raising) e)
-
 -- literals
 pub literal-taken : (k : ℕ) → kinds.classOf k ≡ Literal → (t : Taken k) × (leads (t .what) ≡ false)
 unfolding decodeOf
@@ -63,19 +39,7 @@ literal-taken k e =
 abbrev Branches : ℕ → Type 0
 Branches k = (t : Taken k) × (leads (t .what) ≡ true)
 
-abbrev AllBranches : List ℕ → Type 0
-AllBranches [] = Unit {0}
-AllBranches (x ∷ xs) = Branches x × AllBranches xs
-
-branch-among : (k : ℕ) (xs : List ℕ) → AllBranches xs → kinds.among k xs ≡ true → Branches k
-branch-among k [] h e = absurd (false≢true e)
-branch-among k (x ∷ xs) h e = go (either (eqb k x) (kinds.among k xs) e) (λ q. branch-among k xs (h .1) q)
-  where
-    go : (eqb k x ≡ true) ⊎ (kinds.among k xs ≡ true) → (kinds.among k xs ≡ true → Branches k) → Branches k
-    go (inl q) f = rw (eqb-true k x q) (h .0)
-    go (inr q) f = f q
-
-five : AllBranches kinds.branches
+five : AllOf Branches kinds.branches
 unfolding decodeOf
 five = (
   (record { what = branch; in-cell = refl; immediate = refl }, refl),
@@ -92,10 +56,7 @@ five = (
 )
 
 pub branch-taken : (k : ℕ) → kinds.classOf k ≡ Branch → (t : Taken k) × (leads (t .what) ≡ true)
-unfolding kinds.classOf
-branch-taken k e =
-    branch-among k kinds.branches five
-    (picked-branch (eqb k 0x52) (kinds.among k kinds.branches) (kinds.outside k || kinds.among k kinds.immediates || kinds.among k kinds.raising) e)
+branch-taken k e = one-among Branches kinds.branches five k (branch-among k e)
 
 -- plain kinds: a test computed for every number below 5Ch
 abbrev isPlainKind : kind.Class → Bool

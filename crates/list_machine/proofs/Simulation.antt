@@ -1,14 +1,14 @@
 -- The whole run: item by item, the processor's counted cycles end where the list machine stands.
 use mathlib.Core.Path.{_≡_, refl, sym, ap, subst, _∙_}
-use mathlib.Core.Bool.{Bool, true, false, _&&_, false≢true, true≢false}
+use mathlib.Core.Bool.{Bool, true, false, _&&_, true≢false}
 use mathlib.Core.List.{List}
 use Prim.Native.Nat.{ℕ, zero, suc, _+_, _*_, _<_}
 use native.Mathlib.Omega.{arith}
-use lib.ListN.{getD}
 use Rattle.cell.specs.Choice.{if}
 use Rattle.cell.specs.Memory.{cellAt}
 use Rattle.cell.specs.Shift.{asr8}
-use Rattle.machine.specs.Throws.{Turned, turned, nextOf, finishOf}
+use Rattle.cell.proofs.BooleanLaws.{both-true}
+use Rattle.machine.specs.Throws.{Turned, turned, finishOf}
 use Rattle.machine.specs.declared.Machine.{Machine}
 use Rattle.machine.specs.declared.Registers.{Registers}
 use Rattle.machine.specs.declared.Ended.{Ended}
@@ -37,10 +37,6 @@ stands-sp false base l p = refl
 stands-rp : (b : Bool) (base : ℕ) (l : Listing) (p : Position) → standing b base l p .rp ≡ p .rp
 stands-rp true base l p = refl
 stands-rp false base l p = refl
-
-both : (a b : Bool) → (a && b) ≡ true → b ≡ true
-both true b e = e
-both false b e = absurd (false≢true e)
 
 module _ (machine : Machine) (base : ℕ) (l : Listing) (ok : Legal base l) where
   -- the cycle before an item that opens a cell and was run on into
@@ -89,7 +85,7 @@ module _ (machine : Machine) (base : ℕ) (l : Listing) (ok : Legal base l) wher
 
     module _ (g : GoesOn machine base l (r .position) now) where
       opens-there : (r .position .ran && opens (layout l) (r .position .item)) ≡ true → opens (layout l) (r .position .item) ≡ true
-      opens-there e = both (r .position .ran) (opens (layout l) (r .position .item)) e
+      opens-there e = both-true (r .position .ran) (opens (layout l) (r .position .item)) e .1
 
       now-is : now ≡ turned (r .position .memory) (registersFor base l (r .position)) (now .turn .ended)
       now-is = ap (λ (m : List ℕ). turned m (now .turn .registers) (now .turn .ended)) (g .memory)

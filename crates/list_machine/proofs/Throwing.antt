@@ -1,9 +1,9 @@
 -- A throw of the processor and of the list machine. They differ in A, which plays no part until the handler's cell is in it.
-use mathlib.Core.Path.{_≡_, refl, sym, ap, _∙_}
+use mathlib.Core.Path.{_≡_, refl}
 use mathlib.Core.Bool.{Bool, true, false, true≢false}
 use mathlib.Core.List.{List, [], _∷_}
 use mathlib.Core.Logic.{inl}
-use Prim.Native.Nat.{ℕ, suc, _+_, _*_, _%_, _≤_, _<_}
+use Prim.Native.Nat.{ℕ, _+_, _*_, _%_, _≤_}
 use native.Mathlib.Omega.{arith}
 use lib.Dec.{eqb}
 use lib.ListN.{length}
@@ -21,28 +21,21 @@ use Rattle.cell.proofs.MemoryLaws.{store-length, cell-frame, alike-refl}
 use Rattle.machine.specs.Places.{oneCell, placeOf, fetchOf}
 use Rattle.machine.specs.Effects.{cellStore}
 use Rattle.machine.specs.Commits.{touches, storedOf}
-use Rattle.machine.specs.Throws.{Turned, turned, handed, toHandler, handlerOf, noted, pushed, throwOf, throwingOf, handlerCell, badCell, addressCell, badStack, badHandler}
+use Rattle.machine.specs.Throws.{turned, handed, handlerOf, noted, pushed, throwOf, throwingOf, handlerCell, badCell, addressCell, badStack}
 use Rattle.machine.specs.declared.Machine.{Machine}
-use Rattle.machine.specs.declared.Registers.{Registers}
 use Rattle.machine.specs.declared.Access.the-variants.{Stream, Push}
 use Rattle.machine.specs.declared.Ended.{Ended}
 use Rattle.machine.specs.declared.Ended.the-variants.{Went, Threw, Stopped}
 use Rattle.processor.specs.Answers.{isStop}
+use Rattle.iteration.proofs.LengthLaws.{noted-length}
 use Rattle.layout.specs.Listing.{Listing}
 use Rattle.layout.specs.Packing.{imageCells, epValue, Legal}
 use Rattle.layout.proofs.Packing.{placed}
-use Rattle.list_machine.specs.ListMachine.{Position, Carried, on, stopped, outside, pushOf, writesImage, registersAt, handled, handledBy, thrown}
+use Rattle.list_machine.specs.ListMachine.{Position, outside, pushOf, writesImage, registersAt, handled, thrown}
 use Rattle.list_machine.specs.Demand3.{Holds}
 use Rattle.list_machine.proofs.Frame.{stores-frame}
 use Rattle.list_machine.proofs.Image.{still-holds}
 use Rattle.list_machine.proofs.Meets.{Meets, enters}
-
-noted-length : (machine : Machine) (m : List ℕ) (f : Fault) → length (noted machine m f) ≡ length m
-noted-length machine m (Range a) = store-length (machine .order) m addressCell (a .0)
-noted-length machine m (Alignment a) = store-length (machine .order) m addressCell (a .0)
-noted-length machine m Divisor = refl
-noted-length machine m Illegal = refl
-noted-length machine m Library = refl
 
 noted-frame : (machine : Machine) (lo hi : ℕ) (m : List ℕ) (f : Fault) → 16 ≤ lo → Alike lo hi m (noted machine m f)
 noted-frame machine lo hi m (Range a) h = cell-frame lo hi (machine .order) m addressCell (a .0) (inl (omega arith))

@@ -4,7 +4,7 @@ use mathlib.Core.List.{List, [], _∷_, map}
 use Prim.Native.Nat.{ℕ, _-_, _^_}
 use lib.ListN.{replicate}
 use Rattle.cell.specs.Memory.{cellAt, storeCell}
-use Rattle.machine.specs.declared.Machine.{Machine}
+use Rattle.processor.specs.Answers.{machineOf}
 use Rattle.layout.specs.Listing.{listed}
 use Rattle.list_machine.specs.Runs.{Course, goesOn, stoppedBy, stoodOutside, Run, runOf, beginning}
 
@@ -34,9 +34,6 @@ case kinds operands handler sp asked seen =
 abbrev pub seen : ℕ → ℕ → ℕ → ℕ → ℕ → Course → Seen
 seen item items cycles sp returned course =
     record { item = item; items = items; cycles = cycles; sp = sp; returned = returned; course = course }
-
-abbrev pub machineOf : ℕ → Machine
-machineOf order = record { order = order }
 
 abbrev pub runAt : ℕ → Case → Run
 runAt order c =

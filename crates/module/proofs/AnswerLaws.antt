@@ -5,7 +5,7 @@ use Prim.Native.Nat.{ℕ, zero, suc, _+_, _*_, _≤_, _<_}
 use native.Mathlib.Omega.{arith}
 use lib.ListN.{length, take, drop, length-append, length-drop}
 use lib.Seq.{paste, take-at, drop-append-add, drop-drop}
-use Rattle.cell.specs.Memory.{Bytewise}
+use Rattle.cell.specs.Memory.{Bytewise, cellCount}
 use Rattle.cell.specs.declared.CellCount.{CellCount}
 use Rattle.cell.specs.declared.Judged.the-variants.{Passed}
 use Rattle.module.specs.declared.Loaded.the-variants as loaded
@@ -15,7 +15,7 @@ use Rattle.module.specs.Grounds.{judgeLoad, judgeSave}
 use Rattle.module.specs.Copies.{copied}
 use Rattle.module.proofs.ConditionLaws.{save-good}
 use Rattle.module.proofs.SameLaws.{copied-same, drop-bytewise}
-use Rattle.module.specs.Answers.{cellCount, loadedTo, loadOf, savedTo, saveOf}
+use Rattle.module.specs.Answers.{loadedTo, loadOf, savedTo, saveOf}
 
 pub load-result : (order : ℕ) (m file : List ℕ) (a : ℕ) (cells : CellCount) (code next : List ℕ)
     → judgeLoad (length m) order file a ≡ Passed → cells ≡ cellCount (countOf file) → code ≡ codeOf file

@@ -1,6 +1,6 @@
 -- A judgement passes exactly if the conditions hold.
 use mathlib.Core.Path.{_≡_, refl, sym, ap, _∙_}
-use mathlib.Core.Bool.{Bool, true, false, not, _||_, _&&_}
+use mathlib.Core.Bool.{true, not, _||_}
 use mathlib.Core.List.{List, [], _∷_}
 use Prim.Native.Nat.{ℕ, suc, _+_, _*_, _%_, _≤_, _<_}
 use native.Mathlib.Omega.{arith}
@@ -8,43 +8,27 @@ use lib.Dec.{leb, ltb, eqb}
 use lib.ListN.{length, getD, take, drop, length-take}
 use lib.Seq.{drop-cons}
 use borrow.Author.Tests.{ltb-false, leb-false, eqb-true, not-false, le-ltb, lt-leb, eq-eqb}
-use Rattle.cell.specs.Refusals.{judge, judgeMachine, memoryLength, byteOrder}
-use Rattle.cell.specs.declared.Refusal.the-variants.{MemoryLength, ByteOrder, Header, FileLength, Unaligned, Outside, ShortOutput}
+use Rattle.cell.specs.Refusals.{judge, judgeMachine, GoodMachine}
+use Rattle.cell.specs.declared.Refusal.the-variants.{Header, FileLength, Unaligned, Outside, ShortOutput}
 use Rattle.cell.specs.declared.Judged.the-variants.{Passed}
+use Rattle.cell.proofs.BooleanLaws.{both-true, neither}
+use Rattle.cell.proofs.JudgementLaws.{both-pass, one-clear, machine-good}
 use Rattle.module.specs.Format.{title, orderOf, countOf}
 use Rattle.module.specs.Grounds.{standsAt, titled, header, fileLength, outside, shortOutput, judgeFile, judgePlace, judgeLoad, judgeSave}
-use Rattle.module.specs.Conditions.{GoodMachine, GoodFile, GoodPlace, Loadable, Savable}
-use Rattle.module.proofs.JudgeLaws.{load-parts, save-parts, both-pass, one-clear, neither}
-
-pub machine-good : (len order : ℕ) → judgeMachine len order ≡ Passed → GoodMachine len order
-unfolding judgeMachine
-machine-good len order e =
-    let p = one-clear (memoryLength len .applies) MemoryLength (judge (byteOrder order ∷ [])) e in
-    let q = one-clear (ltb 1 order) ByteOrder Passed (p .1) in
-    let s = neither (ltb len 1024) (ltb 16777216 len || not (eqb (len % 4) 0)) (p .0) in
-    let t = neither (ltb 16777216 len) (not (eqb (len % 4) 0)) (s .1) in
-    record {
-      least = ltb-false len 1024 (s .0);
-      most = ltb-false 16777216 len (t .0);
-      whole = eqb-true (len % 4) 0 (not-false (eqb (len % 4) 0) (t .1));
-      known = ltb-false 1 order (q .0);
-    }
+use Rattle.module.specs.Conditions.{GoodFile, GoodPlace, Loadable, Savable}
+use Rattle.module.proofs.JudgeLaws.{load-parts, save-parts}
 
 pub good-machine : (len order : ℕ) → GoodMachine len order → judgeMachine len order ≡ Passed
 unfolding judgeMachine
 good-machine len order g =
-    rw (le-ltb len 1024 (g .least), le-ltb 16777216 len (g .most), eq-eqb (len % 4) 0 (g .whole), le-ltb 1 order (g .known))
+    rw (le-ltb len 1024 (g .lent .least), le-ltb 16777216 len (g .lent .most), eq-eqb (len % 4) 0 (g .lent .whole), le-ltb 1 order (g .known))
 
 -- bytes found one by one, and bytes taken at once
-both : (s t : Bool) → s && t ≡ true → (s ≡ true) × (t ≡ true)
-both true t e = (refl, e)
-both false t e = absurd (let z : _≡_ {A = Bool} true false = sym e in let y : _≡_ {A = ℕ} 0 1 = cc in omega arith)
-
 stands-taken : (file : List ℕ) (at : ℕ) (xs : List ℕ) → at + length xs ≤ length file → standsAt file at xs ≡ true
     → take (length xs) (drop at file) ≡ xs
 stands-taken file at [] h e = refl
 stands-taken file at (x ∷ xs) h e =
-    let p = both (eqb (getD file at 0) x) (standsAt file (suc at) xs) e in
+    let p = both-true (eqb (getD file at 0) x) (standsAt file (suc at) xs) e in
     rw (drop-cons file at 0 (omega arith), eqb-true (getD file at 0) x (p .0))
     (ap (λ (l : List ℕ). x ∷ l) (stands-taken file (suc at) xs (omega arith) (p .1)))
 

@@ -1,21 +1,15 @@
--- The judgement of a list of grounds: of two lists in a row, and the passing of all.
+-- The judgement of a list of grounds: of two lists in a row.
 use mathlib.Core.Path.{_≡_, refl, ap, _∙_}
-use mathlib.Core.Bool.{Bool, true, false, _||_, _&&_}
+use mathlib.Core.Bool.{Bool, true, false}
 use mathlib.Core.List.{List, [], _∷_, _++_}
 use Prim.Native.Nat.{ℕ}
-use native.Mathlib.Omega.{arith}
 use Rattle.cell.specs.Choice.{if}
-use Rattle.cell.specs.Refusals.{Ground, judge, judgeMachine, memoryLength, byteOrder}
+use Rattle.cell.specs.Refusals.{Ground, judge, after, judgeMachine, memoryLength, byteOrder}
 use Rattle.cell.specs.declared.Refusal.{Refusal}
 use Rattle.cell.specs.declared.Judged.{Judged}
-use Rattle.cell.specs.declared.Judged.the-variants.{Passed, Refused}
+use Rattle.cell.specs.declared.Judged.the-variants.{Refused}
 use Rattle.module.specs.Format.{countOf}
 use Rattle.module.specs.Grounds.{header, fileLength, unaligned, outside, shortOutput, judgeFile, judgePlace, judgeLoad, judgeSave}
-
--- the second judgement, where the first passes
-abbrev pub after : Judged → Judged → Judged
-after Passed j = j
-after (Refused r) j = Refused r
 
 if-after : (t : Bool) (r : Refusal) (i j k : Judged) → k ≡ after i j → if t (Refused r) k ≡ after (if t (Refused r) i) j
 if-after true r i j k e = refl
@@ -47,21 +41,3 @@ save-parts len order a l size =
     (unaligned a ∷ outside len a l ∷ shortOutput size l ∷ [])
     ∙ ap (after (judge (memoryLength len ∷ byteOrder order ∷ [])))
     (judge-append (unaligned a ∷ outside len a l ∷ []) (shortOutput size l ∷ []))
-
--- both judgements pass
-pub both-pass : (i j : Judged) → after i j ≡ Passed → (i ≡ Passed) × (j ≡ Passed)
-both-pass Passed j e = (refl, e)
-both-pass (Refused r) j e = absurd (let z : _≡_ {A = ℕ} 0 1 = cc in omega arith)
-
--- no ground applies
-pub one-clear : (t : Bool) (r : Refusal) (j : Judged) → if t (Refused r) j ≡ Passed → (t ≡ false) × (j ≡ Passed)
-one-clear true r j e = absurd (let z : _≡_ {A = ℕ} 0 1 = cc in omega arith)
-one-clear false r j e = (refl, e)
-
-pub neither : (s t : Bool) → s || t ≡ false → (s ≡ false) × (t ≡ false)
-neither false t e = (refl, e)
-neither true t e = absurd (let z : _≡_ {A = Bool} true false = e in let y : _≡_ {A = ℕ} 0 1 = cc in omega arith)
-
-pub and-true : (t : Bool) → t && true ≡ t
-and-true true = refl
-and-true false = refl

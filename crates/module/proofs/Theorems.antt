@@ -7,7 +7,7 @@ use native.Mathlib.Omega.{arith}
 use lib.ListN.{length, take, drop, take-append-drop, length-take, length-drop}
 use lib.Seq.{paste, take-at, drop-at, take-all, length-take-le}
 use Rattle.cell.specs.Memory.{cellAt, Bytewise}
-use Rattle.cell.specs.Refusals.{refusalNumber}
+use Rattle.cell.specs.Refusals.{refusalNumber, GoodMachine}
 use Rattle.cell.specs.declared.Refusal.{Refusal}
 use Rattle.cell.specs.declared.Refusal.the-variants.{MemoryLength, ByteOrder, Header, FileLength, Unaligned, Outside, ShortOutput, ItemCount, Kind, PlainOperand, Target, Base}
 use Rattle.cell.specs.declared.Judged.{Judged}
@@ -17,7 +17,7 @@ use Rattle.module.specs.Format.{orderOf, countOf, codeOf, headerOf, modu
 use Rattle.module.specs.Grounds.{judgeLoad, judgeSave}
 use Rattle.module.specs.Copies.{copied}
 use Rattle.module.specs.Answers.{loadIf, loadOf, saveIf, savedTo, saveOf}
-use Rattle.module.specs.Conditions.{GoodMachine, GoodFile, GoodPlace, Loadable, Savable}
+use Rattle.module.specs.Conditions.{GoodFile, GoodPlace, Loadable, Savable}
 use Rattle.module.specs.Theorems.{Exactly, AcceptedExactly, SavedExactly, savedFile, SameCells, SavedLoads, LoadedSaves}
 use Rattle.module.proofs.ConditionLaws.{load-good, good-load, save-good, good-save}
 use Rattle.module.proofs.CopyLaws.{copied-length, copied-apart, copied-cell}
@@ -116,7 +116,7 @@ pub saved-loads : SavedLoads
 saved-loads theirs m b l out low e ours lent a machine place =
     let g = saved-exactly theirs m b l out .only e in
     rw (saved-file theirs m b l out g)
-    (module-loads theirs m b l low (g .machine .known) (omega (arith, g .place .room, g .machine .most)) (g .place .room) ours lent a machine place)
+    (module-loads theirs m b l low (g .machine .known) (omega (arith, g .place .room, g .machine .lent .most)) (g .place .room) ours lent a machine place)
 
 -- the part of memory that a copy of the machine's own order filled is the code part
 own-part : (m : List ℕ) (a : ℕ) (code : List ℕ) (n : ℕ) → a ≤ length m → length code ≡ n

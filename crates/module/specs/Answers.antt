@@ -3,8 +3,8 @@
 use mathlib.Core.List.{List, _++_}
 use Prim.Native.Nat.{ℕ, _+_, _*_}
 use lib.ListN.{length, drop}
+use Rattle.cell.specs.Memory.{cellCount}
 use Rattle.cell.specs.Refusals.{refusalNumber}
-use Rattle.cell.specs.declared.CellCount.{CellCount}
 use Rattle.cell.specs.declared.Judged.{Judged}
 use Rattle.cell.specs.declared.Judged.the-variants as judged
 use Rattle.module.specs.declared.Loaded.{Loaded}
@@ -14,9 +14,6 @@ use Rattle.module.specs.declared.Saved.the-variants as saved
 use Rattle.module.specs.Format.{orderOf, countOf, codeOf, moduleOf}
 use Rattle.module.specs.Grounds.{judgeLoad, judgeSave}
 use Rattle.module.specs.Copies.{copied}
-
-abbrev pub cellCount : ℕ → CellCount
-cellCount l = record { 0 = l }
 
 -- the number and the count of each answer of a load: 0 and the cells loaded, or the refusal's number and 0
 abbrev pub loadNumber : Loaded → ℕ

@@ -3,14 +3,8 @@ use mathlib.Core.Path.{_≡_}
 use mathlib.Core.List.{List}
 use Prim.Native.Nat.{ℕ, _+_, _*_, _%_, _≤_, _<_}
 use lib.ListN.{length, take}
+use Rattle.cell.specs.Refusals.{GoodMachine}
 use Rattle.module.specs.Format.{title, orderOf, countOf}
-
--- neither -4101 nor -4102
-pub record GoodMachine (len order : ℕ) : Type 0 where
-  pub least : 1024 ≤ len
-  pub most : len ≤ 16777216
-  pub whole : len % 4 ≡ 0
-  pub known : order ≤ 1
 
 -- neither -2 nor -4103
 pub record GoodFile (file : List ℕ) : Type 0 where

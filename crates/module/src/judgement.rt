@@ -2,9 +2,9 @@
 ghost use mathlib.Core.Path.{_≡_};
 ghost use Prim.Native.Nat.{_≤_};
 ghost use lib.ListN.{length};
+ghost use Rattle.cell.specs.Memory.{cellCount};
 ghost use Rattle.module.specs.Format as format;
 ghost use Rattle.module.specs.Grounds as grounds;
-ghost use Rattle.module.specs.Answers as answers;
 use cell::Address;
 use cell::CellCount;
 use cell::Judged;
@@ -41,7 +41,7 @@ fn is_titled(file: &[u8]) -> bool
 // The count in the header, in the order that the header names.
 pub fn count_of(file: &[u8]) -> CellCount
     requires { ⌜ 12 ≤ length (now file) ⌝ }
-    ensures { λ r. ⌜ r ≡ answers.cellCount (format.countOf (now (file .entry))) ⌝ }
+    ensures { λ r. ⌜ r ≡ cellCount (format.countOf (now (file .entry))) ⌝ }
 {
     CellCount(load(file[7], file, 8))
 }

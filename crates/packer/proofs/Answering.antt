@@ -5,6 +5,7 @@ use mathlib.Core.List.{List}
 use Prim.Native.Nat.{ℕ, _*_, _≤_}
 use native.Mathlib.Omega.{arith}
 use lib.ListN.{length}
+use Rattle.cell.specs.Memory.{cellCount}
 use Rattle.cell.specs.declared.CellCount.{CellCount}
 use Rattle.cell.specs.declared.Refusal.{Refusal}
 use Rattle.cell.specs.declared.Judged.{Judged}
@@ -16,7 +17,7 @@ use Rattle.layout.specs.Output.{written}
 use Rattle.packer.specs.declared.Packed.{Packed}
 use Rattle.packer.specs.declared.Packed.the-variants as packed
 use Rattle.packer.specs.Judgement.{judgeArrays, judgeFile, judgeInput, judgeImage, judgePack, judgePackFile}
-use Rattle.packer.specs.Pack.{cellCount, packCount, PackResult, packedTo, packIf, packOf, packFileOf}
+use Rattle.packer.specs.Pack.{packCount, PackResult, packedTo, packIf, packOf, packFileOf}
 use Rattle.packer.proofs.Judging.{pack-halves, all-room}
 
 -- an image of cells that were counted, turned back or written

@@ -10,17 +10,19 @@ use lib.Dec.{eqb, leb, ltb}
 use lib.ListN.{length, take, drop, length-append, length-take, length-drop}
 use lib.Seq.{take-at}
 use Rattle.cell.specs.Choice.{if}
+use Rattle.cell.specs.Refusals.{judge, after, inOrder}
 use Rattle.cell.specs.Shift.{pick}
 use Rattle.cell.specs.declared.Refusal.{Refusal}
 use Rattle.cell.specs.declared.Refusal.the-variants.{ItemCount}
 use Rattle.cell.specs.declared.Judged.{Judged}
 use Rattle.cell.specs.declared.Judged.the-variants.{Passed, Refused}
+use Rattle.cell.proofs.JudgementLaws.{both-pass, one-clear}
 use Rattle.layout.specs.Refusals.{accepted, badCount, first}
 use Rattle.layout.specs.Listing.{listed, judgedArrays, judgedListing}
 use Rattle.layout.specs.File.{cellsFrom, fileCount, fileBase, fileKinds, fileOperands, filed, judgedLength, judgedFile}
 use Rattle.layout.specs.Packing.{imageCells}
 use Rattle.packer.specs.declared.Packed.the-variants as packed
-use Rattle.packer.specs.Judgement.{refusalOf, after, inOrder, judgeOrder, judgeArrays, judgeFile, judgePlace, judgeRoom, judgeHeader, judgePack, judgePackFile}
+use Rattle.packer.specs.Judgement.{refusalOf, manyItems, judgeOrder, judgeArrays, judgeFile, judgePlace, judgeRoom, judgeHeader, judgePack, judgePackFile}
 use Rattle.packer.specs.Pack.{PackResult, packedTo, packOf, packFileOf}
 use Rattle.packer.specs.Prepared.{Header}
 use Rattle.packer.proofs.Judging.{refused-none, refusal-first}
@@ -70,15 +72,14 @@ operands-back s x y n k h e g l f q =
 module _ (order : ℕ) (s : List ℕ) where
   pub header-good : judgeHeader order s ≡ Passed → Header s
   unfolding judgeHeader
-  header-good e = go (judgeOrder order) (refusalOf (judgedLength s)) refl (ltb 4096 (fileCount s)) refl e
-    where
-      go : (a b : Judged) → refusalOf (judgedLength s) ≡ b → (t : Bool) → ltb 4096 (fileCount s) ≡ t
-          → inOrder (a ∷ b ∷ if t (Refused ItemCount) Passed ∷ []) ≡ Passed → Header s
-      go Passed Passed p false q e =
-          record { whole = length-of s (refused-none (judgedLength s) p); most = ltb-false 4096 (fileCount s) q }
-      go Passed Passed p true q e = absurd (let z : _≡_ {A = ℕ} 0 1 = cc in omega arith)
-      go Passed (Refused r) p t q e = absurd (let z : _≡_ {A = ℕ} 0 1 = cc in omega arith)
-      go (Refused r) b p t q e = absurd (let z : _≡_ {A = ℕ} 0 1 = cc in omega arith)
+  header-good e =
+      let p = both-pass (judgeOrder order) (inOrder (refusalOf (judgedLength s) ∷ judge (manyItems (fileCount s) ∷ []) ∷ [])) e in
+      let q = both-pass (refusalOf (judgedLength s)) (inOrder (judge (manyItems (fileCount s) ∷ []) ∷ [])) (p .1) in
+      let t = both-pass (judge (manyItems (fileCount s) ∷ [])) Passed (q .1) in
+      record {
+        whole = length-of s (refused-none (judgedLength s) (q .0));
+        most = ltb-false 4096 (fileCount s) (one-clear (ltb 4096 (fileCount s)) ItemCount Passed (t .0) .0);
+      }
 
   -- a bad header turns the packing back, whatever follows
   pub header-refused : (r : Refusal) → judgeHeader order s ≡ Refused r → (size : ℕ) → judgePackFile order s size ≡ Refused r

@@ -9,19 +9,21 @@ use borrow.Author.Tests.{eqb-true, ne-eqb, ltb-false}
 use lib.Dec.{eqb, ltb}
 use lib.ListN.{length}
 use Rattle.cell.specs.Choice.{if}
+use Rattle.cell.specs.Memory.{cellCount}
+use Rattle.cell.specs.Refusals.{after, inOrder}
 use Rattle.cell.specs.Shift.{pick}
 use Rattle.cell.specs.declared.CellCount.{CellCount}
 use Rattle.cell.specs.declared.Refusal.the-variants.{ShortOutput}
 use Rattle.cell.specs.declared.Judged.{Judged}
 use Rattle.cell.specs.declared.Judged.the-variants.{Passed, Refused}
+use Rattle.cell.proofs.JudgementLaws.{both-pass, one-clear}
 use Rattle.layout.specs.Refusals.{accepted, badCount, first}
 use Rattle.layout.specs.Listing.{Listing, listed, judgedArrays, judgedListing, Checked}
 use Rattle.layout.specs.Packing.{layout, imageCells, judgedPlace}
 use Rattle.layout.proofs.Listing.{first-none, some-item}
 use Rattle.layout.proofs.Placing.{at-most}
 use Rattle.layout.proofs.Packing.{base-of}
-use Rattle.packer.specs.Judgement.{named, refusalOf, after, inOrder, judgeOrder, judgeArrays, judgePlace, judgeRoom, judgeInput, judgeImage, judgeListing, judgeAll, judgePack}
-use Rattle.packer.specs.Pack.{cellCount}
+use Rattle.packer.specs.Judgement.{named, refusalOf, judgeOrder, judgeArrays, judgePlace, judgeRoom, judgeInput, judgeImage, judgeListing, judgeAll, judgePack}
 
 -- four judgements in order: where the first two turn back, they decide; where they pass, the last two do
 halves : (a b c d : Judged) → inOrder (a ∷ b ∷ c ∷ d ∷ []) ≡ after (inOrder (a ∷ b ∷ [])) (inOrder (c ∷ d ∷ []))
@@ -37,18 +39,6 @@ unfolding judgePack judgeInput judgeImage
 pack-halves order kinds operands base size =
     halves (judgeOrder order) (judgeArrays kinds operands) (judgePlace base (imageCells (listed kinds operands)))
     (judgeRoom (imageCells (listed kinds operands)) size)
-
-all-pass : (a b c d : Judged) → inOrder (a ∷ b ∷ c ∷ d ∷ []) ≡ Passed → d ≡ Passed
-all-pass Passed Passed Passed Passed e = refl
-all-pass Passed Passed Passed (Refused r) e = e
-all-pass Passed Passed (Refused r) d e = absurd (let z : _≡_ {A = ℕ} 0 1 = cc in omega arith)
-all-pass Passed (Refused r) c d e = absurd (let z : _≡_ {A = ℕ} 0 1 = cc in omega arith)
-all-pass (Refused r) b c d e = absurd (let z : _≡_ {A = ℕ} 0 1 = cc in omega arith)
-
-both-pass : (a b : Judged) → inOrder (a ∷ b ∷ []) ≡ Passed → (a ≡ Passed) × (b ≡ Passed)
-both-pass Passed Passed e = (refl, refl)
-both-pass Passed (Refused r) e = absurd (let z : _≡_ {A = ℕ} 0 1 = cc in omega arith)
-both-pass (Refused r) b e = absurd (let z : _≡_ {A = ℕ} 0 1 = cc in omega arith)
 
 -- the last in order decides
 pub last-one : (a : Judged) → inOrder (a ∷ []) ≡ a
@@ -85,7 +75,8 @@ arrays-checked kinds operands e =
 pub input-checked : (order : ℕ) (kinds operands : List ℕ) → judgeInput order kinds operands ≡ Passed → Checked kinds operands
 unfolding judgeInput
 input-checked order kinds operands e =
-    arrays-checked kinds operands (both-pass (judgeOrder order) (judgeArrays kinds operands) e .1)
+    let s = both-pass (judgeOrder order) (inOrder (judgeArrays kinds operands ∷ [])) e in
+    arrays-checked kinds operands (both-pass (judgeArrays kinds operands) Passed (s .1) .0)
 
 module _ (kinds operands : List ℕ) (ok : Checked kinds operands) where
   pub items-most : length kinds ≤ 4096
@@ -97,25 +88,22 @@ module _ (kinds operands : List ℕ) (ok : Checked kinds operands) where
 
 room-of : (cells size : ℕ) → judgeRoom cells size ≡ Passed → 4 * cells ≤ size
 unfolding judgeRoom
-room-of cells size e = go (ltb size (4 * cells)) refl e
-  where
-    go : (b : Bool) → ltb size (4 * cells) ≡ b → if b (Refused ShortOutput) Passed ≡ Passed → 4 * cells ≤ size
-    go true q e = absurd (let z : _≡_ {A = ℕ} 0 1 = cc in omega arith)
-    go false q e = ltb-false size (4 * cells) q
-
--- where a packing passes, the output has room for the image
-pub all-room : (order : ℕ) (input : Judged) (base : ℕ) (l : Listing) (size : ℕ) → judgeAll order input base l size ≡ Passed
-    → 4 * imageCells l ≤ size
-all-room order input base l size e =
-    room-of (imageCells l) size (all-pass (judgeOrder order) input (judgePlace base (imageCells l)) (judgeRoom (imageCells l) size) e)
+room-of cells size e = ltb-false size (4 * cells) (one-clear (ltb size (4 * cells)) ShortOutput Passed e .0)
 
 -- an image that passes lies below 16,777,216, and the output has room for it
 image-fits : (base cells size : ℕ) → judgeImage base cells size ≡ Passed → (base ≤ 16777216) × (4 * cells ≤ size)
 unfolding judgeImage
 image-fits base cells size e =
-    let s = both-pass (judgePlace base cells) (judgeRoom cells size) e in
+    let s = both-pass (judgePlace base cells) (inOrder (judgeRoom cells size ∷ [])) e in
     let p = base-of base cells (refused-none (judgedPlace base cells) (s .0)) in
-    (omega (arith, p .inside), room-of cells size (s .1))
+    (omega (arith, p .inside), room-of cells size (both-pass (judgeRoom cells size) Passed (s .1) .0))
+
+-- where a packing passes, the output has room for the image
+pub all-room : (order : ℕ) (input : Judged) (base : ℕ) (l : Listing) (size : ℕ) → judgeAll order input base l size ≡ Passed
+    → 4 * imageCells l ≤ size
+unfolding judgeImage
+all-room order input base l size e =
+    image-fits base (imageCells l) size (both-pass input _ (both-pass (judgeOrder order) _ e .1) .1) .1
 
 pub counted-fits : (base size : ℕ) (l : Listing) (cells : CellCount) → cells ≡ cellCount (imageCells l)
     → judgeImage base (cells .0) size ≡ Passed → (base ≤ 16777216) × (4 * imageCells l ≤ size)

@@ -4,7 +4,7 @@ use mathlib.Core.List.{List, [], _∷_}
 use Prim.Native.Nat.{ℕ, _*_}
 use lib.Dec.{ltb, eqb}
 use Rattle.cell.specs.Choice.{if}
-use Rattle.cell.specs.Refusals.{Ground, judge, byteOrder}
+use Rattle.cell.specs.Refusals.{Ground, judge, inOrder, byteOrder}
 use Rattle.cell.specs.declared.Refusal.{Refusal}
 use Rattle.cell.specs.declared.Refusal.the-variants.{ShortOutput, ItemCount, Kind, PlainOperand, Target, Unaligned, Base}
 use Rattle.cell.specs.declared.Judged.{Judged}
@@ -23,16 +23,6 @@ named k =
 
 unfoldable pub refusalOf : ℕ → Judged
 refusalOf k = if (eqb k accepted) Passed (Refused (named k))
-
--- the second judgement, where the first passes
-abbrev pub after : Judged → Judged → Judged
-after Passed j = j
-after (Refused r) j = Refused r
-
--- of judgements in order, the first that turns back
-abbrev pub inOrder : List Judged → Judged
-inOrder [] = Passed
-inOrder (j ∷ js) = after j (inOrder js)
 
 -- -4102: "byte order argument above 1"
 unfoldable pub judgeOrder : ℕ → Judged

@@ -3,8 +3,8 @@
 use mathlib.Core.List.{List}
 use Prim.Native.Nat.{ℕ}
 use lib.ListN.{length}
+use Rattle.cell.specs.Memory.{cellCount}
 use Rattle.cell.specs.Refusals.{refusalNumber}
-use Rattle.cell.specs.declared.CellCount.{CellCount}
 use Rattle.cell.specs.declared.Judged.{Judged}
 use Rattle.cell.specs.declared.Judged.the-variants as judged
 use Rattle.layout.specs.Listing.{Listing, listed}
@@ -14,9 +14,6 @@ use Rattle.layout.specs.Output.{written}
 use Rattle.packer.specs.declared.Packed.{Packed}
 use Rattle.packer.specs.declared.Packed.the-variants as packed
 use Rattle.packer.specs.Judgement.{judgePack, judgePackFile}
-
-abbrev pub cellCount : ℕ → CellCount
-cellCount n = record { 0 = n }
 
 -- the number and the count of each answer: 0 and the cells of the image, or the refusal's number and 0
 abbrev pub packNumber : Packed → ℕ

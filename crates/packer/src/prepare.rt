@@ -1,9 +1,9 @@
 // The entries and the settled layout of a listing that the input list passed.
 ghost use mathlib.Core.Path.{_≡_};
 ghost use lib.ListN.{length};
+ghost use Rattle.cell.specs.Memory.{cellCount};
 ghost use Rattle.layout.specs.Listing.{listed, Checked};
 ghost use Rattle.layout.specs.Packing.{imageCells};
-ghost use Rattle.packer.specs.Pack.{cellCount};
 ghost use Rattle.packer.specs.Prepared.{Places, Prepared};
 use cell::CellCount;
 use packing::entries::find_entries;

@@ -1,7 +1,7 @@
 -- Stores of flags, and the entries pass.
 -- Assumes nothing.
 use mathlib.Core.Path.{_≡_, refl, sym, ap, _∙_}
-use mathlib.Core.Bool.{Bool, true, false, _||_}
+use mathlib.Core.Bool.{Bool, true, false, _||_, or-true, or-false}
 use mathlib.Core.Logic.{⊎-elim}
 use mathlib.Core.List.{List}
 use Prim.Native.Nat.{ℕ, zero, suc, _+_, _-_, _≤_, _<_}
@@ -70,10 +70,6 @@ call-from k h = go (decLt k 0x47) (decLt k 0x48) (decLt k 0x49)
 abbrev pub entryWith : Listing → ℕ → ℕ → Bool
 entryWith l j i = afterCall (l .kind) i || any (λ j. targets (classOf (l .kind j)) (l .operand j) i) j
 
-or-true : (a : Bool) → (a || true) ≡ true
-or-true true = refl
-or-true false = refl
-
 module _ (l : Listing) (j : ℕ) where
   entry-more : (i : ℕ) → entryWith l (j + 1) i
       ≡ (afterCall (l .kind) i || (targets (classOf (l .kind j)) (l .operand j) i || any (λ j. targets (classOf (l .kind j)) (l .operand j) i) j))
@@ -102,13 +98,9 @@ module _ (l : Listing) (j : ℕ) where
       go (yes e) = rw e (getD-set-same s (l .operand j) 1 0 b ∙ ap bit (sym (entry-target q)))
       go (no e) = getD-set-other s (l .operand j) i 1 0 e ∙ f i h ∙ ap bit (sym (entry-other q i e))
 
-or-none : (a : Bool) → (a || false) ≡ a
-or-none true = refl
-or-none false = refl
-
 pub targets-none : (l : Listing) (s : List ℕ) (n : ℕ) → Flags s (afterCall (l .kind)) n → Flags s (entryWith l 0) n
 unfolding any
-targets-none l s n f i h = f i h ∙ ap bit (sym (or-none (afterCall (l .kind) i)))
+targets-none l s n f i h = f i h ∙ ap bit (sym (or-false (afterCall (l .kind) i)))
 
 pub all-zero : (s : List ℕ) → ((j : ℕ) → j < length s → getD s j 0 ≡ 0) → (j : ℕ) → getD s j 0 ≡ 0
 all-zero s h j = go (decLt j (length s))

@@ -1,7 +1,7 @@
 -- One turn of the mark pass.
 -- Assumes nothing.
 use mathlib.Core.Path.{_≡_, refl, sym, ap, _∙_, fun-ext}
-use mathlib.Core.Bool.{Bool, true, false, _||_}
+use mathlib.Core.Bool.{Bool, true, false, _||_, or-true, or-false}
 use mathlib.Core.Logic.{⊎-elim}
 use mathlib.Core.List.{List}
 use Prim.Native.Nat.{ℕ, zero, suc, _+_, _≤_, _<_}
@@ -52,14 +52,6 @@ pub record MarkTurn (l : Listing) (before : List ℕ) (n : ℕ) (marks : List �
   pub done : Marked l before marks i
   pub rest : (j : ℕ) → i ≤ j → getD marks j 0 ≡ getD before j 0
 
-or-true : (a : Bool) → true ≡ (a || true)
-or-true true = refl
-or-true false = refl
-
-or-none : (a : Bool) → a ≡ (a || false)
-or-none true = refl
-or-none false = refl
-
 module _ (l : Listing) (before : List ℕ) (n : ℕ) (marks : List ℕ) (added : Bool) (i : ℕ)
     (t : MarkTurn l before n marks added i) (h : i < n) where
   pub as-before : flagged marks i ≡ flagged before i
@@ -89,7 +81,7 @@ module _ (l : Listing) (before : List ℕ) (n : ℕ) (marks : List ℕ) (added :
         done =
             split (set marks i 1)
             (λ j k. rw (getD-set-other marks i j 1 0 (λ (e : j ≡ i). omega arith)) (t .done j k))
-            (rw (getD-set-same marks i 1 0 (omega (arith, t .size)), q) (or-true (flagged before i)));
+            (rw (getD-set-same marks i 1 0 (omega (arith, t .size)), q) (sym (or-true (flagged before i))));
         rest = λ j k. getD-set-other marks i j 1 0 (λ (e : j ≡ i). omega arith) ∙ t .rest j (omega arith);
       }
 
@@ -100,7 +92,7 @@ module _ (l : Listing) (before : List ℕ) (n : ℕ) (marks : List ℕ) (added :
         inside = omega arith;
         size = t .size;
         some = sym (any-more false q);
-        done = split marks (t .done) (rw q (as-before ∙ or-none (flagged before i)));
+        done = split marks (t .done) (rw q (as-before ∙ sym (or-false (flagged before i))));
         rest = λ j k. t .rest j (omega arith);
       }
 
@@ -132,15 +124,15 @@ pub new-out : (kinds operands : List ℕ) (m : ℕ → Bool) (j : ℕ) → lengt
 unfolding classOf
 new-out kinds operands m j h = rw (List·getD-eq-default kinds 0 h)
 
-or-false : (a b : Bool) → a ≡ false → b ≡ false → (a || b) ≡ false
-or-false true b p q = p
-or-false false b p q = q
+both-false : (a b : Bool) → a ≡ false → b ≡ false → (a || b) ≡ false
+both-false true b p q = p
+both-false false b p q = q
 
 rounds-out : (kinds operands : List ℕ) (r j : ℕ) → length kinds ≤ j → rounds (length kinds) (new (listed kinds operands)) r j ≡ false
 unfolding rounds
 rounds-out kinds operands zero j h = refl
 rounds-out kinds operands (suc r) j h =
-    or-false (rounds (length kinds) (new (listed kinds operands)) r j) _ (rounds-out kinds operands r j h)
+    both-false (rounds (length kinds) (new (listed kinds operands)) r j) _ (rounds-out kinds operands r j h)
     (new-out kinds operands (rounds (length kinds) (new (listed kinds operands)) r) j h)
 
 flagged-out : (s : List ℕ) (j : ℕ) → length s ≤ j → flagged s j ≡ false
@@ -175,5 +167,5 @@ module _ (kinds operands : List ℕ) where
     where
       go : (j : ℕ) → Dec (j < length kinds) → flagged t j ≡ flagged s j
       go j (yes h) =
-          f j h ∙ ap (λ (b : Bool). flagged s j || b) (any-none (new l (flagged s)) (length kinds) q j h) ∙ sym (or-none (flagged s j))
+          f j h ∙ ap (λ (b : Bool). flagged s j || b) (any-none (new l (flagged s)) (length kinds) q j h) ∙ or-false (flagged s j)
       go j (no h) = flagged-out t j (omega arith) ∙ sym (flagged-out s j (omega arith))

@@ -1,23 +1,18 @@
 // Listings as files.
 use crate::check::ACCEPTED;
 use crate::check::BAD_COUNT;
+use cell::memory::load;
 ghost use mathlib.Core.Path.{_≡_};
 ghost use Prim.Native.Nat.{_+_, _*_, _≤_};
 ghost use lib.ListN.{length};
 ghost use Rattle.layout.specs.File.{leastFirst, cellsFrom, judgedLength};
-
-fn joined(a: u8, b: u8, c: u8, d: u8) -> u32
-    ensures { λ r. ⌜ r ≡ a + 256 * b + 65536 * c + 16777216 * d ⌝ }
-{
-    (a as u32) + 256 * (b as u32) + 65536 * (c as u32) + 16777216 * (d as u32)
-}
 
 // The cell in the four bytes from a on, least first.
 pub fn cell_at(file: &[u8], a: usize) -> u32
     requires { ⌜ a + 4 ≤ length (now file) ⌝ }
     ensures { λ r. ⌜ r ≡ leastFirst (now (file .entry)) a ⌝ }
 {
-    joined(file[a], file[a + 1], file[a + 2], file[a + 3])
+    load(0, file, a)
 }
 
 // The length of a file against its count of items.

@@ -41,7 +41,7 @@ not-last Went left q = (refl, λ z. refl)
 not-last (Threw f) left q = (refl, λ z. absurd (eqb-false left 0 q z))
 not-last (Stopped x) left q = absurd (true≢false q)
 
-counted-goes : (e : Ended) (n : ℕ) → isStop e ≡ false → counted e n ≡ suc n
+pub counted-goes : (e : Ended) (n : ℕ) → isStop e ≡ false → counted e n ≡ suc n
 counted-goes Went n q = refl
 counted-goes (Threw f) n q = refl
 counted-goes (Stopped x) n q = absurd (true≢false q)
@@ -115,7 +115,7 @@ module _ (machine : Machine) (m0 : List ℕ) (t0 : Turn) (budget : ℕ) (m : Lis
   pub ends-at : k ≤ 0 → Done machine m0 t0 budget budget m (record { registers = t .registers; ended = Went })
   ends-at h = let n : k ≡ 0 = omega arith in run-ends machine m0 t0 budget m t (rw n at s)
 
-counted-first : (e : Ended) → counted e 0 ≡ 1
+pub counted-first : (e : Ended) → counted e 0 ≡ 1
 counted-first Went = refl
 counted-first (Threw f) = refl
 counted-first (Stopped x) = refl

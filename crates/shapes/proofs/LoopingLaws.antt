@@ -1,9 +1,8 @@
 -- The two loops of the paper as one.
-use mathlib.Core.Path.{_≡_, refl, sym, ap, _∙_}
+use mathlib.Core.Path.{_≡_, _∙_}
 use mathlib.Core.Bool.{Bool, true, false}
 use mathlib.Core.List.{List, [], _∷_}
-use Prim.Native.Nat.{ℕ, _+_, _*_, _%_, _^_}
-use native.Mathlib.Omega.{arith}
+use Prim.Native.Nat.{ℕ, _*_, _%_}
 use Rattle.cell.specs.Number.{sum}
 use Rattle.cell.specs.declared.Fault.{Fault}
 use Rattle.cell.specs.declared.Fetched.the-variants.{Cell, Failed}
@@ -15,24 +14,20 @@ use Rattle.machine.specs.declared.Access.the-variants.{DataRead, ReturnRead, Re
 use Rattle.instruction.specs.Plain.{action}
 use Rattle.instruction.specs.Taking.{loop, plusLoop, takingOf, takingAt}
 use Rattle.instruction.specs.declared.Form.the-variants.{Immediate}
+use Rattle.instruction.proofs.ShapeLaws.{branch-target}
 use Rattle.shapes.specs.Looping.{isOver, turnOf}
-
--- EP + 4 A
-there : (ep a : ℕ) → sum ep (a % 0x40000000 * 4) ≡ (ep + 4 * a) % 2 ^ 32
-unfolding sum
-there ep a = omega arith
 
 module _ (machine : Machine) (m : List ℕ) (r : Registers) where
   pub loop-is : (e : Effect) (to : ℕ) → to ≡ sum (r .ep) (r .a % 0x40000000 * 4) → e ≡ turnOf machine m (r .sp) (r .rp) to 1 false
       → e ≡ takingAt machine Immediate loop m r
   unfolding turnOf takingOf
-  loop-is e to q h = h ∙ rw (q ∙ there (r .ep) (r .a))
+  loop-is e to q h = h ∙ rw (q ∙ branch-target (r .ep) (r .a))
 
   pub plus-loop-is : (e : Effect) (to n sp : ℕ) → to ≡ sum (r .ep) (r .a % 0x40000000 * 4) → sp ≡ sum (r .sp) 4
       → fetchOf machine DataRead m (r .sp) ≡ Cell n → e ≡ turnOf machine m sp (r .rp) to n true
       → e ≡ takingAt machine Immediate plusLoop m r
   unfolding turnOf takingOf
-  plus-loop-is e to n sp q s f h = h ∙ rw (q ∙ there (r .ep) (r .a), s, f)
+  plus-loop-is e to n sp q s f h = h ∙ rw (q ∙ branch-target (r .ep) (r .a), s, f)
 
   pub plus-loop-fails : (e : Effect) (f : Fault) → fetchOf machine DataRead m (r .sp) ≡ Failed f → e ≡ raise f
       → e ≡ takingAt machine Immediate plusLoop m r

@@ -1,6 +1,6 @@
 -- The places that a shape writes: the first bad one of a few, and whether ROLL's cells meet a range.
 use mathlib.Core.Path.{_≡_, refl, sym, _∙_, ap}
-use mathlib.Core.Bool.{Bool, true, false, _&&_, _||_}
+use mathlib.Core.Bool.{Bool, true, false, _&&_, _||_, or-false}
 use mathlib.Core.List.{List, [], _∷_}
 use Prim.Native.Nat.{ℕ, zero, suc, _+_, _*_, _<_, _≤_}
 use native.Mathlib.Decide.{decLt}
@@ -24,10 +24,6 @@ use Rattle.shapes.specs.declared.Shape.the-variants.{Roll}
 pub first-good : (c : Checked) → firstBad c Good ≡ c
 first-good Good = refl
 first-good (Bad f) = refl
-
-pub or-false : (b : Bool) → (b || false) ≡ b
-or-false true = refl
-or-false false = refl
 
 -- the test of one range of bytes against another
 pub test-true : (a w lo hi : ℕ) → a < hi → lo < a + w → (ltb a hi && ltb lo (a + w)) ≡ true

@@ -4,11 +4,11 @@ use Prim.Native.Nat.{ℕ, _+_}
 use Rattle.cell.specs.Memory.{storeCell}
 use Rattle.machine.specs.Throws.{Turned}
 use Rattle.processor.specs.Cycles.{cyclesOf, startOf}
-use Rattle.processor.specs.Answers.{doneOf}
+use Rattle.processor.specs.Answers.{machineOf, doneOf}
 use Rattle.layout.specs.Refusals.{accepted}
 use Rattle.layout.specs.Worked as packed
 use Rattle.worked.specs.Rows.{Row, numbers, lists}
-use Rattle.worked.specs.Processor.{machineOf, reasonOf, blank}
+use Rattle.worked.specs.Processor.{reasonOf, blank}
 
 -- accepted, and packed to its cells
 abbrev pub packingRows : List Row

@@ -4,14 +4,11 @@ use Prim.Native.Nat.{ℕ, _-_, _^_}
 use lib.ListN.{replicate}
 use Rattle.cell.specs.Memory.{cellAt, storeCell}
 use Rattle.machine.specs.Throws.{Turned}
-use Rattle.machine.specs.declared.Machine.{Machine}
 use Rattle.machine.specs.declared.Ended.{Ended}
 use Rattle.machine.specs.declared.Ended.the-variants.{Went, Threw, Stopped}
+use Rattle.processor.specs.Answers.{machineOf}
 use Rattle.processor.specs.Cycles.{cycleOf, cyclesOf, startOf}
 use Rattle.worked.specs.Rows.{Row, numbers, lists}
-
-abbrev pub machineOf : ℕ → Machine
-machineOf order = record { order = order }
 
 -- the reason of a stop; no cell where there is none
 abbrev pub reasonOf : Ended → ℕ

@@ -1,6 +1,7 @@
 -- `write_one` meets its contract.
 use borrow.Author.Needs.{needs}
-use Rattle.exports.proofs.LendingLaws.{one-written}
+use mathlib.Core.List.{[], _∷_}
+use lib.Seq.{sets-eq}
 use Rattle.exports.proofs.lending.write_one.Statement.{statement}
 use Rattle.exports.proofs.lending.write_one.Tie as tie
 
@@ -11,7 +12,7 @@ same-length : tie.Need-same-length
 same-length c = search needs
 
 returns : tie.Need-returns
-returns c = one-written (c .args .lent .now) (c .args .x) (c .pre)
+returns c = sets-eq (c .args .x ∷ []) (c .args .lent .now) 0 (c .pre)
 
 pub write-one-spec : {M : Type 1} → statement M
 write-one-spec = tie.close (tie.spec slice-write-lent same-length returns)

@@ -2,7 +2,8 @@
 use borrow.Author.Needs.{needs}
 use lib.ListN.{length-set}
 use native.Mathlib.Omega.{arith}
-use Rattle.exports.proofs.LendingLaws.{four-written}
+use mathlib.Core.List.{[], _∷_}
+use lib.Seq.{sets-eq}
 use Rattle.exports.proofs.lending.write_registers.Statement.{statement}
 use Rattle.exports.proofs.lending.write_registers.Tie as tie
 
@@ -22,7 +23,7 @@ same-length : tie.Need-same-length
 same-length c = search needs
 
 returns : tie.Need-returns
-returns c = four-written (c .args .lent .now) (c .args .r .ep) (c .args .r .a) (c .args .r .sp) (c .args .r .rp) (c .pre)
+returns c = let a = c .args in sets-eq (a .r .ep ∷ a .r .a ∷ a .r .sp ∷ a .r .rp ∷ []) (a .lent .now) 0 (c .pre)
 
 pub write-registers-spec : {M : Type 1} → statement M
 write-registers-spec =

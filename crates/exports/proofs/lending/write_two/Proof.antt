@@ -1,6 +1,7 @@
 -- `write_two` meets its contract.
 use borrow.Author.Needs.{needs}
-use Rattle.exports.proofs.LendingLaws.{two-written}
+use mathlib.Core.List.{[], _∷_}
+use lib.Seq.{sets-eq}
 use Rattle.exports.proofs.lending.write_two.Statement.{statement}
 use Rattle.exports.proofs.lending.write_two.Tie as tie
 
@@ -14,7 +15,7 @@ same-length : tie.Need-same-length
 same-length c = search needs
 
 returns : tie.Need-returns
-returns c = two-written (c .args .lent .now) (c .args .x) (c .args .y) (c .pre)
+returns c = sets-eq (c .args .x ∷ c .args .y ∷ []) (c .args .lent .now) 0 (c .pre)
 
 pub write-two-spec : {M : Type 1} → statement M
 write-two-spec = tie.close (tie.spec slice-write-lent slice-write-lent-2 same-length returns)

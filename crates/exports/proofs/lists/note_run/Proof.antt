@@ -18,8 +18,8 @@ reason-in-requires c κs = search needs
 write-five-requires : tie.Need-write-five-requires
 write-five-requires c κs = search needs
 
-course-number-requires : tie.Need-course-number-requires
-course-number-requires c κs = search needs
+ending-number-requires : tie.Need-ending-number-requires
+ending-number-requires c κs = search needs
 
 same-length : tie.Need-same-length
 same-length c = search needs
@@ -28,7 +28,7 @@ same-length-2 : tie.Need-same-length-2
 same-length-2 c = search needs
 
 returns : tie.Need-returns
-returns c = rw (c .before .before .before .before .before .before .before .before .write-two .ensures, c .before .before .before .write-five .ensures, c .before .before .before .before .reason-in .ensures, c .course-number .ensures)
+returns c = rw (c .before .before .before .before .before .before .before .before .write-two .ensures, c .before .before .before .write-five .ensures, c .before .before .before .before .reason-in .ensures, c .ending-number .ensures)
 
 pub note-run-spec : {M : Type 1} → statement M
 note-run-spec =
@@ -39,7 +39,7 @@ note-run-spec =
     write-two-requires
     reason-in-requires
     write-five-requires
-    course-number-requires
+    ending-number-requires
     same-length
     same-length-2
     returns)

@@ -4,7 +4,8 @@ use Rattle.exports.proofs.lists.write_five.Statement.{statement}
 use Rattle.exports.proofs.lists.write_five.Tie as tie
 use lib.ListN.{length-set}
 use native.Mathlib.Omega.{arith}
-use Rattle.exports.proofs.ListLaws.{five-written}
+use mathlib.Core.List.{[], _∷_}
+use lib.Seq.{sets-eq}
 
 slice-write-lent : tie.Need-slice-write-lent
 slice-write-lent c = search needs
@@ -25,7 +26,7 @@ same-length : tie.Need-same-length
 same-length c = search needs
 
 returns : tie.Need-returns
-returns c = let a = c .args in five-written (a .lent .now) (a .p) (a .q) (a .r) (a .s) (a .t) (c .pre)
+returns c = let a = c .args in sets-eq (a .p ∷ a .q ∷ a .r ∷ a .s ∷ a .t ∷ []) (a .lent .now) 0 (c .pre)
 
 pub write-five-spec : {M : Type 1} → statement M
 write-five-spec =

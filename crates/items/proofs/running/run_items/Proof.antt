@@ -10,7 +10,7 @@ use denote.Ref.{now}
 use lib.ListN.{getD}
 use Rattle.layout.specs.Listing.{listed}
 use Rattle.layout.proofs.Listing.{some-item}
-use Rattle.items.proofs.RunLaws.{Going, run-begins, run-ends, run-stops, run-turns, cycles-is, few-cycles, lent-still}
+use Rattle.items.proofs.RunLaws.{Going, run-begins, run-ends, run-stops, run-turns, cycles-is, few-cycles}
 
 abbrev Inv-loop : tie.InvT-loop
 Inv-loop machine memory₀ kinds operands entries marks ats eps lefts base cells sp rp items ran₀ rest₀ memory ran rest =
@@ -47,7 +47,7 @@ carry-out-requires c κs =
     let pre-here = c .before .before .before .before .before .before .before .before .before .before .before .before .before
     .before .pre in
     let loop = c .before .before .before .before .loop in
-    (lent-still _ _ (loop .inv .long) (pre-here .0), (pre-here .1, loop .inv .item))
+    (rw (loop .inv .long) (pre-here .0), (pre-here .1, loop .inv .item))
 
 count-item-requires : tie.Need-count-item-requires Inv-loop μ-loop
 count-item-requires c κs =

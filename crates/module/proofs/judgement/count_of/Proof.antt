@@ -2,7 +2,7 @@ use borrow.Author.Needs.{needs}
 use Rattle.module.proofs.judgement.count_of.Statement.{statement}
 use Rattle.module.proofs.judgement.count_of.Tie as tie
 use mathlib.Core.Path.{ap}
-use Rattle.module.specs.Answers as answers
+use Rattle.cell.specs.Memory.{cellCount}
 use Rattle.module.specs.Format as format
 use Rattle.module.proofs.judgement.count_of.Reads as reads
 use Rattle.module.proofs.judgement.count_of.Lts as lts
@@ -19,7 +19,7 @@ load-requires c κs = search needs
 -- src/judgement.rt:42:1
 returns : tie.Need-returns
 unfolding format.countOf
-returns c = ap answers.cellCount (c .load .ensures)
+returns c = ap cellCount (c .load .ensures)
 
 pub count-of-spec : {M : Type 1} → statement M
 count-of-spec = tie.close (tie.spec shared-slice-read-load load-requires returns)

@@ -2,7 +2,7 @@ use borrow.Author.Needs.{needs}
 use Rattle.module.proofs.judgement.is_titled.Statement.{statement}
 use Rattle.module.proofs.judgement.is_titled.Tie as tie
 use mathlib.Core.Path.{sym}
-use Rattle.module.proofs.JudgeLaws.{and-true}
+use mathlib.Core.Bool.{and-true}
 use borrow.Author.Tests.{eq-eqb, ne-eqb}
 use Rattle.module.proofs.judgement.is_titled.Reads as reads
 use Rattle.module.proofs.judgement.is_titled.Lts as lts

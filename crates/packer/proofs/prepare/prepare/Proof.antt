@@ -3,7 +3,7 @@ use borrow.Author.Needs.{needs}
 use Rattle.packer.proofs.prepare.prepare.Statement.{statement}
 use Rattle.packer.proofs.prepare.prepare.Tie as tie
 use mathlib.Core.Path.{ap, _∙_}
-use Rattle.packer.specs.Pack.{cellCount}
+use Rattle.cell.specs.Memory.{cellCount}
 
 find-entries-requires : tie.Need-find-entries-requires
 find-entries-requires c κs = search needs

@@ -4,7 +4,7 @@ use Rattle.shapes.proofs.judging.meets_write.Statement.{statement}
 use Rattle.shapes.proofs.judging.meets_write.Tie as tie
 use mathlib.Core.Path.{sym, _∙_}
 use Rattle.machine.specs.Commits as commits
-use Rattle.shapes.proofs.WritesLaws.{or-false}
+use mathlib.Core.Bool.{or-false}
 
 meets-requires : tie.Need-meets-requires
 meets-requires c κs = search needs

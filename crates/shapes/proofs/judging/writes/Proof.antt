@@ -4,9 +4,9 @@ use Rattle.shapes.proofs.judging.writes.Statement.{statement}
 use Rattle.shapes.proofs.judging.writes.Tie as tie
 use mathlib.Core.Path.{sym, _∙_}
 use Rattle.machine.specs.Commits as commits
-use Rattle.shapes.proofs.WritesLaws.{or-false, rolled-touches}
+use Rattle.shapes.proofs.WritesLaws.{rolled-touches}
 use mathlib.Core.Path.{ap₂}
-use mathlib.Core.Bool.{_||_}
+use mathlib.Core.Bool.{_||_, or-false}
 use Rattle.shapes.proofs.WritesLaws.{touches-more}
 use denote.Ref.{now}
 
