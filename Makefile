@@ -1,5 +1,5 @@
-# `make run` shows a rule at work, from its text to its result; `make test` is the gate; `make compare` holds the compiled library against the second
-# implementation.
+# `make run` shows a rule at work, from its text to its result; `make test` is the gate; `make compare`, a part of it, holds the compiled library
+# against the second implementation and runs the command's tests.
 .PHONY: run test compare library
 beetle = cli/target/release/beetle
 work = target/run

@@ -1,10 +1,13 @@
-//! Checks the reference against vectors: `vectors cycles.txt listings.txt`.
+//! Checks the reference, and the library where it is linked, against vectors:
+//! `vectors cycles.txt listings.txt`.
 //!
 //! A cycle is a line of order, EP, A, SP, RP and memory, `=`, the answer (`on`, or `stop` and the
 //! reason in decimal), the registers afterwards, and each changed byte as `address:byte`. A listing
 //! is a line of a file's bytes (`-` for none), `=`, and the cells or the refusal's number.
 
-use beetle_tests::reference::calls;
+#[cfg(feature = "library")]
+use beetle_tests::call::library;
+use beetle_tests::call::{reference, Implementation};
 
 fn hexadecimal(word: &str) -> u32 {
     u32::from_str_radix(word, 16).expect("a hexadecimal number")
@@ -25,14 +28,14 @@ fn sides(line: &str) -> (Vec<&str>, Vec<&str>) {
     (left, right.split_whitespace().collect())
 }
 
-fn cycle_agrees(line: &str) -> bool {
+fn cycle_agrees(calls: &Implementation, line: &str) -> bool {
     let (given, expected) = sides(line);
     let order = hexadecimal(given[0]) as u8;
     let mut registers: Vec<u32> = given[1..5].iter().map(|word| hexadecimal(word)).collect();
     let mut memory = bytes(given[5]);
     let before = memory.clone();
     let mut out = [0];
-    let answer = calls::cycle(order, &mut memory, &mut registers, &mut out);
+    let answer = (calls.cycle)(order, &mut memory, &mut registers, &mut out);
     let mut told = match answer {
         0 => vec!["on".to_string()],
         1 => vec!["stop".to_string(), (out[0] as i32).to_string()],
@@ -44,7 +47,7 @@ fn cycle_agrees(line: &str) -> bool {
     told == expected
 }
 
-fn listing_agrees(line: &str) -> bool {
+fn listing_agrees(calls: &Implementation, line: &str) -> bool {
     let (given, expected) = sides(line);
     let file = if given[0] == "-" {
         Vec::new()
@@ -53,7 +56,7 @@ fn listing_agrees(line: &str) -> bool {
     };
     let mut output = vec![0; 4 * 8192];
     let mut out = [0];
-    let answer = calls::pack_file(0, &file, &mut output, &mut out);
+    let answer = (calls.pack_file)(0, &file, &mut output, &mut out);
     let told: Vec<String> = if answer == 0 {
         output[..4 * out[0] as usize]
             .chunks(4)
@@ -67,7 +70,7 @@ fn listing_agrees(line: &str) -> bool {
 }
 
 /// Prints the lines that disagree, and how many agree; whether all do.
-fn check(path: &str, agrees: fn(&str) -> bool) -> bool {
+fn check(path: &str, agrees: impl Fn(&str) -> bool) -> bool {
     let text = std::fs::read_to_string(path).expect("a readable file of vectors");
     let mut agreed = 0;
     let mut lines = 0;
@@ -83,14 +86,23 @@ fn check(path: &str, agrees: fn(&str) -> bool) -> bool {
     agreed == lines && lines > 0
 }
 
+/// Whether an implementation agrees with both files.
+fn check_both(name: &str, calls: &Implementation, cycles: &str, listings: &str) -> bool {
+    println!("{name}");
+    let good = check(cycles, |line| cycle_agrees(calls, line));
+    check(listings, |line| listing_agrees(calls, line)) && good
+}
+
 fn main() {
     let paths: Vec<String> = std::env::args().skip(1).collect();
     let [cycles, listings] = &paths[..] else {
         eprintln!("usage: vectors cycles.txt listings.txt");
         std::process::exit(2);
     };
-    let good = [check(cycles, cycle_agrees), check(listings, listing_agrees)];
-    if good != [true, true] {
+    let good = check_both("reference", &reference(), cycles, listings);
+    #[cfg(feature = "library")]
+    let good = check_both("library", &library(), cycles, listings) && good;
+    if !good {
         std::process::exit(1);
     }
 }
