@@ -1,5 +1,4 @@
 // The interface for C and Rust: numbers and slices. include/beetle.h has the same functions for C.
-pub mod lending;
 pub mod listings;
 pub mod lists;
 pub mod machines;

@@ -1,32 +1,16 @@
 // The calls for listings. Each judges first, and writes nothing that was lent where it refuses.
 ghost use mathlib.Core.Path.{_≡_};
-ghost use Prim.Native.Nat.{_≤_};
-ghost use lib.ListN.{length};
-ghost use Rattle.exports.specs.Modules as modules;
-ghost use Rattle.exports.specs.Listings as listings;
-use crate::lending::with_room;
-use crate::lending::write_one;
+ghost use Rattle.calls.specs.Modules as modules;
+ghost use Rattle.calls.specs.Listings as listings;
+use calls::lending::with_room;
+use calls::listings::note_packed;
 use cell::Address;
 use cell::Judged;
 use cell::judgement::refusal_number;
-use packer::Packed;
 use packer::file::judge_pack_file;
 use packer::file::pack_file;
 use packer::judgement::judge_pack;
 use packer::pack::pack;
-
-fn note_packed(answer: Packed, out: &mut [u32]) -> u32
-    requires { ⌜ 1 ≤ length (now out) ⌝ }
-    ensures { λ n. ⌜ modules.noted (now (out .exit)) n ≡ listings.packNoted (now (out .entry)) answer ⌝ }
-{
-    match answer {
-        Packed::Refused(r) => refusal_number(r),
-        Packed::Cells(l) => {
-            write_one(out, l.0);
-            0
-        }
-    }
-}
 
 #[no_mangle]
 pub extern "C" fn beetle_pack(

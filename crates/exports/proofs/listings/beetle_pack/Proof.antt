@@ -3,8 +3,8 @@ use borrow.Author.Needs.{needs}
 use Rattle.exports.proofs.listings.beetle_pack.Statement.{statement}
 use Rattle.exports.proofs.listings.beetle_pack.Tie as tie
 use lib.ListN.{length}
-use Rattle.exports.proofs.LendingLaws.{roomy}
-use Rattle.exports.specs.Listings as listings
+use Rattle.calls.proofs.LendingLaws.{roomy}
+use Rattle.calls.specs.Listings as listings
 use mathlib.Core.Path.{_∙_, sym}
 
 judge-pack-requires : tie.Need-judge-pack-requires

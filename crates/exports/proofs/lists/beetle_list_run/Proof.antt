@@ -5,7 +5,7 @@ use Rattle.exports.proofs.lists.beetle_list_run.Tie as tie
 use mathlib.Core.Path.{_∙_, sym}
 use native.Mathlib.Omega.{arith}
 use lib.ListN.{length}
-use Rattle.exports.proofs.ListLaws.{list-roomy, list-refused, list-noted}
+use Rattle.calls.proofs.ListLaws.{list-roomy, list-refused, list-noted}
 
 judge-list-requires : tie.Need-judge-list-requires
 judge-list-requires c κs = search needs

@@ -1,8 +1,8 @@
 -- `beetle_save` meets its contract: a refusal, or the answer of crate `module` noted.
 use borrow.Author.Needs.{needs}
 use lib.ListN.{length}
-use Rattle.exports.proofs.LendingLaws.{roomy}
-use Rattle.exports.specs.Modules as modules
+use Rattle.calls.proofs.LendingLaws.{roomy}
+use Rattle.calls.specs.Modules as modules
 use mathlib.Core.Path.{_∙_, sym}
 use Rattle.exports.proofs.modules.beetle_save.Statement.{statement}
 use Rattle.exports.proofs.modules.beetle_save.Tie as tie

@@ -1,0 +1,29 @@
+-- Room in lent arrays.
+use mathlib.Core.Path.{_≡_}
+use mathlib.Core.List.{[], _∷_}
+use Prim.Native.Nat.{ℕ, _≤_}
+use borrow.Author.Tests.{ltb-false}
+use lib.Dec.{ltb}
+use Rattle.cell.specs.Refusals.{judge, judgeMachine}
+use Rattle.cell.specs.declared.Refusal.the-variants.{ShortOutput}
+use Rattle.cell.specs.declared.Judged.{Judged}
+use Rattle.cell.specs.declared.Judged.the-variants.{Passed}
+use Rattle.cell.proofs.JudgementLaws.{both-pass, one-clear}
+use Rattle.calls.specs.Lending.{shortArray, withRoom}
+use Rattle.calls.specs.Machines.{judgeCall}
+
+pub record Roomy (j : Judged) (size needed : ℕ) : Type 0 where
+  pub passed : j ≡ Passed
+  pub room : needed ≤ size
+
+pub roomy : (j : Judged) (size needed : ℕ) → withRoom j size needed ≡ Passed → Roomy j size needed
+roomy j size needed e =
+    let p = both-pass j (judge (shortArray size needed ∷ [])) e in
+    record { passed = p .0; room = ltb-false size needed (one-clear (ltb size needed) ShortOutput Passed (p .1) .0) }
+
+pub call-roomy : (len order registers out needed : ℕ) → judgeCall len order registers out needed ≡ Passed
+    → (4 ≤ registers) × (needed ≤ out)
+unfolding judgeCall
+call-roomy len order registers out needed e =
+    let last = roomy (withRoom (judgeMachine len order) registers 4) out needed e in
+    (roomy (judgeMachine len order) registers 4 (last .passed) .room, last .room)

@@ -1,0 +1,22 @@
+-- `judge_call` meets its contract: three judgements in turn.
+use borrow.Author.Needs.{needs}
+use Rattle.calls.specs.Machines as machines
+use Rattle.calls.proofs.machines.judge_call.Statement.{statement}
+use Rattle.calls.proofs.machines.judge_call.Tie as tie
+
+judge-machine-requires : tie.Need-judge-machine-requires
+judge-machine-requires c κs = search needs
+
+with-room-requires : tie.Need-with-room-requires
+with-room-requires c κs = search needs
+
+with-room-requires-2 : tie.Need-with-room-requires-2
+with-room-requires-2 c κs = search needs
+
+returns : tie.Need-returns
+unfolding machines.judgeCall
+returns c = rw (c .with-room2 .ensures, c .before .with-room .ensures, c .before .before .judge-machine .ensures)
+
+pub judge-call-spec : {M : Type 1} → statement M
+judge-call-spec =
+    tie.close (tie.spec judge-machine-requires with-room-requires with-room-requires-2 returns)

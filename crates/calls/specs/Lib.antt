@@ -1,0 +1,6 @@
+-- What crate `calls` means.
+pub mod Lending
+pub mod Machines
+pub mod Modules
+pub mod Listings
+pub mod Lists

@@ -1,0 +1,90 @@
+-- What `beetle_start`, `beetle_cycle` and `beetle_run` leave and answer. Document 01: "A refusal gives its number, zero counts, .. all memory and
+-- outputs untouched. A success writes its bytes and no others".
+use mathlib.Core.List.{List, [], _∷_}
+use Prim.Native.Nat.{ℕ}
+use lib.ListN.{length}
+use Rattle.cell.specs.Refusals.{judgeMachine, refusalNumber}
+use Rattle.cell.specs.declared.Judged.{Judged}
+use Rattle.cell.specs.declared.Judged.the-variants as judged
+use Rattle.machine.specs.declared.Registers.{Registers}
+use Rattle.processor.specs.Answers.{startAnswer, cycleAnswer, runAnswer}
+use Rattle.processor.specs.declared.Started.{Started}
+use Rattle.processor.specs.declared.Started.the-variants as started
+use Rattle.processor.specs.declared.Cycled.{Cycled}
+use Rattle.processor.specs.declared.Cycled.the-variants as cycled
+use Rattle.processor.specs.declared.Ran.{Ran}
+use Rattle.processor.specs.declared.Ran.the-variants as ran
+use Rattle.calls.specs.Lending.{written, registersOf, registerList, withRoom}
+
+-- what is left in `registers` and `out`, and the number answered
+pub record Told : Type 0 where
+  pub registers : List ℕ
+  pub out : List ℕ
+  pub number : ℕ
+
+abbrev pub told : List ℕ → List ℕ → ℕ → Told
+told registers out n = record { registers = registers; out = out; number = n }
+
+-- the same, with the memory
+pub record Called : Type 0 where
+  pub memory : List ℕ
+  pub told : Told
+
+abbrev pub called : List ℕ → List ℕ → List ℕ → ℕ → Called
+called m registers out n = record { memory = m; told = told registers out n }
+
+-- "-4101, -4102, .. -4105", the last for `registers` and `out`
+unfoldable pub judgeCall : ℕ → ℕ → ℕ → ℕ → ℕ → Judged
+judgeCall len order registers out needed = withRoom (withRoom (judgeMachine len order) registers 4) out needed
+
+-- 0 and the values, 1 for a stop, or a refusal's number with nothing written
+module _ (registers out : List ℕ) where
+  abbrev pub success : Registers → List ℕ → ℕ → Told
+  success r xs n = told (written (registerList r) registers) (written xs out) n
+
+  abbrev pub startTold : Started → Told
+  startTold (started.Refused n) = told registers out (refusalNumber n)
+  startTold (started.Ready r) = success r (0 ∷ []) 0
+  startTold (started.Stopped r x) = success r (x ∷ []) 1
+
+  abbrev pub cycleTold : Cycled → Told
+  cycleTold (cycled.Refused n) = told registers out (refusalNumber n)
+  cycleTold (cycled.Went r) = success r (0 ∷ []) 0
+  cycleTold (cycled.Threw r f) = success r (0 ∷ []) 0
+  cycleTold (cycled.Stopped r x) = success r (x ∷ []) 1
+
+  -- a spent run did as many cycles as its budget
+  abbrev pub runTold : ℕ → Ran → Told
+  runTold budget (ran.Refused n) = told registers out (refusalNumber n)
+  runTold budget (ran.Spent r) = success r (0 ∷ budget ∷ []) 0
+  runTold budget (ran.Stopped r x n) = success r (x ∷ n ∷ []) 1
+
+abbrev pub startIf : Judged → ℕ → List ℕ → ℕ → ℕ → List ℕ → List ℕ → Called
+startIf (judged.Refused n) order m ep handler registers out = called m registers out (refusalNumber n)
+startIf judged.Passed order m ep handler registers out =
+    let s = startAnswer order m ep handler in
+    record { memory = s .memory; told = startTold registers out (s .answer) }
+
+unfoldable pub startCall : ℕ → List ℕ → ℕ → ℕ → List ℕ → List ℕ → Called
+startCall order m ep handler registers out =
+    startIf (judgeCall (length m) order (length registers) (length out) 1) order m ep handler registers out
+
+abbrev pub cycleIf : Judged → ℕ → List ℕ → List ℕ → List ℕ → Called
+cycleIf (judged.Refused n) order m registers out = called m registers out (refusalNumber n)
+cycleIf judged.Passed order m registers out =
+    let s = cycleAnswer order m (registersOf registers) in
+    record { memory = s .memory; told = cycleTold registers out (s .answer) }
+
+unfoldable pub cycleCall : ℕ → List ℕ → List ℕ → List ℕ → Called
+cycleCall order m registers out =
+    cycleIf (judgeCall (length m) order (length registers) (length out) 1) order m registers out
+
+abbrev pub runIf : Judged → ℕ → List ℕ → List ℕ → ℕ → List ℕ → Called
+runIf (judged.Refused n) order m registers budget out = called m registers out (refusalNumber n)
+runIf judged.Passed order m registers budget out =
+    let s = runAnswer order m (registersOf registers) budget in
+    record { memory = s .memory; told = runTold registers out budget (s .answer) }
+
+unfoldable pub runCall : ℕ → List ℕ → List ℕ → ℕ → List ℕ → Called
+runCall order m registers budget out =
+    runIf (judgeCall (length m) order (length registers) (length out) 2) order m registers budget out

@@ -1,0 +1,6 @@
+// What the calls of the interface judge beside the calls that they hand on to, and what they tell in the arrays that were lent.
+pub mod lending;
+pub mod listings;
+pub mod lists;
+pub mod machines;
+pub mod modules;

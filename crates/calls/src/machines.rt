@@ -1,0 +1,90 @@
+// What the processor's calls judge, and what they tell.
+ghost use mathlib.Core.Path.{_≡_};
+ghost use Prim.Native.Nat.{_≤_};
+ghost use lib.ListN.{length};
+ghost use Rattle.calls.specs.Machines as machines;
+use crate::lending::with_room;
+use crate::lending::write_one;
+use crate::lending::write_registers;
+use crate::lending::write_two;
+use cell::Judged;
+use cell::judgement::judge_machine;
+use cell::judgement::refusal_number;
+use processor::Cycled;
+use processor::Ran;
+use processor::Started;
+
+pub fn judge_call(length: usize, order: u8, registers: usize, out: usize, needed: usize) -> Judged
+    ensures { λ r. ⌜ r ≡ machines.judgeCall length order registers out needed ⌝ }
+{
+    with_room(
+        with_room(judge_machine(length, order), registers, 4),
+        out,
+        needed,
+    )
+}
+
+pub fn tell_started(answer: Started, registers: &mut [u32], out: &mut [u32]) -> u32
+    requires { ⌜ 4 ≤ length (now registers) ⌝ }
+    requires { ⌜ 1 ≤ length (now out) ⌝ }
+    ensures { λ n. ⌜ machines.told (now (registers .exit)) (now (out .exit)) n ≡ machines.startTold (now (registers .entry)) (now (out .entry)) answer ⌝ }
+{
+    match answer {
+        Started::Refused(n) => refusal_number(n),
+        Started::Ready(r) => {
+            write_registers(registers, r);
+            write_one(out, 0);
+            0
+        }
+        Started::Stopped(r, x) => {
+            write_registers(registers, r);
+            write_one(out, x);
+            1
+        }
+    }
+}
+
+pub fn tell_cycled(answer: Cycled, registers: &mut [u32], out: &mut [u32]) -> u32
+    requires { ⌜ 4 ≤ length (now registers) ⌝ }
+    requires { ⌜ 1 ≤ length (now out) ⌝ }
+    ensures { λ n. ⌜ machines.told (now (registers .exit)) (now (out .exit)) n ≡ machines.cycleTold (now (registers .entry)) (now (out .entry)) answer ⌝ }
+{
+    match answer {
+        Cycled::Refused(n) => refusal_number(n),
+        Cycled::Went(r) => {
+            write_registers(registers, r);
+            write_one(out, 0);
+            0
+        }
+        Cycled::Threw(r, _) => {
+            write_registers(registers, r);
+            write_one(out, 0);
+            0
+        }
+        Cycled::Stopped(r, x) => {
+            write_registers(registers, r);
+            write_one(out, x);
+            1
+        }
+    }
+}
+
+pub fn tell_ran(answer: Ran, budget: u32, registers: &mut [u32], out: &mut [u32]) -> u32
+    requires { ⌜ 4 ≤ length (now registers) ⌝ }
+    requires { ⌜ 2 ≤ length (now out) ⌝ }
+    ensures { λ n. ⌜ machines.told (now (registers .exit)) (now (out .exit)) n ≡ machines.runTold (now (registers .entry)) (now (out .entry)) budget answer ⌝ }
+{
+    match answer {
+        Ran::Refused(n) => refusal_number(n),
+        Ran::Spent(r) => {
+            write_registers(registers, r);
+            write_two(out, 0, budget);
+            0
+        }
+        Ran::Stopped(r, x, done) => {
+            write_registers(registers, r);
+            write_two(out, x, done);
+            1
+        }
+    }
+}

@@ -1,6 +1,0 @@
--- What crate `exports` means.
-pub mod Lending
-pub mod Machines
-pub mod Modules
-pub mod Listings
-pub mod Lists
