@@ -6,7 +6,7 @@ ghost use Rattle.machine.specs.Places as places;
 ghost use Rattle.machine.specs.Effects as effects;
 ghost use Rattle.machine.specs.Commits as commits;
 ghost use Rattle.instruction.specs.Taking as taking;
-ghost use Rattle.dispatch.specs.Dispatch as dispatch;
+ghost use Rattle.instruction.specs.Dispatch as dispatch;
 use flow::control::turn_loop;
 use flow::control::turn_plus_loop;
 use instruction::Form;

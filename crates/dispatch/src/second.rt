@@ -4,7 +4,7 @@ ghost use Prim.Native.Nat.{_≤_};
 ghost use lib.ListN.{length};
 ghost use Rattle.machine.specs.Places as places;
 ghost use Rattle.machine.specs.Commits as commits;
-ghost use Rattle.dispatch.specs.Dispatch as dispatch;
+ghost use Rattle.instruction.specs.Dispatch as dispatch;
 use crate::third::execute_third;
 use instruction::shape::push;
 use machine::Machine;

@@ -10,7 +10,7 @@ use Rattle.cell.specs.Refusals.{Lent}
 use Rattle.machine.specs.Commits.{placesOf}
 use Rattle.machine.specs.declared.Machine.{Machine}
 use Rattle.machine.specs.declared.Registers.{Registers}
-use Rattle.dispatch.specs.Dispatch.{decodeOf, classOf}
+use Rattle.instruction.specs.Dispatch.{decodeOf, classOf}
 use Rattle.layout.specs.Kinds as sorts
 use Rattle.layout.specs.declared.Form.{Form}
 use Rattle.layout.specs.Listing.{listed}

@@ -9,7 +9,7 @@ use lib.ListN.{length, getD}
 use Rattle.cell.specs.declared.Fetched.the-variants.{Cell}
 use Rattle.machine.specs.declared.Machine.{Machine}
 use Rattle.instruction.specs.Taking.{Taking, branch, questionBranch, call, loop, plusLoop, literal}
-use Rattle.dispatch.specs.Dispatch.{decodeOf, Class, next, plain, taking, classOf}
+use Rattle.instruction.specs.Dispatch.{decodeOf, Class, next, plain, taking, classOf}
 use Rattle.layout.specs.Kinds as sorts
 use Rattle.layout.specs.declared.Class as declared
 use Rattle.layout.specs.declared.Class.the-variants as class

@@ -9,7 +9,7 @@ use Rattle.machine.specs.declared.Registers.{Registers}
 use Rattle.instruction.specs.Plain.{plainAt}
 use Rattle.instruction.specs.Taking.{takingAt}
 use Rattle.instruction.specs.declared.Form.the-variants as form
-use Rattle.dispatch.specs.Dispatch.{decodeOf}
+use Rattle.instruction.specs.Dispatch.{decodeOf}
 use Rattle.layout.specs.Kinds.{branches}
 use Rattle.layout.specs.Kinds as kinds
 use Rattle.layout.specs.declared.Class.the-variants as class

@@ -25,7 +25,7 @@ use Rattle.machine.specs.declared.Then.the-variants as then
 use Rattle.machine.specs.declared.Access.the-variants.{Push, Stream}
 use Rattle.instruction.specs.Plain.{plainAt}
 use Rattle.instruction.specs.Taking.{Taking, branch, questionBranch, call, loop, plusLoop, literal, takingOf}
-use Rattle.dispatch.specs.Dispatch.{decodeOf, Class, next, plain, taking, classOf}
+use Rattle.instruction.specs.Dispatch.{decodeOf, Class, next, plain, taking, classOf}
 use Rattle.layout.specs.Packing.{pickEntry}
 use Rattle.layout.specs.declared.Entry.{Entry}
 use Rattle.layout.specs.declared.Entry.the-variants.{Item, Nothing}

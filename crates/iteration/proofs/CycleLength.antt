@@ -11,7 +11,7 @@ use Rattle.machine.specs.declared.Ended.the-variants.{Went, Threw, Stopped}
 use Rattle.instruction.specs.Plain.{plainAt}
 use Rattle.instruction.specs.Taking.{takingAt}
 use Rattle.instruction.specs.declared.Instruction.{Instruction}
-use Rattle.dispatch.specs.Dispatch.{Class, next, plain, taking, classOf, executed, executeOf, decodeOf}
+use Rattle.instruction.specs.Dispatch.{Class, next, plain, taking, classOf, executed, executeOf, decodeOf}
 use Rattle.processor.specs.Cycles.{shifted, cycleOf, advanced, advance, cyclesOf}
 use Rattle.iteration.proofs.LengthLaws.{commit-length, finish-length}
 

@@ -19,7 +19,7 @@ use Rattle.instruction.specs.Taking.{takingAt, passed, onward}
 use Rattle.instruction.specs.declared.Form.{Form}
 use Rattle.instruction.specs.declared.Form.the-variants.{InCell, Immediate}
 use Rattle.instruction.specs.declared.Instruction.{Instruction}
-use Rattle.dispatch.specs.Dispatch.{Class, next, plain, taking, classOf, taken, executed, executeOf, decodeOf}
+use Rattle.instruction.specs.Dispatch.{Class, next, plain, taking, classOf, taken, executed, executeOf, decodeOf}
 use Rattle.processor.specs.Cycles.{shifted, cycleOf, advanced, advance, cyclesOf, fourCells, startOf}
 use Rattle.iteration.specs.Soundness.{Sound, SoundStepped, SoundTurned}
 use Rattle.iteration.proofs.NumberBounds.{sum-below, asr8-below}

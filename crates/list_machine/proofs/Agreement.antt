@@ -21,7 +21,7 @@ use Rattle.instruction.specs.Plain.{plainAt}
 use Rattle.instruction.specs.Taking.{Taking, branch, questionBranch, call, loop, plusLoop, literal, takingOf, takingAt, branchOperand, literalOperand, operandOf, afterOf}
 use Rattle.instruction.specs.declared.Form as stream
 use Rattle.instruction.specs.declared.Form.the-variants as stream-form
-use Rattle.dispatch.specs.Dispatch.{decodeOf, plain, taking, classOf, taken, executeOf}
+use Rattle.instruction.specs.Dispatch.{decodeOf, plain, taking, classOf, taken, executeOf}
 use Rattle.processor.specs.Cycles.{cycleOf}
 use Rattle.layout.specs.Kinds as kinds
 use Rattle.layout.specs.declared.Class as kind

@@ -7,7 +7,7 @@ use native.Mathlib.Decide.{decLt}
 use native.Mathlib.Omega.{arith}
 use Rattle.instruction.specs.Taking.{Taking, branch, questionBranch, call, loop, plusLoop, literal}
 use Rattle.instruction.specs.declared.Form.the-variants.{InCell, Immediate}
-use Rattle.dispatch.specs.Dispatch.{decodeOf, Class, next, plain, taking, classOf}
+use Rattle.instruction.specs.Dispatch.{decodeOf, Class, next, plain, taking, classOf}
 use Rattle.layout.specs.Kinds as kinds
 use Rattle.layout.specs.declared.Class as kind
 use Rattle.layout.specs.declared.Class.the-variants.{Plain, Literal, Branch, NoKind}

@@ -8,7 +8,7 @@ use Rattle.machine.specs.Commits.{placesOf, storedOf, touches}
 use Rattle.machine.specs.Throws.{handlerOf, throwOf, throwingOf}
 use Rattle.instruction.specs.Plain.{plainOf}
 use Rattle.instruction.specs.Taking.{takingOf}
-use Rattle.dispatch.specs.Dispatch.{decodeOf}
+use Rattle.instruction.specs.Dispatch.{decodeOf}
 use Rattle.layout.specs.Kinds.{classOf}
 use Rattle.layout.specs.Bytes.{fits}
 use Rattle.layout.specs.Listing.{any, entry}

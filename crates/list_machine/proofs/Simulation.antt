@@ -13,7 +13,7 @@ use Rattle.machine.specs.declared.Machine.{Machine}
 use Rattle.machine.specs.declared.Registers.{Registers}
 use Rattle.machine.specs.declared.Ended.{Ended}
 use Rattle.machine.specs.declared.Ended.the-variants.{Went, Threw, Stopped}
-use Rattle.dispatch.specs.Dispatch.{decodeOf, executeOf}
+use Rattle.instruction.specs.Dispatch.{decodeOf, executeOf}
 use Rattle.processor.specs.Cycles.{cycleOf, advance, cyclesOf}
 use Rattle.processor.specs.Answers.{isStop, begun, doneOf}
 use Rattle.processor.proofs.CycleLaws.{cycles-cut, goes}

@@ -25,7 +25,7 @@ use Rattle.machine.specs.declared.Ended.{Ended}
 use Rattle.machine.specs.declared.Ended.the-variants.{Went, Threw, Stopped}
 use Rattle.instruction.specs.Plain.{plainOf}
 use Rattle.instruction.specs.Taking.{Taking, branch, questionBranch, call, loop, plusLoop, literal, takingOf}
-use Rattle.dispatch.specs.Dispatch.{decodeOf, Class, next, plain, taking, classOf}
+use Rattle.instruction.specs.Dispatch.{decodeOf, Class, next, plain, taking, classOf}
 use Rattle.layout.specs.Listing.{Listing}
 use Rattle.layout.specs.Layout.{opens, formAt}
 use Rattle.layout.specs.Packing.{layout, imageCells, addressOf, epValue, behind, entryAt}

@@ -9,7 +9,7 @@ use Rattle.machine.specs.declared.Machine.{Machine}
 use Rattle.machine.specs.declared.Registers.{Registers}
 use Rattle.machine.specs.declared.Ended.{Ended}
 use Rattle.machine.specs.declared.Ended.the-variants.{Went, Threw, Stopped}
-use Rattle.dispatch.specs.Dispatch.{decodeOf, executeOf}
+use Rattle.instruction.specs.Dispatch.{decodeOf, executeOf}
 
 -- document 01, The processor: "I is the low byte of A; A shifts right 8 bits, keeping its sign; I is executed"
 abbrev pub shifted : Registers → Registers

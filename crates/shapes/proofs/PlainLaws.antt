@@ -12,8 +12,8 @@ use Rattle.machine.specs.Effects.{raise}
 use Rattle.machine.specs.declared.Machine.{Machine}
 use Rattle.instruction.specs.Plain.{plainOf}
 use Rattle.instruction.specs.declared.Instruction.the-variants.{Next, Illegal}
-use Rattle.dispatch.specs.Dispatch.{opcodes, decodeOf}
-use Rattle.dispatch.proofs.OpcodeLaws.{past}
+use Rattle.instruction.specs.Dispatch.{opcodes, decodeOf}
+use Rattle.instruction.proofs.OpcodeLaws.{past}
 
 -- a number from 42h on that is none of the arms of the code
 pub record Rest (n : ℕ) : Type 0 where

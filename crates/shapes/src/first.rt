@@ -3,7 +3,7 @@ ghost use Prim.Native.Nat.{_≤_};
 ghost use lib.ListN.{length};
 ghost use Rattle.machine.specs.Places as places;
 ghost use Rattle.instruction.specs.Plain as plain;
-ghost use Rattle.dispatch.specs.Dispatch as dispatch;
+ghost use Rattle.instruction.specs.Dispatch as dispatch;
 ghost use Rattle.shapes.specs.Shapes as shapes;
 use crate::Shape;
 use crate::roll::propose_roll;

@@ -10,7 +10,7 @@ use Rattle.machine.specs.Commits.{placesOf, storedOf, commitOf}
 use Rattle.machine.specs.Throws.{handlerOf, throwOf, nextOf, finishOf}
 use Rattle.instruction.specs.Plain.{plainOf}
 use Rattle.instruction.specs.Taking.{takingOf}
-use Rattle.dispatch.specs.Dispatch.{decodeOf, executeOf}
+use Rattle.instruction.specs.Dispatch.{decodeOf, executeOf}
 use Rattle.processor.specs.Cycles.{cycleOf, advance, cyclesOf, startOf}
 use Rattle.processor.specs.Answers.{doneOf}
 use Rattle.layout.specs.Kinds.{classOf}

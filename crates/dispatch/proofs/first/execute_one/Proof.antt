@@ -3,9 +3,9 @@ use borrow.Author.Needs.{needs}
 use mathlib.Core.Path.{_∙_, ap}
 use denote.Ref.{now}
 use Rattle.machine.specs.Commits as commits
-use Rattle.dispatch.specs.Dispatch as dispatch
+use Rattle.instruction.specs.Dispatch as dispatch
 use Prim.Native.Nat.{zero-le}
-use Rattle.dispatch.proofs.OpcodeLaws.{past}
+use Rattle.instruction.proofs.OpcodeLaws.{past}
 use Rattle.dispatch.proofs.first.execute_one.Statement.{statement}
 use Rattle.dispatch.proofs.first.execute_one.Tie as tie
 

@@ -7,8 +7,8 @@ use denote.Ref.{now}
 use Rattle.machine.specs.Commits as commits
 use Rattle.instruction.specs.Plain as plain
 use Rattle.instruction.specs.declared.Form.the-variants.{InCell, Immediate}
-use Rattle.dispatch.specs.Dispatch as dispatch
-use Rattle.dispatch.proofs.OpcodeLaws.{past, loop-quarter, either, illegal-is}
+use Rattle.instruction.specs.Dispatch as dispatch
+use Rattle.instruction.proofs.OpcodeLaws.{past, loop-quarter, either, illegal-is}
 use Rattle.dispatch.proofs.fourth.execute_fourth.Statement.{statement}
 use Rattle.dispatch.proofs.fourth.execute_fourth.Tie as tie
 

@@ -10,8 +10,8 @@ use denote.Ref.{now}
 use mathlib.Core.Path.{_∙_, ap}
 use Rattle.machine.specs.Commits as commits
 use Rattle.instruction.specs.Taking as taking
-use Rattle.dispatch.specs.Dispatch as dispatch
-use Rattle.dispatch.proofs.OpcodeLaws.{loop-is}
+use Rattle.instruction.specs.Dispatch as dispatch
+use Rattle.instruction.proofs.OpcodeLaws.{loop-is}
 
 -- src/looping.rt:46:9
 form-of-requires : tie.Need-form-of-requires

@@ -4,8 +4,8 @@ use mathlib.Core.Path.{_∙_, ap}
 use denote.Ref.{now}
 use Rattle.machine.specs.Commits as commits
 use Rattle.instruction.specs.Plain as plain
-use Rattle.dispatch.specs.Dispatch as dispatch
-use Rattle.dispatch.proofs.OpcodeLaws.{past}
+use Rattle.instruction.specs.Dispatch as dispatch
+use Rattle.instruction.proofs.OpcodeLaws.{past}
 use Rattle.dispatch.proofs.second.execute_second.Statement.{statement}
 use Rattle.dispatch.proofs.second.execute_second.Tie as tie
 

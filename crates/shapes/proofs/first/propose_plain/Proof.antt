@@ -3,8 +3,8 @@ use borrow.Author.Needs.{needs}
 use Rattle.shapes.proofs.first.propose_plain.Statement.{statement}
 use Rattle.shapes.proofs.first.propose_plain.Tie as tie
 use Prim.{tt}
-use Rattle.dispatch.specs.Dispatch as dispatch
-use Rattle.dispatch.proofs.OpcodeLaws.{past}
+use Rattle.instruction.specs.Dispatch as dispatch
+use Rattle.instruction.proofs.OpcodeLaws.{past}
 
 dup-requires : tie.Need-dup-requires
 dup-requires c κs = search needs

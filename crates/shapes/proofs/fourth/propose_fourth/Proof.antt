@@ -4,7 +4,7 @@ use Rattle.shapes.proofs.fourth.propose_fourth.Statement.{statement}
 use Rattle.shapes.proofs.fourth.propose_fourth.Tie as tie
 use Prim.{tt}
 use Rattle.instruction.specs.Plain as plain
-use Rattle.dispatch.specs.Dispatch as dispatch
+use Rattle.instruction.specs.Dispatch as dispatch
 use mathlib.Core.Path.{sym}
 use denote.Ref.{now}
 use Rattle.shapes.proofs.PlainLaws.{rest-raises}

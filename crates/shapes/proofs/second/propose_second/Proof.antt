@@ -4,8 +4,8 @@ use Rattle.shapes.proofs.second.propose_second.Statement.{statement}
 use Rattle.shapes.proofs.second.propose_second.Tie as tie
 use Prim.{tt}
 use Rattle.instruction.specs.Plain as plain
-use Rattle.dispatch.specs.Dispatch as dispatch
-use Rattle.dispatch.proofs.OpcodeLaws.{past}
+use Rattle.instruction.specs.Dispatch as dispatch
+use Rattle.instruction.proofs.OpcodeLaws.{past}
 
 zero-not-equal-requires : tie.Need-zero-not-equal-requires
 zero-not-equal-requires c κs = search needs

@@ -4,8 +4,8 @@ use Rattle.shapes.proofs.third.propose_third.Statement.{statement}
 use Rattle.shapes.proofs.third.propose_third.Tie as tie
 use Prim.{tt}
 use Rattle.instruction.specs.Plain as plain
-use Rattle.dispatch.specs.Dispatch as dispatch
-use Rattle.dispatch.proofs.OpcodeLaws.{past}
+use Rattle.instruction.specs.Dispatch as dispatch
+use Rattle.instruction.proofs.OpcodeLaws.{past}
 
 cells-requires : tie.Need-cells-requires
 cells-requires c κs = search needs

@@ -6,8 +6,8 @@ use native.Mathlib.Decide.{decLe, decLt}
 use native.Mathlib.Omega.{arith}
 use borrow.Author.Tests.{ne-eqb}
 use lib.ListN.{List·getD-eq-default}
 use Rattle.instruction.specs.declared.Instruction.the-variants.{Illegal}
-use Rattle.dispatch.specs.Dispatch.{opcodes, decodeOf, taking, classOf, formOf, loopOf}
+use Rattle.instruction.specs.Dispatch.{opcodes, decodeOf, taking, classOf, formOf, loopOf}
 
 -- 56h, and 58h up but for FFh
 pub record Unused (n : ℕ) : Type 0 where

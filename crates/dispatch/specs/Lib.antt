@@ -1,2 +1,0 @@
--- What crate `dispatch` means.
-pub mod Dispatch
