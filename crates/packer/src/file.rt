@@ -13,9 +13,9 @@ use crate::pack::pack;
 use cell::Address;
 use cell::Judged;
 use cell::Refusal;
-use packing::file::cell_at;
-use packing::file::judged_length;
-use packing::file::read_operands;
+use listing::file::cell_at;
+use listing::file::judged_length;
+use listing::file::read_operands;
 
 // The byte order, the file's length and its count of items, with which the packing of a file begins.
 fn judge_header(order: u8, file: &[u8]) -> Judged

@@ -7,14 +7,14 @@ use cell::Address;
 use cell::CellCount;
 use cell::Judged;
 use cell::Refusal;
-use packing::check::ACCEPTED;
-use packing::check::BAD_ALIGNMENT;
-use packing::check::BAD_COUNT;
-use packing::check::BAD_KIND;
-use packing::check::BAD_OPERAND;
-use packing::check::BAD_TARGET;
-use packing::check::judged_arrays;
-use packing::check::judged_place;
+use listing::check::ACCEPTED;
+use listing::check::BAD_ALIGNMENT;
+use listing::check::BAD_COUNT;
+use listing::check::BAD_KIND;
+use listing::check::BAD_OPERAND;
+use listing::check::BAD_TARGET;
+use listing::check::judged_arrays;
+use listing::check::judged_place;
 
 // The refusal -k that a judgement k stands for.
 pub fn refusal_of(k: u32) -> Judged

@@ -12,7 +12,7 @@ use crate::judgement::judge_input;
 use crate::prepare::prepare;
 use cell::Address;
 use cell::Judged;
-use packing::write::write_image;
+use image::write::write_image;
 
 // A listing that the input list passed, with the working arrays lent.
 fn pack_checked(

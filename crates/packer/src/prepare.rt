@@ -6,7 +6,7 @@ ghost use Rattle.layout.specs.Listing.{listed, Checked};
 ghost use Rattle.layout.specs.Packing.{imageCells};
 ghost use Rattle.packer.specs.Prepared.{Places, Prepared};
 use cell::CellCount;
-use packing::entries::find_entries;
+use listing::entries::find_entries;
 use packing::settle::settle_marks;
 
 // Fills the working arrays. The answer is the number of cells of the image.

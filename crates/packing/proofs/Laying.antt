@@ -11,7 +11,7 @@ use Rattle.layout.specs.declared.Cursor.{Cursor}
 use Rattle.layout.specs.declared.Form.{Form}
 use Rattle.layout.specs.Layout.{fresh, begin, finish, Plan, cur, opens, mid, left, Laid}
 use Rattle.layout.proofs.Placing.{left-le, at-most, begin-most}
-use Rattle.packing.proofs.Flags.{stored-more}
+use Rattle.listing.proofs.Flags.{stored-more}
 
 free-of : (f : ℕ) (e : Bool) (c : Cursor) → c .free ≡ f → 0 < begin (fresh f e) c .free
 free-of zero e c q = omega arith

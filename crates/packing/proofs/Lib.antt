@@ -1,7 +1,4 @@
-mod Flags
-mod Turns
+-- Laws that belong to no one function.
 mod Laying
 mod Marking
 mod Settling
-mod Writing
-mod Reading

@@ -1,9 +1,9 @@
 // One layout of a listing.
-use crate::kinds::class_of;
 use crate::place::begun;
 use crate::place::finished;
 use crate::place::form_of;
 use layout::Cursor;
+use listing::kinds::class_of;
 ghost use mathlib.Core.Path.{_≡_};
 ghost use lib.ListN.{length};
 ghost use Rattle.layout.specs.Flags.{Flags, flagged};

@@ -1,11 +1,6 @@
-// The packing of listings: the leaves of the packer, over lent arrays.
-pub mod check;
-pub mod entries;
-pub mod file;
-pub mod kinds;
+// The layout of a listing and the rounds that settle its marks, over lent arrays.
 pub mod lay;
 pub mod mark;
 pub mod measure;
 pub mod place;
 pub mod settle;
-pub mod write;

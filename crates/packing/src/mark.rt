@@ -1,11 +1,11 @@
 // The marks that one layout adds.
-use crate::kinds::class_of;
 use crate::measure::distance_of;
 use crate::measure::fits_in;
 use crate::place::taken;
 use layout::Class;
 use layout::Form;
 use layout::ItemNumber;
+use listing::kinds::class_of;
 ghost use mathlib.Core.Bool.{true};
 ghost use mathlib.Core.Path.{_≡_};
 ghost use Prim.Native.Nat.{_≤_, _<_};

@@ -8,7 +8,7 @@ use borrow.Author.Needs.{needs}
 use mathlib.Core.Path.{_≡_, refl, sym, ap, _∙_}
 use Rattle.layout.specs.Layout.{cur}
 use Rattle.packing.proofs.Laying.{LayTurn, lay-room, lay-free, lay-left, lay-next, lay-turn, laid-none}
-use Rattle.packing.proofs.Flags.{flagged-bit}
+use Rattle.listing.proofs.Flags.{flagged-bit}
 use Rattle.layout.proofs.Listing.{some-item}
 use native.Mathlib.Omega.{arith}
 use Rattle.layout.specs.Flags.{flagged}

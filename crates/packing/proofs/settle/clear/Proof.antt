@@ -4,7 +4,7 @@ use mathlib.Core.Path.{_≡_, refl, _∙_}
 use Prim.Native.Nat.{ℕ, _-_, _≤_, _<_}
 use native.Mathlib.Omega.{arith}
 use lib.ListN.{length, getD, length-set}
-use Rattle.packing.proofs.Flags.{stored-more, all-zero}
+use Rattle.listing.proofs.Flags.{stored-more, all-zero}
 use Rattle.packing.proofs.settle.clear.Tie as tie
 use Rattle.packing.proofs.settle.clear.Statement.{statement}
 

@@ -1,0 +1,2 @@
+// The image written to the output.
+pub mod write;
