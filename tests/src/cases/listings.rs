@@ -177,6 +177,18 @@ pub fn large(random: &mut Random, index: u32) -> Call {
     call
 }
 
+/// Numbers of items at the bounds, and some whose size in bytes passes 2^32.
+const COUNTS: [u32; 8] = [
+    0,
+    1,
+    4096,
+    4097,
+    0x3333_3333,
+    0x3333_3334,
+    0xCCCC_CCCD,
+    0xFFFF_FFFF,
+];
+
 /// Cuts, extends or corrupts a listing's file.
 fn corrupt(random: &mut Random, file: &mut Vec<u8>) {
     match random.below(6) {
@@ -193,17 +205,7 @@ fn corrupt(random: &mut Random, file: &mut Vec<u8>) {
             file.extend(any_bytes(random, more));
         }
         3 => {
-            let numbers = [
-                0_u32,
-                1,
-                4096,
-                4097,
-                0x3333_3333,
-                0x3333_3334,
-                0xCCCC_CCCD,
-                0xFFFF_FFFF,
-            ];
-            let n = random.choose(&numbers);
+            let n = random.choose(&COUNTS);
             file[..4].copy_from_slice(&n.to_le_bytes());
         }
         4 => {

@@ -51,16 +51,43 @@ pub fn put_image(call: &mut Call, image: &[u8]) -> bool {
     }
 }
 
-/// A rule with its image in memory, as a call of `list_run`.
-pub fn rule(random: &mut Random) -> Call {
-    let mut call = Call::new(Entry::ListRun);
-    call.order = random.below(2) as u8;
+/// The number of items of a rule: mostly few.
+fn rule_size(random: &mut Random) -> usize {
     let items = match random.below(60) {
         0 | 1 => random.between(300, 900),
         2..=5 => random.between(60, 160),
         6..=20 => random.between(20, 60),
         _ => random.between(1, 20),
-    } as usize;
+    };
+    items as usize
+}
+
+/// Puts addresses of entries here and there into memory, and a handler, mostly an entry too.
+fn plant_addresses(
+    random: &mut Random,
+    call: &mut Call,
+    listing: &Listing,
+    layout: &Layout,
+    base: u32,
+) {
+    let length = call.memory.len() as u32;
+    for _ in 0..random.below(40) {
+        let address = entry_address(random, listing, layout, base);
+        put_cell(call, 4 * random.below(length / 4), address);
+    }
+    let handler = match random.below(6) {
+        0 => any_cell(random),
+        1 => pointer(random, length),
+        _ => entry_address(random, listing, layout, base),
+    };
+    put_cell(call, 0, handler);
+}
+
+/// A rule with its image in memory, as a call of `list_run`.
+pub fn rule(random: &mut Random) -> Call {
+    let mut call = Call::new(Entry::ListRun);
+    call.order = random.below(2) as u8;
+    let items = rule_size(random);
     let length = memory_length(random) + 8 * (items - items % 40);
     let room = unused_length(length as u32, items as u32);
     let base = 0x10 + 4 * random.below(room) * random.choose(&[0, 1, 1, 1, 1, 1]);
@@ -73,16 +100,7 @@ pub fn rule(random: &mut Random) -> Call {
         length
     };
     fill_memory(random, &mut call, length);
-    for _ in 0..random.below(40) {
-        let address = entry_address(random, &listing, &layout, base);
-        put_cell(&mut call, 4 * random.below(length as u32 / 4), address);
-    }
-    let handler = match random.below(6) {
-        0 => any_cell(random),
-        1 => pointer(random, length as u32),
-        _ => entry_address(random, &listing, &layout, base),
-    };
-    put_cell(&mut call, 0, handler);
+    plant_addresses(random, &mut call, &listing, &layout, base);
     let sp = stack_pointer(random, length as u32, &image);
     let rp = stack_pointer(random, length as u32, &image);
     if random.one_in(2) {
