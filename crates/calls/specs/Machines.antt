@@ -7,7 +7,7 @@ use Rattle.cell.specs.Refusals.{judgeMachine, refusalNumber}
 use Rattle.cell.specs.declared.Judged.{Judged}
 use Rattle.cell.specs.declared.Judged.the-variants as judged
 use Rattle.machine.specs.declared.Registers.{Registers}
-use Rattle.processor.specs.Answers.{startAnswer, cycleAnswer, runAnswer}
+use Rattle.processor.specs.Answers.{startNumber, startReason, startRegisters, startAnswer, cycleNumber, cycleReason, cycleRegisters, cycleAnswer, runNumber, runReason, runRegisters, runCount, runAnswer}
 use Rattle.processor.specs.declared.Started.{Started}
 use Rattle.processor.specs.declared.Started.the-variants as started
 use Rattle.processor.specs.declared.Cycled.{Cycled}
@@ -37,27 +37,35 @@ called m registers out n = record { memory = m; told = told registers out n }
 unfoldable pub judgeCall : ℕ → ℕ → ℕ → ℕ → ℕ → Judged
 judgeCall len order registers out needed = withRoom (withRoom (judgeMachine len order) registers 4) out needed
 
--- 0 and the values, 1 for a stop, or a refusal's number with nothing written
+-- what is told of an answer: its registers, its values and its number. A refusal tells its number alone, and leaves `registers` and `out` as they were
 module _ (registers out : List ℕ) where
   abbrev pub success : Registers → List ℕ → ℕ → Told
   success r xs n = told (written (registerList r) registers) (written xs out) n
 
+  abbrev pub startWrites : Started → Told
+  startWrites a = success (startRegisters a) (startReason a ∷ []) (startNumber a)
+
   abbrev pub startTold : Started → Told
-  startTold (started.Refused n) = told registers out (refusalNumber n)
-  startTold (started.Ready r) = success r (0 ∷ []) 0
-  startTold (started.Stopped r x) = success r (x ∷ []) 1
+  startTold (started.Refused n) = told registers out (startNumber (started.Refused n))
+  startTold (started.Ready r) = startWrites (started.Ready r)
+  startTold (started.Stopped r x) = startWrites (started.Stopped r x)
+
+  abbrev pub cycleWrites : Cycled → Told
+  cycleWrites a = success (cycleRegisters (registersOf registers) a) (cycleReason a ∷ []) (cycleNumber a)
 
   abbrev pub cycleTold : Cycled → Told
-  cycleTold (cycled.Refused n) = told registers out (refusalNumber n)
-  cycleTold (cycled.Went r) = success r (0 ∷ []) 0
-  cycleTold (cycled.Threw r f) = success r (0 ∷ []) 0
-  cycleTold (cycled.Stopped r x) = success r (x ∷ []) 1
+  cycleTold (cycled.Refused n) = told registers out (cycleNumber (cycled.Refused n))
+  cycleTold (cycled.Went r) = cycleWrites (cycled.Went r)
+  cycleTold (cycled.Threw r f) = cycleWrites (cycled.Threw r f)
+  cycleTold (cycled.Stopped r x) = cycleWrites (cycled.Stopped r x)
 
-  -- a spent run did as many cycles as its budget
+  abbrev pub runWrites : ℕ → Ran → Told
+  runWrites budget a = success (runRegisters (registersOf registers) a) (runReason a ∷ runCount budget a ∷ []) (runNumber a)
+
   abbrev pub runTold : ℕ → Ran → Told
-  runTold budget (ran.Refused n) = told registers out (refusalNumber n)
-  runTold budget (ran.Spent r) = success r (0 ∷ budget ∷ []) 0
-  runTold budget (ran.Stopped r x n) = success r (x ∷ n ∷ []) 1
+  runTold budget (ran.Refused n) = told registers out (runNumber (ran.Refused n))
+  runTold budget (ran.Spent r) = runWrites budget (ran.Spent r)
+  runTold budget (ran.Stopped r x n) = runWrites budget (ran.Stopped r x n)
 
 abbrev pub startIf : Judged → ℕ → List ℕ → ℕ → ℕ → List ℕ → List ℕ → Called
 startIf (judged.Refused n) order m ep handler registers out = called m registers out (refusalNumber n)

@@ -6,6 +6,7 @@ use calls::machines::judge_call;
 use calls::machines::tell_cycled;
 use calls::machines::tell_ran;
 use calls::machines::tell_started;
+use cell::Address;
 use cell::Judged;
 use cell::judgement::refusal_number;
 use processor::entry::cycle;
@@ -25,7 +26,10 @@ pub extern "C" fn beetle_start(
 {
     match judge_call(memory.len(), order, registers.len(), out.len(), 1) {
         Judged::Refused(n) => refusal_number(n),
-        Judged::Passed => tell_started(start(order, memory, ep, handler), registers, out),
+        Judged::Passed => {
+            let answer = start(order, memory, Address(ep), Address(handler));
+            tell_started(answer, registers, out)
+        },
     }
 }
 

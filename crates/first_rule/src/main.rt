@@ -1,4 +1,5 @@
 // Starts a machine on the first rule of document 01 (literals 2 and 3, +, HALT at 10h), runs it, and says why it stopped and after how many cycles.
+use cell::Address;
 use libc::STDOUT_FILENO;
 use processor::Ran;
 use processor::Started;
@@ -33,7 +34,7 @@ fn main() {
     memory[21] = 0x03;
     memory[24] = 0x1E;
     memory[25] = 0x55;
-    let Started::Ready(r) = start(0, &mut memory, 16, 0) else {
+    let Started::Ready(r) = start(0, &mut memory, Address(16), Address(0)) else {
         io::write_all(STDOUT_FILENO, b"not ready\n");
         return;
     };

@@ -1,10 +1,13 @@
--- What the three entry points answer.
+-- What the three entry points leave and answer.
 use mathlib.Core.Bool.{Bool, true, false}
 use mathlib.Core.List.{List}
 use Prim.Native.Nat.{ℕ, zero, suc}
 use lib.Dec.{eqb}
 use lib.ListN.{length}
-use Rattle.cell.specs.Refusals.{judgeMachine}
+use Rattle.cell.specs.Place.{faultCode}
+use Rattle.cell.specs.Refusals.{judgeMachine, refusalNumber}
+use Rattle.cell.specs.declared.Fault.{Fault}
+use Rattle.cell.specs.declared.Fault.the-variants.{Range, Alignment, Divisor, Illegal, Library}
 use Rattle.cell.specs.declared.Judged.{Judged}
 use Rattle.cell.specs.declared.Judged.the-variants as judged
 use Rattle.machine.specs.Throws.{Turned, turned}
@@ -23,54 +26,121 @@ use Rattle.processor.specs.declared.Ran.the-variants as ran
 abbrev pub machineOf : ℕ → Machine
 machineOf order = record { order = order }
 
--- memory, and the answer of a call
+-- the address that a fault names: -9 and -23 alone have one
+abbrev pub faultAddress : Fault → ℕ
+faultAddress (Range a) = a .0
+faultAddress (Alignment a) = a .0
+faultAddress Divisor = 0
+faultAddress Illegal = 0
+faultAddress Library = 0
+
+-- start: the number of each answer (0 ready, 1 stopped, or the refusal's), the reason of a stop, and the registers, which are zeros on a refusal.
+-- Document 01, Turned back for the state, and Code places and their forms, its last paragraph
+abbrev pub startNumber : Started → ℕ
+startNumber (started.Refused n) = refusalNumber n
+startNumber (started.Ready r) = 0
+startNumber (started.Stopped r x) = 1
+
+abbrev pub startReason : Started → ℕ
+startReason (started.Refused n) = 0
+startReason (started.Ready r) = 0
+startReason (started.Stopped r x) = x
+
+abbrev pub startRegisters : Started → Registers
+startRegisters (started.Refused n) = record { ep = 0; a = 0; sp = 0; rp = 0 }
+startRegisters (started.Ready r) = r
+startRegisters (started.Stopped r x) = r
+
+-- memory after the call, its answer, and the answer's number and values
 pub record StartAnswer : Type 0 where
   pub memory : List ℕ
   pub answer : Started
-
-pub record CycleAnswer : Type 0 where
-  pub memory : List ℕ
-  pub answer : Cycled
-
-pub record RunAnswer : Type 0 where
-  pub memory : List ℕ
-  pub answer : Ran
+  pub number : ℕ
+  pub reason : ℕ
+  pub registers : Registers
 
 abbrev pub startedTo : List ℕ → Started → StartAnswer
-startedTo m a = record { memory = m; answer = a }
+startedTo m a =
+    record { memory = m; answer = a; number = startNumber a; reason = startReason a; registers = startRegisters a }
 
-abbrev pub cycledTo : List ℕ → Cycled → CycleAnswer
-cycledTo m a = record { memory = m; answer = a }
-
-abbrev pub ranTo : List ℕ → Ran → RunAnswer
-ranTo m a = record { memory = m; answer = a }
-
--- start: a NEXT that threw is ready in its handler; "start may so stop with -259"
+-- a NEXT that threw is ready in its handler; one whose throw finds no handler has stopped
 abbrev pub startedAs : Registers → Ended → Started
 startedAs r Went = started.Ready r
 startedAs r (Threw f) = started.Ready r
 startedAs r (Stopped x) = started.Stopped r x
 
 abbrev pub startIf : Judged → ℕ → List ℕ → ℕ → ℕ → StartAnswer
-startIf (judged.Refused n) order m ep handler = record { memory = m; answer = started.Refused n }
+startIf (judged.Refused n) order m ep handler = startedTo m (started.Refused n)
 startIf judged.Passed order m ep handler =
     let t = startOf (machineOf order) m ep handler in
-    record { memory = t .memory; answer = startedAs (t .turn .registers) (t .turn .ended) }
+    startedTo (t .memory) (startedAs (t .turn .registers) (t .turn .ended))
 
 unfoldable pub startAnswer : ℕ → List ℕ → ℕ → ℕ → StartAnswer
 startAnswer order m ep handler = startIf (judgeMachine (length m) order) order m ep handler
 
--- cycle
+-- cycle: the number (0 went on or threw, 1 stopped, or the refusal's), the reason of a stop, the registers (those given, r, on a refusal), and the
+-- code and the address of the fault that was thrown
+abbrev pub cycleNumber : Cycled → ℕ
+cycleNumber (cycled.Refused n) = refusalNumber n
+cycleNumber (cycled.Went r) = 0
+cycleNumber (cycled.Threw r f) = 0
+cycleNumber (cycled.Stopped r x) = 1
+
+abbrev pub cycleReason : Cycled → ℕ
+cycleReason (cycled.Refused n) = 0
+cycleReason (cycled.Went r) = 0
+cycleReason (cycled.Threw r f) = 0
+cycleReason (cycled.Stopped r x) = x
+
+abbrev pub cycleRegisters : Registers → Cycled → Registers
+cycleRegisters given (cycled.Refused n) = given
+cycleRegisters given (cycled.Went r) = r
+cycleRegisters given (cycled.Threw r f) = r
+cycleRegisters given (cycled.Stopped r x) = r
+
+abbrev pub cycleCode : Cycled → ℕ
+cycleCode (cycled.Refused n) = 0
+cycleCode (cycled.Went r) = 0
+cycleCode (cycled.Threw r f) = faultCode f
+cycleCode (cycled.Stopped r x) = 0
+
+abbrev pub cycleAddress : Cycled → ℕ
+cycleAddress (cycled.Refused n) = 0
+cycleAddress (cycled.Went r) = 0
+cycleAddress (cycled.Threw r f) = faultAddress f
+cycleAddress (cycled.Stopped r x) = 0
+
+pub record CycleAnswer : Type 0 where
+  pub memory : List ℕ
+  pub answer : Cycled
+  pub number : ℕ
+  pub reason : ℕ
+  pub registers : Registers
+  pub code : ℕ
+  pub address : ℕ
+
+abbrev pub cycledTo : Registers → List ℕ → Cycled → CycleAnswer
+cycledTo given m a =
+    record {
+      memory = m;
+      answer = a;
+      number = cycleNumber a;
+      reason = cycleReason a;
+      registers = cycleRegisters given a;
+      code = cycleCode a;
+      address = cycleAddress a;
+    }
+
 abbrev pub cycledAs : Registers → Ended → Cycled
 cycledAs r Went = cycled.Went r
 cycledAs r (Threw f) = cycled.Threw r f
 cycledAs r (Stopped x) = cycled.Stopped r x
 
 abbrev pub cycleIf : Judged → ℕ → List ℕ → Registers → CycleAnswer
-cycleIf (judged.Refused n) order m r = record { memory = m; answer = cycled.Refused n }
+cycleIf (judged.Refused n) order m r = cycledTo r m (cycled.Refused n)
 cycleIf judged.Passed order m r =
     let t = cycleOf (machineOf order) m r in
-    record { memory = t .memory; answer = cycledAs (t .turn .registers) (t .turn .ended) }
+    cycledTo r (t .memory) (cycledAs (t .turn .registers) (t .turn .ended))
 
 unfoldable pub cycleAnswer : ℕ → List ℕ → Registers → CycleAnswer
 cycleAnswer order m r = cycleIf (judgeMachine (length m) order) order m r
@@ -96,23 +166,66 @@ unfoldable pub doneOf : Machine → ℕ → Turned → ℕ
 doneOf machine zero s = 0
 doneOf machine (suc b) s = counted (advance machine s .turn .ended) (doneOf machine b (advance machine s))
 
--- "It answers stopped, with reason and cycles done, or spent, exactly if that many cycles passed without a stop"
+-- run: the number (0 spent, 1 stopped, or the refusal's), the reason of a stop, the registers (those given on a refusal), and the cycles: none on a
+-- refusal, the budget where it is spent, those done where it stopped. Document 01, The processor, on run: the budget is spent exactly if so many
+-- cycles passed without a stop
+abbrev pub runNumber : Ran → ℕ
+runNumber (ran.Refused n) = refusalNumber n
+runNumber (ran.Spent r) = 0
+runNumber (ran.Stopped r x n) = 1
+
+abbrev pub runReason : Ran → ℕ
+runReason (ran.Refused n) = 0
+runReason (ran.Spent r) = 0
+runReason (ran.Stopped r x n) = x
+
+abbrev pub runRegisters : Registers → Ran → Registers
+runRegisters given (ran.Refused n) = given
+runRegisters given (ran.Spent r) = r
+runRegisters given (ran.Stopped r x n) = r
+
+abbrev pub runCount : ℕ → Ran → ℕ
+runCount budget (ran.Refused n) = 0
+runCount budget (ran.Spent r) = budget
+runCount budget (ran.Stopped r x n) = n
+
+pub record RunAnswer : Type 0 where
+  pub memory : List ℕ
+  pub answer : Ran
+  pub number : ℕ
+  pub reason : ℕ
+  pub registers : Registers
+  pub count : ℕ
+
+-- of a run that was given registers and a budget
+abbrev pub ranTo : Registers → ℕ → List ℕ → Ran → RunAnswer
+ranTo given budget m a =
+    record {
+      memory = m;
+      answer = a;
+      number = runNumber a;
+      reason = runReason a;
+      registers = runRegisters given a;
+      count = runCount budget a;
+    }
+
 abbrev pub ranAs : Registers → ℕ → Ended → Ran
 ranAs r n Went = ran.Spent r
 ranAs r n (Threw f) = ran.Spent r
 ranAs r n (Stopped x) = ran.Stopped r x n
 
-abbrev pub runFor : ℕ → Turned → RunAnswer
-runFor n t = record { memory = t .memory; answer = ranAs (t .turn .registers) n (t .turn .ended) }
+-- n cycles were done, and left t
+abbrev pub runFor : Registers → ℕ → ℕ → Turned → RunAnswer
+runFor given budget n t = ranTo given budget (t .memory) (ranAs (t .turn .registers) n (t .turn .ended))
 
 abbrev pub begun : List ℕ → Registers → Turned
 begun m r = turned m r Went
 
 abbrev pub runIf : Judged → ℕ → List ℕ → Registers → ℕ → RunAnswer
-runIf (judged.Refused n) order m r budget = record { memory = m; answer = ran.Refused n }
+runIf (judged.Refused n) order m r budget = ranTo r budget m (ran.Refused n)
 runIf judged.Passed order m r budget =
     let n = doneOf (machineOf order) budget (begun m r) in
-    runFor n (cyclesOf (machineOf order) n (begun m r))
+    runFor r budget n (cyclesOf (machineOf order) n (begun m r))
 
 unfoldable pub runAnswer : ℕ → List ℕ → Registers → ℕ → RunAnswer
 runAnswer order m r budget = runIf (judgeMachine (length m) order) order m r budget

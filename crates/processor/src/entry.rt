@@ -11,6 +11,7 @@ use crate::Ran;
 use crate::Started;
 use crate::turning::Progress;
 use crate::turning::turns;
+use cell::Address;
 use cell::Judged;
 use cell::judgement::judge_machine;
 use cell::memory::store;
@@ -21,14 +22,14 @@ use machine::Turn;
 use machine::ending::next;
 
 // The four cells at the start of memory, the registers, then NEXT.
-fn begin(machine: Machine, memory: &mut [u8], ep: u32, handler: u32) -> Turn
+fn begin(machine: Machine, memory: &mut [u8], ep: Address, handler: Address) -> Turn
     requires { ⌜ places.Whole (now memory) ⌝ }
     requires { ⌜ 1024 ≤ length (now memory) ⌝ }
     requires { ⌜ length (now memory) ≤ 16777216 ⌝ }
-    ensures { λ t. ⌜ throws.turnedTo (now (memory .exit)) t ≡ cycles.startOf machine (now (memory .entry)) ep handler ⌝ }
+    ensures { λ t. ⌜ throws.turnedTo (now (memory .exit)) t ≡ cycles.startOf machine (now (memory .entry)) (ep .0) (handler .0) ⌝ }
 {
     let length = memory.len() as u32;
-    store(machine.order, memory, 0, handler);
+    store(machine.order, memory, 0, handler.0);
     store(machine.order, memory, 4, length);
     store(machine.order, memory, 8, 0xFFFFFFFF);
     store(machine.order, memory, 12, 0xFFFFFFFF);
@@ -36,7 +37,7 @@ fn begin(machine: Machine, memory: &mut [u8], ep: u32, handler: u32) -> Turn
         machine,
         memory,
         Registers {
-            ep: ep,
+            ep: ep.0,
             a: 0,
             sp: length - 0x100,
             rp: length,
@@ -56,8 +57,8 @@ fn started_as(t: Turn) -> Started
     }
 }
 
-pub fn start(order: u8, memory: &mut [u8], ep: u32, handler: u32) -> Started
-    ensures { λ s. ⌜ answers.startedTo (now (memory .exit)) s ≡ answers.startAnswer order (now (memory .entry)) ep handler ⌝ }
+pub fn start(order: u8, memory: &mut [u8], ep: Address, handler: Address) -> Started
+    ensures { λ s. ⌜ answers.startedTo (now (memory .exit)) s ≡ answers.startAnswer order (now (memory .entry)) (ep .0) (handler .0) ⌝ }
 {
     match judge_machine(memory.len(), order) {
         Judged::Refused(n) => Started::Refused(n),
@@ -78,7 +79,7 @@ fn cycled_as(t: Turn) -> Cycled
 }
 
 pub fn cycle(order: u8, memory: &mut [u8], r: Registers) -> Cycled
-    ensures { λ c. ⌜ answers.cycledTo (now (memory .exit)) c ≡ answers.cycleAnswer order (now (memory .entry)) r ⌝ }
+    ensures { λ c. ⌜ answers.cycledTo r (now (memory .exit)) c ≡ answers.cycleAnswer order (now (memory .entry)) r ⌝ }
 {
     match judge_machine(memory.len(), order) {
         Judged::Refused(n) => Cycled::Refused(n),
@@ -104,7 +105,7 @@ fn ran_as(t: Progress) -> Ran
 }
 
 pub fn run(order: u8, memory: &mut [u8], r: Registers, budget: u32) -> Ran
-    ensures { λ a. ⌜ answers.ranTo (now (memory .exit)) a ≡ answers.runAnswer order (now (memory .entry)) r budget ⌝ }
+    ensures { λ a. ⌜ answers.ranTo r budget (now (memory .exit)) a ≡ answers.runAnswer order (now (memory .entry)) r budget ⌝ }
 {
     match judge_machine(memory.len(), order) {
         Judged::Refused(n) => Ran::Refused(n),

@@ -5,6 +5,7 @@ use Rattle.cell.specs.Memory.{cellAt, storeCell}
 use Rattle.cell.specs.Number.{sum, difference, negated}
 use Rattle.cell.specs.Division.{symmetricOf, flooredOf}
 use Rattle.cell.specs.Shift.{asr8}
+use Rattle.cell.specs.Refusals.{judgeMachine}
 use Rattle.machine.specs.Places.{placeOf, fetchOf}
 use Rattle.machine.specs.Commits.{placesOf, storedOf, commitOf}
 use Rattle.machine.specs.Throws.{handlerOf, throwOf, nextOf, finishOf}
@@ -12,7 +13,7 @@ use Rattle.instruction.specs.Plain.{plainOf}
 use Rattle.instruction.specs.Taking.{takingOf}
 use Rattle.instruction.specs.Dispatch.{decodeOf, executeOf}
 use Rattle.processor.specs.Cycles.{cycleOf, advance, cyclesOf, startOf}
-use Rattle.processor.specs.Answers.{doneOf}
+use Rattle.processor.specs.Answers.{startAnswer, cycleAnswer, doneOf, runAnswer}
 use Rattle.layout.specs.Kinds.{classOf}
 use Rattle.layout.specs.Bytes.{fits, pack}
 use Rattle.layout.specs.Listing.{any, entry, judgedFrom, judgedListing, judgedArrays}
@@ -28,5 +29,5 @@ use Rattle.worked.specs.Rows.{tableHolds}
 use Rattle.worked.specs.Table.{table}
 
 pub worked-on-paper : tableHolds table ≡ true
-unfolding tableHolds cellAt storeCell sum difference negated symmetricOf flooredOf asr8 placeOf fetchOf placesOf storedOf commitOf handlerOf throwOf nextOf finishOf plainOf takingOf decodeOf executeOf cycleOf advance cyclesOf startOf doneOf classOf fits pack any entry judgedFrom judgedListing judgedArrays cur word cells rounds settle settled marks image countOf judgeLoad copied loadOf
+unfolding tableHolds cellAt storeCell sum difference negated symmetricOf flooredOf asr8 placeOf fetchOf placesOf storedOf commitOf handlerOf throwOf nextOf finishOf plainOf takingOf decodeOf executeOf cycleOf advance cyclesOf startOf judgeMachine startAnswer cycleAnswer doneOf runAnswer classOf fits pack any entry judgedFrom judgedListing judgedArrays cur word cells rounds settle settled marks image countOf judgeLoad copied loadOf
 worked-on-paper = refl

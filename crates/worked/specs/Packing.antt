@@ -2,13 +2,11 @@
 use mathlib.Core.List.{List, [], _∷_, map}
 use Prim.Native.Nat.{ℕ, _+_}
 use Rattle.cell.specs.Memory.{storeCell}
-use Rattle.machine.specs.Throws.{Turned}
-use Rattle.processor.specs.Cycles.{cyclesOf, startOf}
-use Rattle.processor.specs.Answers.{machineOf, doneOf}
+use Rattle.processor.specs.Answers.{StartAnswer, startAnswer, RunAnswer, runAnswer}
 use Rattle.layout.specs.Refusals.{accepted}
 use Rattle.layout.specs.Worked as packed
 use Rattle.worked.specs.Rows.{Row, numbers, lists}
-use Rattle.worked.specs.Processor.{reasonOf, blank}
+use Rattle.worked.specs.Processor.{blank}
 
 -- accepted, and packed to its cells
 abbrev pub packingRows : List Row
@@ -19,14 +17,24 @@ abbrev pub laid : ℕ → List ℕ → ℕ → List ℕ → List ℕ
 laid order m a [] = m
 laid order m a (x ∷ xs) = laid order (storeCell order m a x) (a + 4) xs
 
--- the first row's cells at 10h, started there
-abbrev pub ready : ℕ → Turned
-ready order = startOf (machineOf order) (laid order blank 0x10 (0x00000253 ∷ 0x00000353 ∷ 0x0000551E ∷ [])) 0x10 0
+-- the image of a table's first row
+abbrev pub firstImage : List packed.Row → List ℕ
+firstImage [] = []
+firstImage (r ∷ rs) = packed.rowImage r
 
--- "Run: reason 5, four cycles"
+-- the first row's image at 10h, started there
+abbrev pub ready : ℕ → StartAnswer
+ready order = startAnswer order (laid order blank 0x10 (firstImage packed.worked)) 0x10 0
+
+-- and run: reason 5, four cycles
+abbrev pub ranFirst : ℕ → RunAnswer
+ranFirst order = runAnswer order (ready order .memory) (ready order .registers) 100
+
 abbrev pub runRows : ℕ → List Row
 runRows order =
-    (numbers (reasonOf (cyclesOf (machineOf order) 4 (ready order) .turn .ended)) 5
-    ∷ numbers (doneOf (machineOf order) 100 (ready order)) 4
+    (numbers (ready order .number) 0
+    ∷ numbers (ranFirst order .number) 1
+    ∷ numbers (ranFirst order .reason) 5
+    ∷ numbers (ranFirst order .count) 4
     ∷ [])
     ∷ []
