@@ -49,8 +49,20 @@ pub fn fetch_cell(order: u8, memory: &[u8], address: Address) -> Fetched
     ensures { λ r. ⌜ r ≡ place.fetchCell order (now (memory .entry)) (address .0) ⌝ }
 {
     match check_cell(memory.len(), address) {
-        Checked::Good => Fetched::Cell(load(order, memory, address.0 as usize)),
+        Checked::Good => Fetched::Cell(load(order, memory, address)),
         Checked::Bad(f) => Fetched::Failed(f),
+    }
+}
+
+// The fault of a fetch that failed.
+pub fn fault_in(got: Fetched) -> Fault
+    requires { ⌜ place.Failing got ⌝ }
+    ensures { λ f. ⌜ got ≡ Fetched.Failed f ⌝ }
+{
+    match got {
+        // never reached: it is no failure
+        Fetched::Cell(_) => Fault::Illegal,
+        Fetched::Failed(f) => f,
     }
 }
 
