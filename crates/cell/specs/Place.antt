@@ -40,6 +40,10 @@ abbrev pub read : Checked → ℕ → Fetched
 read Good x = Cell x
 read (Bad f) x = Failed f
 
+-- a fetch that gave a fault
+abbrev pub Failing : Fetched → Type 0
+Failing got = (f : Fault) × (got ≡ Failed f)
+
 -- the cell at a, or the fault of its place
 unfoldable pub fetchCell : ℕ → List ℕ → ℕ → Fetched
 fetchCell order m a = read (checkCell (length m) a) (cellAt order m a)

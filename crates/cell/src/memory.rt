@@ -1,8 +1,10 @@
-// Cells in lent memory. A cell is loaded and stored least byte first, and its value is turned where the order is 1.
+// Cells in bytes. A cell is loaded and stored least byte first, and its value is turned where the order is 1. In memory a cell has an address;
+// in bytes that are no memory, as those of a file, it has a position.
 ghost use mathlib.Core.Path.{_≡_};
 ghost use Prim.Native.Nat.{_+_, _≤_};
 ghost use lib.ListN.{length, set};
 ghost use Rattle.cell.specs.Memory as mem;
+use crate::Address;
 
 fn join(a: u8, b: u8, c: u8, d: u8) -> u32
     ensures { λ r. ⌜ r ≡ mem.joined 0 a b c d ⌝ }
@@ -21,35 +23,51 @@ fn turn(order: u8, x: u32) -> u32
     }
 }
 
-fn load_least(memory: &[u8], at: usize) -> u32
-    requires { ⌜ at + 4 ≤ length (now memory) ⌝ }
-    ensures { λ r. ⌜ r ≡ mem.cellAt 0 (now (memory .entry)) at ⌝ }
+fn load_least(bytes: &[u8], at: usize) -> u32
+    requires { ⌜ at + 4 ≤ length (now bytes) ⌝ }
+    ensures { λ r. ⌜ r ≡ mem.cellAt 0 (now (bytes .entry)) at ⌝ }
 {
-    join(memory[at], memory[at + 1], memory[at + 2], memory[at + 3])
+    join(bytes[at], bytes[at + 1], bytes[at + 2], bytes[at + 3])
 }
 
-// The cell at a place inside memory.
-pub fn load(order: u8, memory: &[u8], at: usize) -> u32
-    requires { ⌜ at + 4 ≤ length (now memory) ⌝ }
-    ensures { λ r. ⌜ r ≡ mem.cellAt order (now (memory .entry)) at ⌝ }
+// The cell at a position.
+pub fn load_at(order: u8, bytes: &[u8], at: usize) -> u32
+    requires { ⌜ at + 4 ≤ length (now bytes) ⌝ }
+    ensures { λ r. ⌜ r ≡ mem.cellAt order (now (bytes .entry)) at ⌝ }
 {
-    turn(order, load_least(memory, at))
+    turn(order, load_least(bytes, at))
 }
 
-fn store_least(memory: &mut [u8], at: usize, x: u32)
-    requires { ⌜ at + 4 ≤ length (now memory) ⌝ }
-    ensures { λ r. ⌜ now (memory .exit) ≡ mem.storeCell 0 (now (memory .entry)) at x ⌝ }
+// The cell at an address inside memory.
+pub fn load(order: u8, memory: &[u8], at: Address) -> u32
+    requires { ⌜ at .0 + 4 ≤ length (now memory) ⌝ }
+    ensures { λ r. ⌜ r ≡ mem.cellAt order (now (memory .entry)) (at .0) ⌝ }
 {
-    memory[at] = (x % 256) as u8;
-    memory[at + 1] = (x / 256 % 256) as u8;
-    memory[at + 2] = (x / 65536 % 256) as u8;
-    memory[at + 3] = (x / 16777216) as u8;
+    load_at(order, memory, at.0 as usize)
 }
 
-// Memory with x at a place inside it.
-pub fn store(order: u8, memory: &mut [u8], at: usize, x: u32)
-    requires { ⌜ at + 4 ≤ length (now memory) ⌝ }
-    ensures { λ r. ⌜ now (memory .exit) ≡ mem.storeCell order (now (memory .entry)) at x ⌝ }
+fn store_least(bytes: &mut [u8], at: usize, x: u32)
+    requires { ⌜ at + 4 ≤ length (now bytes) ⌝ }
+    ensures { λ r. ⌜ now (bytes .exit) ≡ mem.storeCell 0 (now (bytes .entry)) at x ⌝ }
 {
-    store_least(memory, at, turn(order, x))
+    bytes[at] = (x % 256) as u8;
+    bytes[at + 1] = (x / 256 % 256) as u8;
+    bytes[at + 2] = (x / 65536 % 256) as u8;
+    bytes[at + 3] = (x / 16777216) as u8;
+}
+
+// The bytes with x at a position.
+pub fn store_at(order: u8, bytes: &mut [u8], at: usize, x: u32)
+    requires { ⌜ at + 4 ≤ length (now bytes) ⌝ }
+    ensures { λ r. ⌜ now (bytes .exit) ≡ mem.storeCell order (now (bytes .entry)) at x ⌝ }
+{
+    store_least(bytes, at, turn(order, x))
+}
+
+// Memory with x at an address inside it.
+pub fn store(order: u8, memory: &mut [u8], at: Address, x: u32)
+    requires { ⌜ at .0 + 4 ≤ length (now memory) ⌝ }
+    ensures { λ r. ⌜ now (memory .exit) ≡ mem.storeCell order (now (memory .entry)) (at .0) x ⌝ }
+{
+    store_at(order, memory, at.0 as usize, x)
 }

@@ -13,18 +13,15 @@ check-cell-requires c κs = search needs
 enum-told : tie.Need-enum-told
 enum-told c = search needs
 
-cast-load : tie.Need-cast-load
-cast-load c = search needs
-
 load-requires : tie.Need-load-requires
-load-requires c κs = room _ _ (c .before .before .before .before .before .pre) (sym (c .before .before .before .check-cell .ensures) ∙ c .before .enum-told .given .1)
+load-requires c κs = room _ _ (c .before .before .before .before .pre) (sym (c .before .before .check-cell .ensures) ∙ c .enum-told .given .1)
 
 enum-known-f : tie.Need-enum-known-f
 enum-known-f c = search needs
 
 returns : tie.Need-returns
 unfolding place.fetchCell
-returns c = rw (sym (c .before .before .before .before .check-cell .ensures) ∙ c .before .before .enum-told .given .1) (ap Cell (c .load .ensures))
+returns c = rw (sym (c .before .before .before .check-cell .ensures) ∙ c .before .enum-told .given .1) (ap Cell (c .load .ensures))
 
 returns-2 : tie.Need-returns-2
 unfolding place.fetchCell
@@ -33,4 +30,4 @@ returns-2 c = rw (sym (c .before .before .before .check-cell .ensures) ∙ c .be
 pub fetch-cell-spec : {M : Type 1} → statement M
 fetch-cell-spec =
     tie.close
-    (tie.spec check-cell-requires enum-told cast-load load-requires enum-known-f returns returns-2)
+    (tie.spec check-cell-requires enum-told load-requires enum-known-f returns returns-2)

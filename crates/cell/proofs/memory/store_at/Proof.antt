@@ -1,6 +1,6 @@
 use borrow.Author.Needs.{needs}
-use Rattle.cell.proofs.memory.store.Statement.{statement}
-use Rattle.cell.proofs.memory.store.Tie as tie
+use Rattle.cell.proofs.memory.store_at.Statement.{statement}
+use Rattle.cell.proofs.memory.store_at.Tie as tie
 use Rattle.cell.proofs.BytesLaws.{turn-stored}
 use mathlib.Core.Path.{_∙_}
 
@@ -16,5 +16,5 @@ same-length c = search needs
 returns : tie.Need-returns
 returns c = c .before .before .store-least .ensures ∙ (rw (c .before .before .before .turn .ensures) (turn-stored _ _ _ _ (search needs)))
 
-pub store-spec : {M : Type 1} → statement M
-store-spec = tie.close (tie.spec turn-requires store-least-requires same-length returns)
+pub store-at-spec : {M : Type 1} → statement M
+store-at-spec = tie.close (tie.spec turn-requires store-least-requires same-length returns)

@@ -1,6 +1,6 @@
 use borrow.Author.Needs.{needs}
-use Rattle.cell.proofs.memory.load.Statement.{statement}
-use Rattle.cell.proofs.memory.load.Tie as tie
+use Rattle.cell.proofs.memory.load_at.Statement.{statement}
+use Rattle.cell.proofs.memory.load_at.Tie as tie
 use Rattle.cell.proofs.BytesLaws.{turn-loaded}
 use mathlib.Core.Path.{_∙_}
 
@@ -13,5 +13,5 @@ turn-requires c κs = search needs
 returns : tie.Need-returns
 returns c = c .turn .ensures ∙ turn-loaded _ _ _ _ (λ i. c .before .before .shared-slice-known .given i .fits) (c .before .load-least .ensures)
 
-pub load-spec : {M : Type 1} → statement M
-load-spec = tie.close (tie.spec load-least-requires turn-requires returns)
+pub load-at-spec : {M : Type 1} → statement M
+load-at-spec = tie.close (tie.spec load-least-requires turn-requires returns)
