@@ -10,7 +10,7 @@ use cell::CellCount;
 use cell::Judged;
 use cell::Refusal;
 use cell::judgement::judge_machine;
-use cell::memory::load;
+use cell::memory::load_at;
 
 // Whether the first seven bytes are "BEETLE", 00h.
 fn is_titled(file: &[u8]) -> bool
@@ -43,7 +43,7 @@ pub fn count_of(file: &[u8]) -> CellCount
     requires { ⌜ 12 ≤ length (now file) ⌝ }
     ensures { λ r. ⌜ r ≡ cellCount (format.countOf (now (file .entry))) ⌝ }
 {
-    CellCount(load(file[7], file, 8))
+    CellCount(load_at(file[7], file, 8))
 }
 
 // The header, and the file's length against its count.

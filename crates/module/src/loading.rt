@@ -26,14 +26,7 @@ pub fn load_object(order: u8, memory: &mut [u8], file: &[u8], address: Address) 
         Judged::Refused(r) => Loaded::Refused(r),
         Judged::Passed => {
             let cells = count_of(file);
-            copy_cells(
-                file[7],
-                order,
-                code_of(file),
-                memory,
-                address.0 as usize,
-                cells.0 as usize,
-            );
+            copy_cells(file[7], order, code_of(file), memory, address, cells);
             Loaded::Cells(cells)
         }
     }

@@ -11,7 +11,7 @@ use crate::judgement::judge_save;
 use cell::Address;
 use cell::CellCount;
 use cell::Judged;
-use cell::memory::store;
+use cell::memory::store_at;
 
 // The first twelve bytes of a module.
 fn write_header(order: u8, cells: CellCount, output: &mut [u8])
@@ -26,7 +26,7 @@ fn write_header(order: u8, cells: CellCount, output: &mut [u8])
     output[5] = b'E';
     output[6] = 0;
     output[7] = order;
-    store(order, output, 8, cells.0)
+    store_at(order, output, 8, cells.0)
 }
 
 pub fn save_object(
@@ -43,7 +43,7 @@ pub fn save_object(
         Judged::Passed => {
             write_header(order, cells, output);
             let at = address.0 as usize;
-            copy_cells(order, order, &memory[at..], output, 12, cells.0 as usize);
+            copy_cells(order, order, &memory[at..], output, Address(12), cells);
             Saved::Bytes(12 + 4 * cells.0)
         }
     }

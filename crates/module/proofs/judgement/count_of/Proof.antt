@@ -6,20 +6,17 @@ use Rattle.cell.specs.Memory.{cellCount}
 use Rattle.module.specs.Format as format
 use Rattle.module.proofs.judgement.count_of.Reads as reads
 use Rattle.module.proofs.judgement.count_of.Lts as lts
-use Rattle.cell.proofs.memory.load.Reads as load-reads
+use Rattle.cell.proofs.memory.load_at.Reads as load-at-reads
 
--- src/judgement.rt:46:20
-shared-slice-read-load : tie.Need-shared-slice-read-load
-shared-slice-read-load c = search needs
+shared-slice-read-load-at : tie.Need-shared-slice-read-load-at
+shared-slice-read-load-at c = search needs
 
--- src/judgement.rt:46:15
-load-requires : tie.Need-load-requires
-load-requires c κs = search needs
+load-at-requires : tie.Need-load-at-requires
+load-at-requires c κs = search needs
 
--- src/judgement.rt:42:1
 returns : tie.Need-returns
 unfolding format.countOf
-returns c = ap cellCount (c .load .ensures)
+returns c = ap cellCount (c .load-at .ensures)
 
 pub count-of-spec : {M : Type 1} → statement M
-count-of-spec = tie.close (tie.spec shared-slice-read-load load-requires returns)
+count-of-spec = tie.close (tie.spec shared-slice-read-load-at load-at-requires returns)

@@ -11,56 +11,44 @@ use Rattle.module.proofs.judgement.judge_file.Lts as lts
 use Rattle.module.proofs.judgement.count_of.Reads as count-of-reads
 use Rattle.module.proofs.judgement.is_titled.Reads as is-titled-reads
 
--- src/judgement.rt:54:9
 returns : tie.Need-returns
 unfolding grounds.judgeFile
 returns c = simp (lt-ltb _ _ (c .if1 .taken))
 
--- src/judgement.rt:56:9
 is-titled-requires : tie.Need-is-titled-requires
 is-titled-requires c κs = search needs
 
--- src/judgement.rt:57:9
 returns-2 : tie.Need-returns-2
 unfolding grounds.judgeFile
 returns-2 c = simp (le-ltb _ _ (c .before .before .if1 .left), sym (c .before .is-titled .ensures) ∙ not-true _ (c .if2 .taken))
 
--- src/judgement.rt:59:12
 shared-slice-read-if3 : tie.Need-shared-slice-read-if3
 shared-slice-read-if3 c = search needs
 
--- src/judgement.rt:60:9
 returns-3 : tie.Need-returns-3
 unfolding grounds.judgeFile
 returns-3 c = simp (le-ltb _ _ (c .before .before .before .before .if1 .left), sym (c .before .before .before .is-titled .ensures) ∙ not-false _ (c .before .before .if2 .left), lt-ltb _ _ (c .if3 .taken))
 
--- src/judgement.rt:63:9
 returns-4 : tie.Need-returns-4
 unfolding grounds.judgeFile
 returns-4 c = simp (le-ltb _ _ (c .before .before .before .before .before .if1 .left), sym (c .before .before .before .before .is-titled .ensures) ∙ not-false _ (c .before .before .before .if2 .left), le-ltb _ _ (c .before .if3 .left), lt-ltb _ _ (c .if4 .taken))
 
--- src/judgement.rt:65:9
 count-of-requires : tie.Need-count-of-requires
 count-of-requires c κs = search needs
 
--- src/judgement.rt:66:32
 cast-said : tie.Need-cast-said
 cast-said c = search needs
 
--- src/judgement.rt:66:27
 mul-said : tie.Need-mul-said
 mul-said c = search needs
 
--- src/judgement.rt:66:22
 add-said : tie.Need-add-said
 add-said c = search needs
 
--- src/judgement.rt:67:9
 returns-5 : tie.Need-returns-5
 unfolding grounds.judgeFile
 returns-5 c = simp (le-ltb _ _ (c .before .before .before .before .before .before .before .before .if1 .left), sym (c .before .before .before .before .before .before .before .is-titled .ensures) ∙ not-false _ (c .before .before .before .before .before .before .if2 .left), le-ltb _ _ (c .before .before .before .before .if3 .left), le-ltb _ _ (c .before .before .before .if4 .left), ← ap (λ (x : CellCount). x .0) (c .before .before .count-of .ensures), ne-eqb _ _ (c .if5 .taken))
 
--- src/judgement.rt:50:1
 returns-6 : tie.Need-returns-6
 unfolding grounds.judgeFile
 returns-6 c = simp (le-ltb _ _ (c .before .before .before .before .before .before .before .before .if1 .left), sym (c .before .before .before .before .before .before .before .is-titled .ensures) ∙ not-false _ (c .before .before .before .before .before .before .if2 .left), le-ltb _ _ (c .before .before .before .before .if3 .left), le-ltb _ _ (c .before .before .before .if4 .left), ← ap (λ (x : CellCount). x .0) (c .before .before .count-of .ensures), eq-eqb _ _ (c .if5 .left))

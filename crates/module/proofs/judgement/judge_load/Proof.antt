@@ -14,47 +14,36 @@ use Rattle.module.proofs.judgement.count_of.Reads as count-of-reads
 use Rattle.module.proofs.judgement.judge_file.Reads as judge-file-reads
 use Rattle.module.proofs.judgement.judge_place.Reads as judge-place-reads
 
--- src/judgement.rt:91:11
 judge-machine-requires : tie.Need-judge-machine-requires
 judge-machine-requires c κs = search needs
 
--- src/judgement.rt:92:25
 enum-known-r : tie.Need-enum-known-r
 enum-known-r c = search needs
 
--- src/judgement.rt:93:33
 enum-told : tie.Need-enum-told
 enum-told c = search needs
 
--- src/judgement.rt:93:33
 judge-file-requires : tie.Need-judge-file-requires
 judge-file-requires c κs = search needs
 
--- src/judgement.rt:94:29
 enum-known-r-2 : tie.Need-enum-known-r-2
 enum-known-r-2 c = search needs
 
--- src/judgement.rt:95:60
 enum-told-2 : tie.Need-enum-told-2
 enum-told-2 c = search needs
 
--- src/judgement.rt:95:60
 count-of-requires : tie.Need-count-of-requires
 count-of-requires c κs = let g = file-good _ (sym (c .before .before .judge-file .ensures) ∙ c .enum-told2 .given .1) in omega (arith, g .whole)
 
--- src/judgement.rt:95:31
 judge-place-requires : tie.Need-judge-place-requires
 judge-place-requires c κs = search needs
 
--- src/judgement.rt:88:1
 returns : tie.Need-returns
 returns c = rw (load-parts, sym (c .before .before .before .judge-machine .ensures) ∙ c .before .r .given .1)
 
--- src/judgement.rt:88:1
 returns-2 : tie.Need-returns-2
 returns-2 c = rw (load-parts, sym (c .before .before .before .before .before .before .judge-machine .ensures) ∙ c .before .before .before .before .enum-told .given .1, sym (c .before .before .before .judge-file .ensures) ∙ c .before .r2 .given .1)
 
--- src/judgement.rt:88:1
 returns-3 : tie.Need-returns-3
 returns-3 c = rw (load-parts, sym (c .before .before .before .before .before .before .before .judge-machine .ensures) ∙ c .before .before .before .before .before .enum-told .given .1, sym (c .before .before .before .before .judge-file .ensures) ∙ c .before .before .enum-told2 .given .1)
     (c .judge-place .ensures ∙ ap (λ (x : CellCount). grounds.judgePlace (c .before .before .before .before .before .before .before .before .before .args .length) (c .before .before .before .before .before .before .before .before .before .args .address .0) (x .0)) (c .before .count-of .ensures))

@@ -6,42 +6,33 @@ use borrow.Author.Tests.{lt-ltb, le-ltb, le-leb, lt-leb, eq-eqb, ne-eqb}
 use Rattle.module.proofs.judgement.judge_place.Reads as reads
 use Rattle.module.proofs.judgement.judge_place.Lts as lts
 
--- src/judgement.rt:77:9
 returns : tie.Need-returns
 unfolding grounds.judgePlace
 returns c = simp (ne-eqb _ _ (c .if1 .taken))
 
--- src/judgement.rt:79:18
 cast-if2 : tie.Need-cast-if2
 cast-if2 c = search needs
 
--- src/judgement.rt:80:9
 returns-2 : tie.Need-returns-2
 unfolding grounds.judgePlace
 returns-2 c = simp (eq-eqb _ _ (c .before .before .if1 .left), le-leb _ _ (c .if2 .taken))
 
--- src/judgement.rt:82:18
 cast-if3 : tie.Need-cast-if3
 cast-if3 c = search needs
 
--- src/judgement.rt:82:45
 cast-if3-2 : tie.Need-cast-if3-2
 cast-if3-2 c = search needs
 
--- src/judgement.rt:82:40
 mul-if3 : tie.Need-mul-if3
 mul-if3 c = search needs
 
--- src/judgement.rt:82:17
 add-if3 : tie.Need-add-if3
 add-if3 c = search needs
 
--- src/judgement.rt:83:9
 returns-3 : tie.Need-returns-3
 unfolding grounds.judgePlace
 returns-3 c = simp (eq-eqb _ _ (c .before .before .before .before .before .if1 .left), lt-leb _ _ (c .before .before .before .if2 .left), lt-ltb _ _ (c .if3 .taken))
 
--- src/judgement.rt:73:1
 returns-4 : tie.Need-returns-4
 unfolding grounds.judgePlace
 returns-4 c = simp (eq-eqb _ _ (c .before .before .before .before .before .if1 .left), lt-leb _ _ (c .before .before .before .if2 .left), le-ltb _ _ (c .if3 .left))

@@ -9,55 +9,42 @@ use Rattle.module.proofs.judgement.judge_save.Lts as lts
 use Rattle.cell.proofs.judgement.judge_machine.Reads as judge-machine-reads
 use Rattle.module.proofs.judgement.judge_place.Reads as judge-place-reads
 
--- src/judgement.rt:103:11
 judge-machine-requires : tie.Need-judge-machine-requires
 judge-machine-requires c κs = search needs
 
--- src/judgement.rt:104:25
 enum-known-r : tie.Need-enum-known-r
 enum-known-r c = search needs
 
--- src/judgement.rt:105:33
 enum-told : tie.Need-enum-told
 enum-told c = search needs
 
--- src/judgement.rt:105:33
 judge-place-requires : tie.Need-judge-place-requires
 judge-place-requires c κs = search needs
 
--- src/judgement.rt:106:29
 enum-known-r-2 : tie.Need-enum-known-r-2
 enum-known-r-2 c = search needs
 
--- src/judgement.rt:108:37
 enum-told-2 : tie.Need-enum-told-2
 enum-told-2 c = search needs
 
--- src/judgement.rt:108:37
 cast-if1 : tie.Need-cast-if1
 cast-if1 c = search needs
 
--- src/judgement.rt:108:32
 mul-if1 : tie.Need-mul-if1
 mul-if1 c = search needs
 
--- src/judgement.rt:108:27
 add-if1 : tie.Need-add-if1
 add-if1 c = search needs
 
--- src/judgement.rt:100:1
 returns : tie.Need-returns
 returns c = rw (save-parts, sym (c .before .before .before .judge-machine .ensures) ∙ c .before .r .given .1)
 
--- src/judgement.rt:100:1
 returns-2 : tie.Need-returns-2
 returns-2 c = rw (save-parts, sym (c .before .before .before .before .before .before .judge-machine .ensures) ∙ c .before .before .before .before .enum-told .given .1, sym (c .before .before .before .judge-place .ensures) ∙ c .before .r2 .given .1)
 
--- src/judgement.rt:100:1
 returns-3 : tie.Need-returns-3
 returns-3 c = rw (save-parts, sym (c .before .before .before .before .before .before .before .judge-machine .ensures) ∙ c .before .before .before .before .before .enum-told .given .1, sym (c .before .before .before .before .judge-place .ensures) ∙ c .before .before .enum-told2 .given .1, lt-ltb _ _ (c .if1 .taken))
 
--- src/judgement.rt:100:1
 returns-4 : tie.Need-returns-4
 returns-4 c = rw (save-parts, sym (c .before .before .before .before .before .before .before .judge-machine .ensures) ∙ c .before .before .before .before .before .enum-told .given .1, sym (c .before .before .before .before .judge-place .ensures) ∙ c .before .before .enum-told2 .given .1, le-ltb _ _ (c .if1 .left))
 

@@ -8,19 +8,15 @@ use lib.Seq.{take-all}
 use Rattle.module.proofs.loading.code_of.Reads as reads
 use Rattle.module.proofs.loading.code_of.Lts as lts
 
--- src/loading.rt:19:5
 sub-result : tie.Need-sub-result
 sub-result c = search needs
 
--- src/loading.rt:19:5
 part-result-start : tie.Need-part-result-start
 part-result-start c = search needs
 
--- src/loading.rt:19:5
 part-result-end : tie.Need-part-result-end
 part-result-end c = search needs
 
--- src/loading.rt:15:1
 returns : tie.Need-returns
 returns c = take-all (length (c .before .args .file .now) - 12) (drop 12 (c .before .args .file .now)) (simp length-drop (omega arith))
 

@@ -14,54 +14,36 @@ use Rattle.module.proofs.judgement.count_of.Reads as count-of-reads
 use Rattle.module.proofs.judgement.judge_load.Reads as judge-load-reads
 use Rattle.module.proofs.loading.code_of.Reads as code-of-reads
 
--- src/loading.rt:25:11
 judge-load-requires : tie.Need-judge-load-requires
 judge-load-requires c κs = search needs
 
--- src/loading.rt:26:25
 enum-known-r : tie.Need-enum-known-r
 enum-known-r c = search needs
 
--- src/loading.rt:28:17
 enum-told : tie.Need-enum-told
 enum-told c = search needs
 
--- src/loading.rt:28:17
 count-of-requires : tie.Need-count-of-requires
 count-of-requires c κs = let g = load-good (c .before .before .before .before .before .args .order) (c .before .before .before .before .before .args .memory .now) (c .before .before .before .before .before .args .file .now) (c .before .before .before .before .before .args .address .0) (sym (c .before .before .judge-load .ensures) ∙ c .enum-told .given .1) in omega (arith, g .format .whole)
 
--- src/loading.rt:29:24
 shared-slice-read-copy-cells : tie.Need-shared-slice-read-copy-cells
 shared-slice-read-copy-cells c = let g = load-good (c .before .before .before .before .before .before .before .args .order) (c .before .before .before .before .before .before .before .args .memory .now) (c .before .before .before .before .before .before .before .args .file .now) (c .before .before .before .before .before .before .before .args .address .0) (sym (c .before .before .before .before .judge-load .ensures) ∙ c .before .before .enum-told .given .1) in omega (arith, g .format .whole)
 
--- src/loading.rt:29:40
 code-of-requires : tie.Need-code-of-requires
 code-of-requires c κs = let g = load-good (c .before .before .before .before .before .before .before .args .order) (c .before .before .before .before .before .before .before .args .memory .now) (c .before .before .before .before .before .before .before .args .file .now) (c .before .before .before .before .before .before .before .args .address .0) (sym (c .before .before .before .before .judge-load .ensures) ∙ c .before .before .enum-told .given .1) in omega (arith, g .format .whole)
 
--- src/loading.rt:29:63
-cast-copy-cells : tie.Need-cast-copy-cells
-cast-copy-cells c = search needs
-
--- src/loading.rt:29:83
-cast-copy-cells-2 : tie.Need-cast-copy-cells-2
-cast-copy-cells-2 c = search needs
-
--- src/loading.rt:29:13
 copy-cells-requires : tie.Need-copy-cells-requires
-copy-cells-requires c κs = let g = load-good (c .before .before .before .before .before .before .before .before .before .before .before .args .order) (c .before .before .before .before .before .before .before .before .before .before .before .args .memory .now) (c .before .before .before .before .before .before .before .before .before .before .before .args .file .now) (c .before .before .before .before .before .before .before .before .before .before .before .args .address .0) (sym (c .before .before .before .before .before .before .before .before .judge-load .ensures) ∙ c .before .before .before .before .before .before .enum-told .given .1) in rw (c .before .before .before .before .before .count-of .ensures, c .before .before .before .code-of .ensures) (simp length-drop (omega (arith, g .format .whole)), omega (arith, g .place .room))
+copy-cells-requires c κs = let g = load-good (c .before .before .before .before .before .before .before .before .before .args .order) (c .before .before .before .before .before .before .before .before .before .args .memory .now) (c .before .before .before .before .before .before .before .before .before .args .file .now) (c .before .before .before .before .before .before .before .before .before .args .address .0) (sym (c .before .before .before .before .before .before .judge-load .ensures) ∙ c .before .before .before .before .enum-told .given .1) in rw (c .before .before .before .count-of .ensures, c .before .code-of .ensures) (simp length-drop (omega (arith, g .format .whole)), omega (arith, g .place .room))
 
--- src/loading.rt:22:1
 returns : tie.Need-returns
 unfolding answers.loadOf
 returns c = rw (sym (c .before .before .before .judge-load .ensures) ∙ c .before .r .given .1)
 
--- src/loading.rt:22:1
 same-length : tie.Need-same-length
 same-length c = search needs
 
--- src/loading.rt:22:1
 returns-2 : tie.Need-returns-2
-returns-2 c = load-result (c .before .before .before .before .before .before .before .before .before .before .before .before .before .before .args .order) (c .before .before .before .before .before .before .before .before .before .before .before .before .before .before .args .memory .now) (c .before .before .before .before .before .before .before .before .before .before .before .before .before .before .args .file .now) (c .before .before .before .before .before .before .before .before .before .before .before .before .before .before .args .address .0) (c .before .before .before .before .before .before .before .before .count-of .result) _ _ (sym (c .before .before .before .before .before .before .before .before .before .before .before .judge-load .ensures) ∙ c .before .before .before .before .before .before .before .before .before .enum-told .given .1) (c .before .before .before .before .before .before .before .before .count-of .ensures) (c .before .before .before .before .before .before .code-of .ensures) (c .before .before .copy-cells .ensures)
+returns-2 c = load-result (c .before .before .before .before .before .before .before .before .before .before .before .before .args .order) (c .before .before .before .before .before .before .before .before .before .before .before .before .args .memory .now) (c .before .before .before .before .before .before .before .before .before .before .before .before .args .file .now) (c .before .before .before .before .before .before .before .before .before .before .before .before .args .address .0) (c .before .before .before .before .before .before .count-of .result) _ _ (sym (c .before .before .before .before .before .before .before .before .before .judge-load .ensures) ∙ c .before .before .before .before .before .before .before .enum-told .given .1) (c .before .before .before .before .before .before .count-of .ensures) (c .before .before .before .before .code-of .ensures) (c .before .before .copy-cells .ensures)
 
 pub load-object-spec : {M : Type 1} → statement M
 load-object-spec =
@@ -73,8 +55,6 @@ load-object-spec =
     count-of-requires
     shared-slice-read-copy-cells
     code-of-requires
-    cast-copy-cells
-    cast-copy-cells-2
     copy-cells-requires
     returns
     same-length

@@ -16,69 +16,51 @@ use Rattle.module.proofs.copying.copy_cells.Reads as copy-cells-reads
 use Rattle.module.proofs.judgement.judge_save.Reads as judge-save-reads
 use Rattle.module.proofs.saving.write_header.Reads as write-header-reads
 
--- src/saving.rt:35:11
 judge-save-requires : tie.Need-judge-save-requires
 judge-save-requires c κs = search needs
 
--- src/saving.rt:36:25
 enum-known-r : tie.Need-enum-known-r
 enum-known-r c = search needs
 
--- src/saving.rt:38:40
 enum-told : tie.Need-enum-told
 enum-told c = search needs
 
--- src/saving.rt:38:13
 write-header-requires : tie.Need-write-header-requires
 write-header-requires c κs = let g = save-good (c .before .before .before .before .before .before .args .order) (c .before .before .before .before .before .before .args .memory .now) (c .before .before .before .before .before .before .args .address .0) (c .before .before .before .before .before .before .args .cells .0) (c .before .before .before .before .before .before .args .output .now) (sym (c .before .before .before .judge-save .ensures) ∙ c .before .enum-told .given .1) in omega (arith, g .room)
 
--- src/saving.rt:39:22
 cast-at : tie.Need-cast-at
 cast-at c = search needs
 
--- src/saving.rt:40:38
 sub-copy-cells : tie.Need-sub-copy-cells
 sub-copy-cells c = let g = save-good (c .before .before .before .before .before .before .before .before .before .before .args .order) (c .before .before .before .before .before .before .before .before .before .before .args .memory .now) (c .before .before .before .before .before .before .before .before .before .before .args .address .0) (c .before .before .before .before .before .before .before .before .before .before .args .cells .0) (c .before .before .before .before .before .before .before .before .before .before .args .output .now) (sym (c .before .before .before .before .before .before .before .judge-save .ensures) ∙ c .before .before .before .before .before .enum-told .given .1) in omega (arith, g .place .inside)
 
--- src/saving.rt:40:38
 part-copy-cells-start : tie.Need-part-copy-cells-start
 part-copy-cells-start c = let g = save-good (c .before .before .before .before .before .before .before .before .before .before .args .order) (c .before .before .before .before .before .before .before .before .before .before .args .memory .now) (c .before .before .before .before .before .before .before .before .before .before .args .address .0) (c .before .before .before .before .before .before .before .before .before .before .args .cells .0) (c .before .before .before .before .before .before .before .before .before .before .args .output .now) (sym (c .before .before .before .before .before .before .before .judge-save .ensures) ∙ c .before .before .before .before .before .enum-told .given .1) in omega (arith, g .place .inside)
 
--- src/saving.rt:40:38
 part-copy-cells-end : tie.Need-part-copy-cells-end
 part-copy-cells-end c = search needs
 
--- src/saving.rt:40:65
-cast-copy-cells : tie.Need-cast-copy-cells
-cast-copy-cells c = search needs
-
--- src/saving.rt:40:13
 copy-cells-requires : tie.Need-copy-cells-requires
-copy-cells-requires c κs = let g = save-good (c .before .before .before .before .before .before .before .before .before .before .before .before .before .args .order) (c .before .before .before .before .before .before .before .before .before .before .before .before .before .args .memory .now) (c .before .before .before .before .before .before .before .before .before .before .before .before .before .args .address .0) (c .before .before .before .before .before .before .before .before .before .before .before .before .before .args .cells .0) (c .before .before .before .before .before .before .before .before .before .before .before .before .before .args .output .now) (sym (c .before .before .before .before .before .before .before .before .before .before .judge-save .ensures) ∙ c .before .before .before .before .before .before .before .before .enum-told .given .1) in
-    let t = take-all (length (c .before .before .before .before .before .before .before .before .before .before .before .before .before .args .memory .now) - c .before .before .before .before .before .before .before .before .before .before .before .before .before .args .address .0) (drop (c .before .before .before .before .before .before .before .before .before .before .before .before .before .args .address .0) (c .before .before .before .before .before .before .before .before .before .before .before .before .before .args .memory .now)) (simp length-drop (omega arith)) in
-    (rw t (simp length-drop (omega (arith, g .place .room))), omega (arith, g .room, c .before .before .before .before .before .before .write-header .kept .1 .1 .0))
+copy-cells-requires c κs = let g = save-good (c .before .before .before .before .before .before .before .before .before .before .before .before .args .order) (c .before .before .before .before .before .before .before .before .before .before .before .before .args .memory .now) (c .before .before .before .before .before .before .before .before .before .before .before .before .args .address .0) (c .before .before .before .before .before .before .before .before .before .before .before .before .args .cells .0) (c .before .before .before .before .before .before .before .before .before .before .before .before .args .output .now) (sym (c .before .before .before .before .before .before .before .before .before .judge-save .ensures) ∙ c .before .before .before .before .before .before .before .enum-told .given .1) in
+    let t = take-all (length (c .before .before .before .before .before .before .before .before .before .before .before .before .args .memory .now) - c .before .before .before .before .before .before .before .before .before .before .before .before .args .address .0) (drop (c .before .before .before .before .before .before .before .before .before .before .before .before .args .address .0) (c .before .before .before .before .before .before .before .before .before .before .before .before .args .memory .now)) (simp length-drop (omega arith)) in
+    (rw t (simp length-drop (omega (arith, g .place .room))), omega (arith, g .room, c .before .before .before .before .before .write-header .kept .1 .1 .0))
 
--- src/saving.rt:41:31
 mul-t22 : tie.Need-mul-t22
-mul-t22 c = let g = save-good (c .before .before .before .before .before .before .before .before .before .before .before .before .before .before .before .before .before .args .order) (c .before .before .before .before .before .before .before .before .before .before .before .before .before .before .before .before .before .args .memory .now) (c .before .before .before .before .before .before .before .before .before .before .before .before .before .before .before .before .before .args .address .0) (c .before .before .before .before .before .before .before .before .before .before .before .before .before .before .before .before .before .args .cells .0) (c .before .before .before .before .before .before .before .before .before .before .before .before .before .before .before .before .before .args .output .now) (sym (c .before .before .before .before .before .before .before .before .before .before .before .before .before .before .judge-save .ensures) ∙ c .before .before .before .before .before .before .before .before .before .before .before .before .enum-told .given .1) in omega (arith, g .place .room, g .machine .lent .most)
+mul-t22 c = let g = save-good (c .before .before .before .before .before .before .before .before .before .before .before .before .before .before .before .before .args .order) (c .before .before .before .before .before .before .before .before .before .before .before .before .before .before .before .before .args .memory .now) (c .before .before .before .before .before .before .before .before .before .before .before .before .before .before .before .before .args .address .0) (c .before .before .before .before .before .before .before .before .before .before .before .before .before .before .before .before .args .cells .0) (c .before .before .before .before .before .before .before .before .before .before .before .before .before .before .before .before .args .output .now) (sym (c .before .before .before .before .before .before .before .before .before .before .before .before .before .judge-save .ensures) ∙ c .before .before .before .before .before .before .before .before .before .before .before .enum-told .given .1) in omega (arith, g .place .room, g .machine .lent .most)
 
--- src/saving.rt:41:26
 add-t23 : tie.Need-add-t23
-add-t23 c = let g = save-good (c .before .before .before .before .before .before .before .before .before .before .before .before .before .before .before .before .before .args .order) (c .before .before .before .before .before .before .before .before .before .before .before .before .before .before .before .before .before .args .memory .now) (c .before .before .before .before .before .before .before .before .before .before .before .before .before .before .before .before .before .args .address .0) (c .before .before .before .before .before .before .before .before .before .before .before .before .before .before .before .before .before .args .cells .0) (c .before .before .before .before .before .before .before .before .before .before .before .before .before .before .before .before .before .args .output .now) (sym (c .before .before .before .before .before .before .before .before .before .before .before .before .before .before .judge-save .ensures) ∙ c .before .before .before .before .before .before .before .before .before .before .before .before .enum-told .given .1) in omega (arith, g .place .room, g .machine .lent .most)
+add-t23 c = let g = save-good (c .before .before .before .before .before .before .before .before .before .before .before .before .before .before .before .before .args .order) (c .before .before .before .before .before .before .before .before .before .before .before .before .before .before .before .before .args .memory .now) (c .before .before .before .before .before .before .before .before .before .before .before .before .before .before .before .before .args .address .0) (c .before .before .before .before .before .before .before .before .before .before .before .before .before .before .before .before .args .cells .0) (c .before .before .before .before .before .before .before .before .before .before .before .before .before .before .before .before .args .output .now) (sym (c .before .before .before .before .before .before .before .before .before .before .before .before .before .judge-save .ensures) ∙ c .before .before .before .before .before .before .before .before .before .before .before .enum-told .given .1) in omega (arith, g .place .room, g .machine .lent .most)
 
--- src/saving.rt:32:1
 returns : tie.Need-returns
 unfolding answers.saveOf
 returns c = rw (sym (c .before .before .before .judge-save .ensures) ∙ c .before .r .given .1)
 
--- src/saving.rt:32:1
 same-length : tie.Need-same-length
 same-length c = search needs
 
--- src/saving.rt:32:1
 returns-2 : tie.Need-returns-2
 unfolding mem.Bytewise
-returns-2 c = save-result (c .before .before .before .before .before .before .before .before .before .before .before .before .before .before .before .before .before .args .order) (c .before .before .before .before .before .before .before .before .before .before .before .before .before .before .before .before .before .args .memory .now) (c .before .before .before .before .before .before .before .before .before .before .before .before .before .before .before .before .before .args .address .0) (c .before .before .before .before .before .before .before .before .before .before .before .before .before .before .before .before .before .args .cells .0) (c .before .before .before .before .before .before .before .before .before .before .before .before .before .before .before .before .before .args .output .now) _ _ _ (sym (c .before .before .before .before .before .before .before .before .before .before .before .before .before .before .judge-save .ensures) ∙ c .before .before .before .before .before .before .before .before .before .before .before .before .enum-told .given .1) (λ i. c .before .before .before .before .before .before .before .before .before .before .before .before .before .before .before .before .shared-slice-known .given i .fits) (take-all (length (c .before .before .before .before .before .before .before .before .before .before .before .before .before .before .before .before .before .args .memory .now) - c .before .before .before .before .before .before .before .before .before .before .before .before .before .before .before .before .before .args .address .0) (drop (c .before .before .before .before .before .before .before .before .before .before .before .before .before .before .before .before .before .args .address .0) (c .before .before .before .before .before .before .before .before .before .before .before .before .before .before .before .before .before .args .memory .now)) (simp length-drop (omega arith))) (c .before .before .before .before .before .before .before .before .before .before .write-header .ensures) (c .before .before .before .copy-cells .ensures)
+returns-2 c = save-result (c .before .before .before .before .before .before .before .before .before .before .before .before .before .before .before .before .args .order) (c .before .before .before .before .before .before .before .before .before .before .before .before .before .before .before .before .args .memory .now) (c .before .before .before .before .before .before .before .before .before .before .before .before .before .before .before .before .args .address .0) (c .before .before .before .before .before .before .before .before .before .before .before .before .before .before .before .before .args .cells .0) (c .before .before .before .before .before .before .before .before .before .before .before .before .before .before .before .before .args .output .now) _ _ _ (sym (c .before .before .before .before .before .before .before .before .before .before .before .before .before .judge-save .ensures) ∙ c .before .before .before .before .before .before .before .before .before .before .before .enum-told .given .1) (λ i. c .before .before .before .before .before .before .before .before .before .before .before .before .before .before .before .shared-slice-known .given i .fits) (take-all (length (c .before .before .before .before .before .before .before .before .before .before .before .before .before .before .before .before .args .memory .now) - c .before .before .before .before .before .before .before .before .before .before .before .before .before .before .before .before .args .address .0) (drop (c .before .before .before .before .before .before .before .before .before .before .before .before .before .before .before .before .args .address .0) (c .before .before .before .before .before .before .before .before .before .before .before .before .before .before .before .before .args .memory .now)) (simp length-drop (omega arith))) (c .before .before .before .before .before .before .before .before .before .write-header .ensures) (c .before .before .before .copy-cells .ensures)
 
 pub save-object-spec : {M : Type 1} → statement M
 save-object-spec =
@@ -92,7 +74,6 @@ save-object-spec =
     sub-copy-cells
     part-copy-cells-start
     part-copy-cells-end
-    cast-copy-cells
     copy-cells-requires
     mul-t22
     add-t23

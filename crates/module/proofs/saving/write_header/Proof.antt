@@ -7,51 +7,40 @@ use native.Mathlib.Omega.{arith}
 use lib.ListN.{length-set}
 use Rattle.module.proofs.saving.write_header.Reads as reads
 use Rattle.module.proofs.saving.write_header.Lts as lts
-use Rattle.cell.proofs.memory.store.Reads as store-reads
+use Rattle.cell.proofs.memory.store_at.Reads as store-at-reads
 
--- src/saving.rt:21:5
 slice-write-output : tie.Need-slice-write-output
 slice-write-output c = search needs
 
--- src/saving.rt:22:5
 slice-write-output-2 : tie.Need-slice-write-output-2
 slice-write-output-2 c = simp length-set (omega arith)
 
--- src/saving.rt:23:5
 slice-write-output-3 : tie.Need-slice-write-output-3
 slice-write-output-3 c = simp length-set (omega arith)
 
--- src/saving.rt:24:5
 slice-write-output-4 : tie.Need-slice-write-output-4
 slice-write-output-4 c = simp length-set (omega arith)
 
--- src/saving.rt:25:5
 slice-write-output-5 : tie.Need-slice-write-output-5
 slice-write-output-5 c = simp length-set (omega arith)
 
--- src/saving.rt:26:5
 slice-write-output-6 : tie.Need-slice-write-output-6
 slice-write-output-6 c = simp length-set (omega arith)
 
--- src/saving.rt:27:5
 slice-write-output-7 : tie.Need-slice-write-output-7
 slice-write-output-7 c = simp length-set (omega arith)
 
--- src/saving.rt:28:5
 slice-write-output-8 : tie.Need-slice-write-output-8
 slice-write-output-8 c = simp length-set (omega arith)
 
--- src/saving.rt:29:5
-store-requires : tie.Need-store-requires
-store-requires c κs = search needs
+store-at-requires : tie.Need-store-at-requires
+store-at-requires c κs = search needs
 
--- src/saving.rt:17:1
 same-length : tie.Need-same-length
-same-length c = c .before .before .store .kept .1 .0 ∙ simp length-set
+same-length c = c .before .before .store-at .kept .1 .0 ∙ simp length-set
 
--- src/saving.rt:17:1
 returns : tie.Need-returns
-returns c = c .before .before .store .ensures ∙ header-written (c .before .before .before .before .before .args .order) (c .before .before .before .before .before .args .output .now) (c .before .before .before .before .before .args .cells .0) (omega arith)
+returns c = c .before .before .store-at .ensures ∙ header-written (c .before .before .before .before .before .args .order) (c .before .before .before .before .before .args .output .now) (c .before .before .before .before .before .args .cells .0) (omega arith)
 
 pub write-header-spec : {M : Type 1} → statement M
 write-header-spec =
@@ -65,6 +54,6 @@ write-header-spec =
     slice-write-output-6
     slice-write-output-7
     slice-write-output-8
-    store-requires
+    store-at-requires
     same-length
     returns)
