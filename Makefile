@@ -1,5 +1,5 @@
 # `make run` shows a rule at work, from its text to its result; `make test` is the gate; `make compare`, a part of it, holds the compiled library
-# against the second implementation and runs the command's tests.
+# against the second implementation and the vectors, and runs the command's tests.
 .PHONY: run test compare library
 beetle = cli/target/release/beetle
 work = target/run
@@ -14,9 +14,12 @@ run: library
 
 compare: library
 	cd tests && cargo run --quiet --offline --release --features library --bin compare
+	cd tests && cargo run --quiet --offline --release --features library --bin vectors
 	cd cli && cargo test --quiet --offline
 
+# `rt check` proves on all cores what `rt staticlib` would prove on one
 library:
+	rt check exports
 	rt staticlib exports
 
 test:

@@ -30,6 +30,13 @@ extern "C" {
 /* the list machine stopped in front of an item that it cannot carry out */
 #define BEETLE_STANDS_OUTSIDE 2
 
+/* why it stands outside: the item would write a byte of the image, transfer to no entry, throw to a
+ * valid 'THROW that is no entry, or run on past the last item */
+#define BEETLE_WRITES_IMAGE 1
+#define BEETLE_NO_ENTRY 2
+#define BEETLE_NO_HANDLER 3
+#define BEETLE_PAST_END 4
+
 #define BEETLE_OUTSIDE (-1)           /* module address MEMORY or more, or cells pass MEMORY */
 #define BEETLE_BAD_HEADER (-2)        /* the file does not begin as a module does */
 #define BEETLE_BAD_MEMORY (-4101)     /* memory length */
@@ -101,15 +108,31 @@ int32_t beetle_pack_file(
     uint32_t *out, size_t out_length);
 
 /* Runs the list machine from item 0, at most `items` items. No image is asked for in memory, nor
- * that it fits there. out: [reason, or 0; item reached; items done; cycles counted, low half; high
- * half]. The item reached is the next one, the one that stopped the machine, or the one in front of
- * which it stands outside. */
+ * that it fits there. out: [reason of a stop, number of why it stands outside, or 0; item reached;
+ * items done; cycles counted, low half; high half]. The item reached is the next one, the one that
+ * stopped the machine, or the one in front of which it stands outside. */
 int32_t beetle_list_run(
     uint8_t order,
     const uint8_t *kinds, size_t kinds_length,
     const uint32_t *operands, size_t operands_length,
     uint32_t base,
     uint8_t *memory, size_t memory_length,
+    uint32_t *pointers, size_t pointers_length,
+    uint32_t items,
+    uint32_t *out, size_t out_length);
+
+/* The same, taken up at `item`. `ran` is 1 (as any number but 0) where the item was run on into, by
+ * no taken branch, call, return or throw, from an item not in its immediate form: such an item
+ * counts two cycles if it opens a cell. An item past the last one stands outside. A run cut in two
+ * at any item is the whole run, items and cycles added. */
+int32_t beetle_list_resume(
+    uint8_t order,
+    const uint8_t *kinds, size_t kinds_length,
+    const uint32_t *operands, size_t operands_length,
+    uint32_t base,
+    uint8_t *memory, size_t memory_length,
+    uint32_t item,
+    uint8_t ran,
     uint32_t *pointers, size_t pointers_length,
     uint32_t items,
     uint32_t *out, size_t out_length);

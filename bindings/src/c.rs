@@ -88,4 +88,21 @@ extern "C" {
         out: *mut u32,
         out_length: usize,
     ) -> u32;
+    pub fn beetle_list_resume(
+        order: u8,
+        kinds: *const u8,
+        kinds_length: usize,
+        operands: *const u32,
+        operands_length: usize,
+        base: u32,
+        memory: *mut u8,
+        memory_length: usize,
+        item: u32,
+        ran: u8,
+        pointers: *mut u32,
+        pointers_length: usize,
+        items: u32,
+        out: *mut u32,
+        out_length: usize,
+    ) -> u32;
 }

@@ -115,3 +115,30 @@ pub fn list_run(
         )
     }
 }
+
+#[allow(clippy::too_many_arguments)]
+pub fn list_resume(
+    order: u8,
+    kinds: &[u8],
+    operands: &[u32],
+    base: u32,
+    memory: &mut [u8],
+    item: u32,
+    ran: u8,
+    pointers: &mut [u32],
+    items: u32,
+    out: &mut [u32],
+) -> u32 {
+    let (k, k_length) = (kinds.as_ptr(), kinds.len());
+    let (v, v_length) = (operands.as_ptr(), operands.len());
+    let (m, m_length) = (memory.as_mut_ptr(), memory.len());
+    let (p, p_length) = (pointers.as_mut_ptr(), pointers.len());
+    let (o, o_length) = (out.as_mut_ptr(), out.len());
+    // SAFETY: as above.
+    unsafe {
+        c::beetle_list_resume(
+            order, k, k_length, v, v_length, base, m, m_length, item, ran, p, p_length, items, o,
+            o_length,
+        )
+    }
+}

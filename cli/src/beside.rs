@@ -47,7 +47,7 @@ impl Processor {
     pub fn compare(&self, listed: &Listed, memory: &[u8]) -> Result<(), Failure> {
         let reason = match listed.end {
             End::Stopped(reason) => Some(reason),
-            End::WentOn | End::Outside => None,
+            End::WentOn | End::Outside(_) => None,
         };
         let Registers { sp, rp, .. } = self.registers;
         let mut differ = Vec::new();

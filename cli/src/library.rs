@@ -35,7 +35,18 @@ pub struct Ran {
 pub enum End {
     WentOn,
     Stopped(u32),
-    Outside,
+    /// With the number of why.
+    Outside(u32),
+}
+
+/// Where the list machine stands: an item, whether it was run on into from an item not in its
+/// immediate form, SP and RP.
+#[derive(Clone, Copy, PartialEq, Eq, Debug)]
+pub struct Stand {
+    pub item: u32,
+    pub ran: bool,
+    pub sp: u32,
+    pub rp: u32,
 }
 
 /// What the list machine came to.
@@ -131,22 +142,32 @@ pub fn pack_file(order: u8, file: &[u8]) -> Result<Vec<u8>, Failure> {
     Ok(image)
 }
 
-/// Carries out at most so many items of a listing, from its item 0 on.
-pub fn list_run(
+/// Carries out at most so many items of a listing, from where the machine stands.
+pub fn list_resume(
     order: u8,
     listing: &Listing,
     memory: &mut [u8],
-    pointers: (u32, u32),
+    stand: Stand,
     items: u32,
 ) -> Result<Listed, Failure> {
     let (kinds, operands, base) = (&listing.kinds, &listing.operands, listing.base);
-    let (mut p, mut out) = ([pointers.0, pointers.1], [0; 5]);
-    let answer = beetle_bindings::list_run(
-        order, kinds, operands, base, memory, &mut p, items, &mut out,
+    let Stand { item, ran, sp, rp } = stand;
+    let (mut p, mut out) = ([sp, rp], [0; 5]);
+    let answer = beetle_bindings::list_resume(
+        order,
+        kinds,
+        operands,
+        base,
+        memory,
+        item,
+        u8::from(ran),
+        &mut p,
+        items,
+        &mut out,
     );
     let end = match accepted(answer)? {
         STOPPED => End::Stopped(out[0]),
-        OUTSIDE => End::Outside,
+        OUTSIDE => End::Outside(out[0]),
         _ => End::WentOn,
     };
     Ok(listed(end, p, out))

@@ -43,6 +43,16 @@ pub fn why(reason: u32) -> String {
     }
 }
 
+/// Why the list machine stands in front of an item.
+pub fn why_outside(number: u32) -> &'static str {
+    match number {
+        1 => "it would write a byte of the image",
+        2 => "it transfers to no entry",
+        3 => "it throws to a 'THROW that is no entry",
+        _ => "it runs on past the end",
+    }
+}
+
 /// What a thrown code means (document 01 and the paper's table 4).
 fn code_meaning(code: i32) -> &'static str {
     match code {

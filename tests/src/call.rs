@@ -6,8 +6,10 @@
 use std::hint::black_box;
 
 pub type ListRun = fn(u8, &[u8], &[u32], u32, &mut [u8], &mut [u32], u32, &mut [u32]) -> u32;
+pub type ListResume =
+    fn(u8, &[u8], &[u32], u32, &mut [u8], u32, u8, &mut [u32], u32, &mut [u32]) -> u32;
 
-/// The eight calls of the interface.
+/// The nine calls of the interface.
 #[derive(Clone, Copy)]
 pub struct Implementation {
     pub start: fn(u8, &mut [u8], u32, u32, &mut [u32], &mut [u32]) -> u32,
@@ -18,6 +20,7 @@ pub struct Implementation {
     pub pack: fn(u8, &[u8], &[u32], u32, &mut [u8], &mut [u32]) -> u32,
     pub pack_file: fn(u8, &[u8], &mut [u8], &mut [u32]) -> u32,
     pub list_run: ListRun,
+    pub list_resume: ListResume,
 }
 
 /// The implementation that the functions of a module are.
@@ -33,6 +36,7 @@ macro_rules! implementation {
             pack: $($module)::+::pack,
             pack_file: $($module)::+::pack_file,
             list_run: $($module)::+::list_run,
+            list_resume: $($module)::+::list_resume,
         }
     };
 }
@@ -58,6 +62,7 @@ pub enum Entry {
     Pack,
     PackFile,
     ListRun,
+    ListResume,
 }
 
 /// A call with all that is lent; what the entry does not take is empty.
@@ -66,14 +71,14 @@ pub struct Call {
     pub entry: Entry,
     pub order: u8,
     /// start: EP, handler; run: budget; load: address; save: address, cells; pack: base;
-    /// list_run: base, items.
-    pub numbers: [u32; 2],
+    /// list_run: base, items; list_resume: base, items, item, ran (its low byte).
+    pub numbers: [u32; 4],
     pub memory: Vec<u8>,
     pub file: Vec<u8>,
     pub kinds: Vec<u8>,
     pub operands: Vec<u32>,
     pub output: Vec<u8>,
-    /// list_run: SP, RP.
+    /// list_run, list_resume: SP, RP.
     pub registers: Vec<u32>,
     pub out: Vec<u32>,
 }
@@ -83,7 +88,7 @@ impl Call {
         Call {
             entry,
             order: 0,
-            numbers: [0, 0],
+            numbers: [0; 4],
             memory: Vec::new(),
             file: Vec::new(),
             kinds: Vec::new(),
@@ -164,7 +169,7 @@ impl Arrays {
 
     /// Makes the call on these arrays: its answer.
     fn lend(&mut self, to: &Implementation, call: &Call) -> u32 {
-        let (order, [x, y]) = (call.order, call.numbers);
+        let (order, [x, y, item, ran]) = (call.order, call.numbers);
         let (m, f) = (self.memory.lent(), self.file.lent());
         let (k, v, w) = (self.kinds.lent(), self.operands.lent(), self.output.lent());
         let (r, o) = (self.registers.lent(), self.out.lent());
@@ -177,6 +182,7 @@ impl Arrays {
             Entry::Pack => (to.pack)(order, k, v, x, w, o),
             Entry::PackFile => (to.pack_file)(order, f, w, o),
             Entry::ListRun => (to.list_run)(order, k, v, x, m, r, y, o),
+            Entry::ListResume => (to.list_resume)(order, k, v, x, m, item, ran as u8, r, y, o),
         }
     }
 }

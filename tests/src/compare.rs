@@ -4,6 +4,7 @@ use std::collections::BTreeMap;
 
 use crate::call::{agree, perform, Call, Implementation};
 use crate::cases::{listings, modules, processor, rules};
+use crate::cuts;
 use crate::demand3::follow;
 use crate::random::Random;
 use crate::shrink::{call_text, returned_text, smallest};
@@ -31,7 +32,7 @@ const fn suite(
     }
 }
 
-pub const SUITES: [Suite; 12] = [
+pub const SUITES: [Suite; 13] = [
     suite("cycles", "processor", 400_000, processor::cycle),
     suite("starts", "processor", 20_000, processor::start),
     suite("runs", "processor", 40_000, processor::run),
@@ -42,6 +43,7 @@ pub const SUITES: [Suite; 12] = [
     suite("packs", "packer", 20_000, listings::pack),
     suite("pack files", "packer", 20_000, listings::pack_file),
     suite("list runs", "packer", 60_000, rules::list_run),
+    suite("list resumes", "packer", 60_000, rules::list_resume),
     suite("large listings", "packer", 60, listings::large),
     suite("large list runs", "packer", 24, rules::large),
 ];
@@ -133,6 +135,27 @@ pub fn try_rules(implementation: &Implementation, rules: u32) -> Result<Rules, D
         tally.longest = tally.longest.max(followed.items);
         tally.stopped += u32::from(followed.stopped);
         tally.outside += u32::from(followed.outside);
+    }
+    Ok(tally)
+}
+
+/// Cuts rules in two; the error is the first that is not the whole run again. How many were cut.
+pub fn try_cuts(implementation: &Implementation, rules: u32) -> Result<u32, Difference> {
+    let mut random = Random::new(4);
+    let mut tally = 0;
+    for index in 0..rules {
+        let call = rules::rule(&mut random);
+        let at = random.below(60);
+        match cuts::cut(implementation, &call, at) {
+            Ok(was_cut) => tally += u32::from(was_cut),
+            Err(_) => {
+                return Err(Difference {
+                    name: "cuts",
+                    index,
+                    call: Box::new(call),
+                })
+            }
+        }
     }
     Ok(tally)
 }

@@ -3,6 +3,7 @@
 pub mod call;
 pub mod cases;
 pub mod compare;
+pub mod cuts;
 pub mod demand3;
 pub mod random;
 pub mod reference;

@@ -99,7 +99,7 @@ impl Shrinking<'_> {
 
     fn lower_numbers(&mut self) {
         self.attempt_with(|call| call.order = 0);
-        for number in 0..2 {
+        for number in 0..4 {
             self.attempt_with(|call| call.numbers[number] = 0);
             while self.attempt_with(|call| call.numbers[number] /= 2) {}
             while self.attempt_with(|call| {
@@ -155,9 +155,9 @@ fn array_text<T: std::fmt::UpperHex>(name: &str, array: &[T]) -> String {
 
 /// A call in words.
 pub fn call_text(call: &Call) -> String {
-    let [x, y] = call.numbers;
+    let [x, y, item, ran] = call.numbers;
     let mut text = format!(
-        "{:?}, order {}, numbers {x:X}h {y:X}h\n",
+        "{:?}, order {}, numbers {x:X}h {y:X}h {item:X}h {ran:X}h\n",
         call.entry, call.order
     );
     if !call.memory.is_empty() {

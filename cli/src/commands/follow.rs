@@ -6,7 +6,7 @@ use super::run::NO_HANDLER;
 use crate::arguments::{Arguments, Takes};
 use crate::beside::Processor;
 use crate::failure::Failure;
-use crate::library::{self, End, Listed, Listing, Registers};
+use crate::library::{self, End, Listed, Listing, Registers, Stand};
 use crate::listing::{self, Packed};
 use crate::names::{kind_of, name_of, Kind};
 use crate::{files, memory, report};
@@ -20,9 +20,7 @@ just started with the image at its base. After each item a line gives the items 
 the item, SP, RP, the cycles counted and the tops of both stacks, the data stack in
 decimal and the return stack in hexadecimal.
 
-  --items N          the most items, 1000 without it. Each line is a call of the list
-                     machine from item 0 on, so that twice the items take four times
-                     as long
+  --items N          the most items, 1000 without it
   --memory BYTES     length of the machine's memory, 65536 without it
   --order 0|1        the machine's byte order: 0 (as without it) least byte first
   --handler ADDRESS  'THROW, where a throw leads. FFFFFFFFh without it, which is no
@@ -33,7 +31,7 @@ decimal and the return stack in hexadecimal.
                      status 1. It is proved that there is none
 
 The exit status is 0 however the list machine ends: by a stop, outside (in front of an
-item that would leave what the listing says), or after N items.
+item that would leave what the listing says; the last line says why), or after N items.
 ";
 
 const TAKES: Takes = Takes {
@@ -52,14 +50,52 @@ struct Begun {
     registers: Registers,
 }
 
-impl Begun {
-    /// The list machine after so many items, with its memory.
-    fn after(&self, items: u32) -> Result<(Listed, Vec<u8>), Failure> {
-        let Packed { listing, order, .. } = &self.packed;
-        let pointers = (self.registers.sp, self.registers.rp);
-        let mut memory = self.memory.clone();
-        let listed = library::list_run(*order, listing, &mut memory, pointers, items)?;
-        Ok((listed, memory))
+/// The list machine on its way: its memory, where it stands, the items done and cycles counted.
+struct Following<'l> {
+    packed: &'l Packed,
+    memory: Vec<u8>,
+    stand: Stand,
+    items_done: u32,
+    cycles: u64,
+}
+
+impl<'l> Following<'l> {
+    fn new(begun: &'l Begun) -> Self {
+        let Registers { sp, rp, .. } = begun.registers;
+        let (item, ran) = (0, false);
+        Following {
+            packed: &begun.packed,
+            memory: begun.memory.clone(),
+            stand: Stand { item, ran, sp, rp },
+            items_done: 0,
+            cycles: 0,
+        }
+    }
+
+    /// So many items from here on.
+    fn resume(&self, memory: &mut [u8], items: u32) -> Result<Listed, Failure> {
+        let Packed { listing, order, .. } = self.packed;
+        library::list_resume(*order, listing, memory, self.stand, items)
+    }
+
+    /// Carries out the next item. What a second one counts tells whether it was run on into and
+    /// opens a cell.
+    fn step(&mut self) -> Result<Listed, Failure> {
+        let two = self.resume(&mut self.memory.clone(), 2)?;
+        let mut memory = std::mem::take(&mut self.memory);
+        let one = self.resume(&mut memory, 1)?;
+        self.memory = memory;
+        let Listed { item, sp, rp, .. } = one;
+        let ran = two.items_done == 2 && two.cycles == one.cycles + 2;
+        self.stand = Stand { item, ran, sp, rp };
+        self.items_done += one.items_done;
+        self.cycles += one.cycles;
+        let (items_done, cycles) = (self.items_done, self.cycles);
+        Ok(Listed {
+            items_done,
+            cycles,
+            ..one
+        })
     }
 }
 
@@ -74,19 +110,20 @@ pub fn carry_out(words: &[String], out: &mut dyn Write) -> Result<u8, Failure> {
         out,
         " done item instruction            SP       RP         cycles  data | return, top first"
     )?;
-    let (mut last, _) = begun.after(0)?;
+    let mut following = Following::new(&begun);
+    let mut last = following.resume(&mut following.memory.clone(), 0)?;
     while last.end == End::WentOn && last.items_done < items {
         let item = last.item;
-        let (listed, memory) = begun.after(last.items_done + 1)?;
-        last = listed;
-        if last.end == End::Outside {
+        last = following.step()?;
+        if matches!(last.end, End::Outside(_)) {
             break;
         }
-        writeln!(out, "{}", line(&begun.packed, item, &last, &memory))?;
+        let memory = &following.memory;
+        writeln!(out, "{}", line(&begun.packed, item, &last, memory))?;
         if let Some(processor) = &mut beside {
             processor.catch_up(&last)?;
             writeln!(out, "{}", processor.line())?;
-            processor.compare(&last, &memory)?;
+            processor.compare(&last, memory)?;
         }
     }
     writeln!(out, "{}", end(&begun.packed.listing, &last))?;
@@ -141,9 +178,10 @@ fn end(listing: &Listing, last: &Listed) -> String {
     match last.end {
         End::WentOn => format!("not stopped {done}"),
         End::Stopped(reason) => format!("stopped {} {done}", report::why(reason)),
-        End::Outside => {
+        End::Outside(number) => {
             let (item, name) = (last.item, instruction(listing, last.item));
-            format!("stopped outside, in front of item {item} ({name}), {done}")
+            let why = report::why_outside(number);
+            format!("stopped outside, in front of item {item} ({name}): {why}, {done}")
         }
     }
 }

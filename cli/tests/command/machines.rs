@@ -70,19 +70,26 @@ fn a_budget_is_spent() {
 fn outside_the_listing() {
     let folder = Folder::new("outside");
     let rows = [
-        ("7", "in front of item 0 (#7), after 0 items and 0 cycles"),
+        (
+            "7",
+            "in front of item 0 (#7): it runs on past the end, after 0 items and 0 cycles",
+        ),
         (
             "7 #10h ! HALT",
-            "in front of item 2 (!), after 2 items and 2 cycles",
+            "in front of item 2 (!): it would write a byte of the image, after 2 items and 2 cycles",
         ),
         (
             "#14h EXECUTE HALT",
-            "in front of item 1 (EXECUTE), after 1 items and 1 cycles",
+            "in front of item 1 (EXECUTE): it transfers to no entry, after 1 items and 1 cycles",
+        ),
+        (
+            "LIB HALT",
+            "in front of item 0 (LIB): it throws to a 'THROW that is no entry, after 0 items and 0 cycles",
         ),
     ];
     for (text, expected) in rows {
         folder.rule(text);
-        let followed = folder.done("follow rule.lst --beside");
+        let followed = folder.done("follow rule.lst --beside --handler 14h");
         let last = followed.lines().last().expect("a last line");
         assert_eq!(last, format!("stopped outside, {expected}"), "{text}");
     }
@@ -91,6 +98,16 @@ fn outside_the_listing() {
     folder.rule("base 800h HALT");
     let said = folder.beetle("follow rule.lst --memory 1024");
     assert!(said.error.contains("the image ends at 804h"), "{said:?}");
+}
+
+#[test]
+fn many_items_are_followed() {
+    let folder = Folder::new("many");
+    folder.rule("5000 again: 1- DUP 0= ?BRANCH again HALT");
+    let followed = folder.done("follow rule.lst --beside --items 30000");
+    let expected = "reason 0 (0h) after 20002 items and 20003 cycles\n";
+    let last = followed.lines().last().expect("a last line");
+    assert!(followed.ends_with(expected), "{last}");
 }
 
 #[test]

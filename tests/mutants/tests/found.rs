@@ -2,7 +2,7 @@
 //! the default number of cases, and the reference is not told from itself.
 
 use beetle_tests::call::{reference, Implementation};
-use beetle_tests::compare::{compare, explain, try_rules, Difference, RULES, SUITES};
+use beetle_tests::compare::{compare, explain, try_cuts, try_rules, Difference, RULES, SUITES};
 use beetle_tests::implementation;
 
 /// Its group, its name, and its calls.
@@ -53,6 +53,12 @@ fn the_reference_agrees_with_itself() {
         println!("{}: {:?}", suite.name, answers.as_ref().ok());
         assert!(answers.is_ok());
     }
+}
+
+#[test]
+fn runs_of_the_reference_can_be_cut() {
+    let cut = try_cuts(&reference(), RULES / 4).ok().expect("a cut run");
+    assert!(cut > RULES / 16);
 }
 
 #[test]

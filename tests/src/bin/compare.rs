@@ -4,7 +4,9 @@ use std::process::ExitCode;
 use std::time::Instant;
 
 use beetle_tests::call::{library, reference, Implementation};
-use beetle_tests::compare::{compare, explain, explain_rule, raised, try_rules, RULES, SUITES};
+use beetle_tests::compare::{compare, explain, explain_rule, raised, try_cuts, try_rules};
+use beetle_tests::compare::{RULES, SUITES};
+use beetle_tests::shrink::call_text;
 
 /// Prints what a part came to; whether it was good.
 fn report<T: std::fmt::Debug>(name: &str, since: Instant, result: Result<T, String>) -> bool {
@@ -23,9 +25,18 @@ fn demand_3(name: &str, implementation: &Implementation) -> bool {
     report(&format!("demand 3, {name}"), since, result)
 }
 
+/// Runs cut in two.
+fn cuts(name: &str, implementation: &Implementation) -> bool {
+    let since = Instant::now();
+    let result = try_cuts(implementation, raised(RULES));
+    let result = result.map_err(|difference| call_text(&difference.call));
+    report(&format!("cuts, {name}"), since, result)
+}
+
 fn main() -> ExitCode {
     let (reference, library) = (reference(), library());
     let mut good = demand_3("reference", &reference);
+    good &= cuts("reference", &reference);
     for suite in &SUITES {
         let since = Instant::now();
         let result = compare(suite, &reference, &library, raised(suite.cases));
@@ -33,6 +44,7 @@ fn main() -> ExitCode {
         good &= report(suite.name, since, result);
     }
     good &= demand_3("library", &library);
+    good &= cuts("library", &library);
     if good {
         ExitCode::SUCCESS
     } else {

@@ -1,5 +1,5 @@
-//! Checks the reference, and the library where it is linked, against vectors:
-//! `vectors cycles.txt listings.txt`.
+//! Checks the reference, and the library where it is linked, against vectors: those of the folder
+//! `vectors`, or `vectors cycles.txt listings.txt`.
 //!
 //! A cycle is a line of order, EP, A, SP, RP and memory, `=`, the answer (`on`, or `stop` and the
 //! reason in decimal), the registers afterwards, and each changed byte as `address:byte`. A listing
@@ -8,6 +8,9 @@
 #[cfg(feature = "library")]
 use beetle_tests::call::library;
 use beetle_tests::call::{reference, Implementation};
+
+const OWN_CYCLES: &str = concat!(env!("CARGO_MANIFEST_DIR"), "/vectors/cycles.txt");
+const OWN_LISTINGS: &str = concat!(env!("CARGO_MANIFEST_DIR"), "/vectors/listings.txt");
 
 fn hexadecimal(word: &str) -> u32 {
     u32::from_str_radix(word, 16).expect("a hexadecimal number")
@@ -95,9 +98,13 @@ fn check_both(name: &str, calls: &Implementation, cycles: &str, listings: &str) 
 
 fn main() {
     let paths: Vec<String> = std::env::args().skip(1).collect();
-    let [cycles, listings] = &paths[..] else {
-        eprintln!("usage: vectors cycles.txt listings.txt");
-        std::process::exit(2);
+    let (cycles, listings) = match &paths[..] {
+        [] => (OWN_CYCLES, OWN_LISTINGS),
+        [cycles, listings] => (&cycles[..], &listings[..]),
+        _ => {
+            eprintln!("usage: vectors [cycles.txt listings.txt]");
+            std::process::exit(2);
+        }
     };
     let good = check_both("reference", &reference(), cycles, listings);
     #[cfg(feature = "library")]

@@ -95,7 +95,7 @@ pub fn save(random: &mut Random, _: u32) -> Call {
     let length = memory_length(random);
     fill_memory(random, &mut call, length);
     let cells = cell_count(random, length as u32);
-    call.numbers = [address(random, length as u32, cells), cells];
+    call.numbers = [address(random, length as u32, cells), cells, 0, 0];
     if random.one_in(12) {
         let counts = [
             0x3FFF_FFFF_u32,

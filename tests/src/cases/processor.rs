@@ -116,7 +116,7 @@ pub fn cycle(random: &mut Random, index: u32) -> Call {
 pub fn start(random: &mut Random, _: u32) -> Call {
     let mut call = machine(random, Entry::Start);
     let length = call.memory.len() as u32;
-    call.numbers = [pointer(random, length), pointer(random, length)];
+    call.numbers = [pointer(random, length), pointer(random, length), 0, 0];
     if random.one_in(8) {
         damage(random, &mut call);
     }
@@ -227,7 +227,7 @@ pub fn large(random: &mut Random, index: u32) -> Call {
     call.memory[end - 1024..end].copy_from_slice(&first[..1024]);
     let length = length as u32;
     if entry == Entry::Start {
-        call.numbers = [pointer(random, length), pointer(random, length)];
+        call.numbers = [pointer(random, length), pointer(random, length), 0, 0];
     } else {
         let opcode = random.below(0x58);
         call.registers = vec![

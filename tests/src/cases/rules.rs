@@ -108,7 +108,7 @@ pub fn rule(random: &mut Random) -> Call {
         put_cell(&mut call, rp, address);
     }
     call.registers = vec![sp, rp];
-    call.numbers = [base, rule_items(random)];
+    call.numbers = [base, rule_items(random), 0, 0];
     let cells = packer::image(&listing, &layout, base);
     let image = packer::bytes(&cells, order_of(call.order));
     put_image(&mut call, &image);
@@ -167,6 +167,27 @@ pub fn list_run(random: &mut Random, _: u32) -> Call {
     call
 }
 
+/// A run taken up at some item, mostly one that there is, whether or not it could be reached so.
+pub fn list_resume(random: &mut Random, index: u32) -> Call {
+    let mut call = list_run(random, index);
+    call.entry = Entry::ListResume;
+    let items = call.kinds.len() as u32;
+    call.numbers[2] = match random.below(12) {
+        0 => items,
+        1 => items + random.below(3),
+        2 => random.choose(&[4096, 0x7FFF_FFFF, 0x8000_0000, 0xFFFF_FFFF]),
+        3 => 0,
+        _ => random.below(items),
+    };
+    call.numbers[3] = random.choose(&[0, 1, 0, 1, 0, 1, 2, 255]);
+    // what ends from item 0 on may go on without end from another item
+    call.numbers[1] = rule_items(random);
+    if random.one_in(6) {
+        close_items(random, &mut call);
+    }
+    call
+}
+
 /// Rules at the end of the greatest memory, or of one just too long.
 pub fn large(random: &mut Random, index: u32) -> Call {
     let mut call = rule(random);
@@ -175,7 +196,7 @@ pub fn large(random: &mut Random, index: u32) -> Call {
     let listing = accept(&call.kinds, &call.operands).expect("a legal listing");
     let layout = packer::layout(&listing);
     let base = GREATEST - 4 * layout.cells as u32;
-    call.numbers = [base, random.below(60)];
+    call.numbers = [base, random.below(60), 0, 0];
     let cells = packer::image(&listing, &layout, base);
     let image = packer::bytes(&cells, order_of(call.order));
     put_image(&mut call, &image);

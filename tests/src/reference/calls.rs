@@ -1,8 +1,8 @@
-//! The eight calls of the C interface: refusals in document 01's order, -4105 last; what is lent
+//! The nine calls of the C interface: refusals in document 01's order, -4105 last; what is lent
 //! is written on success only.
 
 use super::instructions::Registers;
-use super::list_machine::{ListMachine, Step};
+use super::list_machine::{ListMachine, Position, Step};
 use super::listing::{self, Listing};
 use super::memory::{Lent, Order};
 use super::module;
@@ -199,7 +199,6 @@ pub fn pack_file(order: u8, file: &[u8], output: &mut [u8], out: &mut [u32]) -> 
     })())
 }
 
-/// The listing and what goes with it, for `list_run`.
 #[allow(clippy::too_many_arguments)]
 pub fn list_run(
     order: u8,
@@ -207,6 +206,25 @@ pub fn list_run(
     operands: &[u32],
     base: u32,
     memory: &mut [u8],
+    pointers: &mut [u32],
+    items: u32,
+    out: &mut [u32],
+) -> u32 {
+    list_resume(
+        order, kinds, operands, base, memory, 0, 0, pointers, items, out,
+    )
+}
+
+/// A run of the list machine taken up at an item; `ran` is taken as 1 unless it is 0.
+#[allow(clippy::too_many_arguments)]
+pub fn list_resume(
+    order: u8,
+    kinds: &[u8],
+    operands: &[u32],
+    base: u32,
+    memory: &mut [u8],
+    item: u32,
+    ran: u8,
     pointers: &mut [u32],
     items: u32,
     out: &mut [u32],
@@ -223,13 +241,18 @@ pub fn list_run(
             order,
             bytes: memory,
         };
-        let (sp, rp) = (pointers[0], pointers[1]);
-        let mut machine = ListMachine::new(&listing, &layout, base, lent, sp, rp);
+        let position = Position {
+            item,
+            run_on_into: ran != 0,
+            sp: pointers[0],
+            rp: pointers[1],
+        };
+        let mut machine = ListMachine::new(&listing, &layout, base, lent, position);
         let ran = machine.run(items);
         let (answer, reason) = match ran.end {
             Step::WentOn => (WENT_ON, 0),
             Step::Stopped(reason) => (STOPPED, reason),
-            Step::Outside => (OUTSIDE, 0),
+            Step::Outside(why) => (OUTSIDE, why as u32),
         };
         pointers[..2].copy_from_slice(&[machine.sp, machine.rp]);
         let (low, high) = (ran.cycles as u32, (ran.cycles >> 32) as u32);

@@ -67,7 +67,17 @@ impl Memory for Watched<'_> {
 enum Leave {
     RunOn,
     Transfer(u32),
+    Throw(u32),
     Stop(u32),
+}
+
+/// Why the machine stops outside: document 01's four causes, in its order.
+#[derive(Clone, Copy, PartialEq, Eq, Debug)]
+pub enum Outside {
+    WritesImage = 1,
+    NoEntry = 2,
+    NoHandler = 3,
+    PastEnd = 4,
 }
 
 /// What became of an item.
@@ -75,7 +85,17 @@ enum Leave {
 pub enum Step {
     WentOn,
     Stopped(u32),
-    Outside,
+    Outside(Outside),
+}
+
+/// Where a run is taken up: an item, whether it was run on into from an item not in its immediate
+/// form, and the stack pointers.
+#[derive(Clone, Copy)]
+pub struct Position {
+    pub item: u32,
+    pub run_on_into: bool,
+    pub sp: u32,
+    pub rp: u32,
 }
 
 /// What a run came to, with the items carried out and the cycles counted.
@@ -106,8 +126,7 @@ impl<'m> ListMachine<'m> {
         layout: &'m Layout,
         base: u32,
         lent: Lent<'m>,
-        sp: u32,
-        rp: u32,
+        position: Position,
     ) -> Self {
         let entries = listing.entries();
         let entry_at = (0..listing.items())
@@ -125,10 +144,10 @@ impl<'m> ListMachine<'m> {
                 image_written: false,
                 before: Vec::new(),
             },
-            item: 0,
-            sp,
-            rp,
-            run_on_into: false,
+            item: position.item as usize,
+            sp: position.sp,
+            rp: position.rp,
+            run_on_into: position.run_on_into,
         }
     }
 
@@ -147,7 +166,7 @@ impl<'m> ListMachine<'m> {
             Err(fault) => raise(&mut self.memory, r, Some(fault)),
         };
         match raised {
-            Ok(handler) => Leave::Transfer(handler),
+            Ok(handler) => Leave::Throw(handler),
             Err(reason) => Leave::Stop(reason),
         }
     }
@@ -171,13 +190,22 @@ impl<'m> ListMachine<'m> {
         })
     }
 
-    /// Where an item leads, none for outside; the item that stops the machine stays.
-    fn led_to(&self, leave: &Leave) -> Option<usize> {
+    /// The entry at an address.
+    fn entry(&self, address: u32, without: Outside) -> Result<usize, Outside> {
+        self.entry_at.get(&address).copied().ok_or(without)
+    }
+
+    /// Where an item leads, or why it is outside; the item that stops the machine stays.
+    fn led_to(&self, leave: &Leave) -> Result<usize, Outside> {
+        if self.memory.image_written {
+            return Err(Outside::WritesImage);
+        }
         match leave {
-            Leave::Stop(_) => Some(self.item),
-            Leave::Transfer(address) => self.entry_at.get(address).copied(),
-            Leave::RunOn if self.item + 1 < self.listing.items() => Some(self.item + 1),
-            Leave::RunOn => None,
+            Leave::Stop(_) => Ok(self.item),
+            Leave::Transfer(address) => self.entry(*address, Outside::NoEntry),
+            Leave::Throw(address) => self.entry(*address, Outside::NoHandler),
+            Leave::RunOn if self.item + 1 < self.listing.items() => Ok(self.item + 1),
+            Leave::RunOn => Err(Outside::PastEnd),
         }
     }
 
@@ -194,10 +222,10 @@ impl<'m> ListMachine<'m> {
         self.memory.image_written = false;
         let leave = self.perform(&mut r);
         let next = match self.led_to(&leave) {
-            Some(next) if !self.memory.image_written => next,
-            _ => {
+            Ok(next) => next,
+            Err(why) => {
                 self.memory.take_back();
-                return Step::Outside;
+                return Step::Outside(why);
             }
         };
         self.item = next;
@@ -219,17 +247,22 @@ impl<'m> ListMachine<'m> {
         }
     }
 
-    /// Carries out so many items, or fewer where it stops.
+    /// Carries out so many items, or fewer where it stops. Past the last item it stands outside.
     pub fn run(&mut self, items: u32) -> Ran {
+        let past = self.item >= self.listing.items();
         let mut ran = Ran {
-            end: Step::WentOn,
+            end: if past {
+                Step::Outside(Outside::PastEnd)
+            } else {
+                Step::WentOn
+            },
             items: 0,
             cycles: 0,
         };
         while ran.items < items && ran.end == Step::WentOn {
             let cycles = self.cycles();
             ran.end = self.step();
-            if ran.end != Step::Outside {
+            if !matches!(ran.end, Step::Outside(_)) {
                 ran.items += 1;
                 ran.cycles += cycles;
             }
