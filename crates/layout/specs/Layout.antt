@@ -26,8 +26,11 @@ fresh zero entry = true
 fresh (suc f) entry = entry
 
 -- a new cell comes after all cells placed so far
+abbrev pub opening : ℕ → Spot
+opening next = record { at = next; free = 4; next = next + 1 }
+
 abbrev pub begin : Bool → Spot → Spot
-begin true c = record { at = c .next; free = 4; next = c .next + 1 }
+begin true c = opening (c .next)
 begin false c = c
 
 -- after an item with f bytes left behind its opcode: the immediate form closes the cell; an operand cell joins those after the open
