@@ -5,5 +5,4 @@ mod ThrowingLaws
 mod IntentLaws
 mod ItemLaws
 mod CarryLaws
-mod WithinLaws
 mod RunLaws

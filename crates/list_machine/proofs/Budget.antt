@@ -41,4 +41,4 @@ budgeted order base m sp rp r q a =
 
 pub run-follows : RunFollows
 run-follows order base l m sp rp k q ok holds =
-    budgeted order base m sp rp (runOf (machineOf order) base l k (beginning m sp rp)) q (demand3 (machineOf order) base l m sp rp k ok holds)
+    budgeted order base m sp rp (runOf (machineOf order) base l k (beginning l m sp rp)) q (demand3 (machineOf order) base l m sp rp k ok holds)

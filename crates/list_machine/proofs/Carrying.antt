@@ -25,6 +25,7 @@ use Rattle.layout.specs.declared.Entry.{Entry}
 use Rattle.layout.specs.declared.Entry.the-variants.{Item, Nothing}
 use Rattle.layout.proofs.Placing.{entry-opens}
 use Rattle.layout.proofs.Finding.{found}
+use Rattle.list_machine.specs.declared.Outside.the-variants.{WritesImage, NoEntry, PastEnd}
 use Rattle.list_machine.specs.ListMachine.{Position, on, outside, isImmediate, actedTo, movedTo, enteredAt, writesImage, followed, acted, carriedBy}
 use Rattle.list_machine.specs.Demand3.{Holds}
 use Rattle.list_machine.proofs.Frame.{stores-frame}
@@ -64,7 +65,7 @@ module _ (machine : Machine) (base : ℕ) (l : Listing) (ok : Legal base l) (i a
   jump-meets ran m sp rp to holds = go (entryAt base l to) refl
     where
       go : (n : Entry) → entryAt base l to ≡ n
-          → Meets machine base l (enteredAt n (standsAt i ran m sp rp)) (nextOf machine m (record { ep = to; a = a; sp = sp; rp = rp }))
+          → Meets machine base l (enteredAt NoEntry n (standsAt i ran m sp rp)) (nextOf machine m (record { ep = to; a = a; sp = sp; rp = rp }))
       go Nothing q = tt
       go (Item j) q =
           let f = found base l to (j .0) q in
@@ -78,7 +79,7 @@ module _ (machine : Machine) (base : ℕ) (l : Listing) (ok : Legal base l) (i a
   followed-meets ran m sp rp goOn holds = go (ltb (suc i) (l .count)) refl
     where
       go : (b : Bool) → ltb (suc i) (l .count) ≡ b
-          → Meets machine base l (if b (on (movedTo (suc i) (not (isImmediate (formAt (layout l) i))) (standsAt i ran m sp rp))) outside)
+          → Meets machine base l (if b (on (movedTo (suc i) (not (isImmediate (formAt (layout l) i))) (standsAt i ran m sp rp))) (outside PastEnd))
           (finishOf machine (onward (stepped m (record { registers = here sp rp; outcome = Went }))))
       go false q = tt
       go true q =
@@ -99,7 +100,7 @@ module _ (machine : Machine) (base : ℕ) (l : Listing) (ok : Legal base l) (i a
   acted-meets ran m sp rp x Good holds = go (writesImage machine base l (x .stores)) refl
     where
       go : (b : Bool) → writesImage machine base l (x .stores) ≡ b
-          → Meets machine base l (if b outside (followed machine base l (x .control) (actedTo machine (standsAt i ran m sp rp) x)))
+          → Meets machine base l (if b (outside WritesImage) (followed machine base l (x .control) (actedTo machine (standsAt i ran m sp rp) x)))
           (finishOf machine (onward (carriedOut machine m (here sp rp) x Good)))
       go true q = tt
       go false q =

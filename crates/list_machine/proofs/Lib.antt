@@ -6,6 +6,9 @@ pub mod Throwing
 pub mod Carrying
 pub mod Agreement
 pub mod Counting
+pub mod Within
+pub mod Lengths
+pub mod Cutting
 pub mod Simulation
 pub mod Packed
 pub mod Budget

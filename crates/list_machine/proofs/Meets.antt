@@ -21,6 +21,7 @@ use Rattle.layout.specs.declared.Entry.the-variants.{Item, Nothing}
 use Rattle.layout.specs.declared.ItemNumber.{ItemNumber}
 use Rattle.layout.proofs.Placing.{entry-opens}
 use Rattle.layout.proofs.Finding.{found}
+use Rattle.list_machine.specs.declared.Outside.{Outside}
 use Rattle.list_machine.specs.ListMachine.{Position, Carried, on, stopped, outside, movedTo, enteredAt, transferred}
 use Rattle.list_machine.specs.Demand3.{Holds}
 use Rattle.list_machine.proofs.Image.{atItem, entry-cell, ep-after}
@@ -53,17 +54,17 @@ pub record Stops (x : ℕ) (p : Position) (t : Turned) : Type 0 where
 abbrev pub Meets : Machine → ℕ → Listing → Carried → Turned → Type 0
 Meets machine base l (on p) t = GoesOn machine base l p t
 Meets machine base l (stopped x p) t = Stops x p t
-Meets machine base l outside t = Unit {0}
+Meets machine base l (outside why) t = Unit {0}
 
 -- the processor enters the cell at an address: the list machine is in front of the entry placed there, or outside
 module _ (machine : Machine) (base : ℕ) (l : Listing) (ok : Legal base l) where
-  pub enters : (p : Position) (h x a ep : ℕ) (e : Ended) → isStop e ≡ false → Holds machine base l (p .memory)
+  pub enters : (why : Outside) (p : Position) (h x a ep : ℕ) (e : Ended) → isStop e ≡ false → Holds machine base l (p .memory)
       → fetchOf machine Stream (p .memory) h ≡ Cell x
-      → Meets machine base l (transferred machine base l h p) (turned (p .memory) (entered h x (record { ep = ep; a = a; sp = p .sp; rp = p .rp })) e)
-  enters p h x a ep e going holds fetched = go (entryAt base l h) refl
+      → Meets machine base l (transferred machine base l why h p) (turned (p .memory) (entered h x (record { ep = ep; a = a; sp = p .sp; rp = p .rp })) e)
+  enters why p h x a ep e going holds fetched = go (entryAt base l h) refl
     where
       go : (n : Entry) → entryAt base l h ≡ n
-          → Meets machine base l (enteredAt n p) (turned (p .memory) (entered h x (record { ep = ep; a = a; sp = p .sp; rp = p .rp })) e)
+          → Meets machine base l (enteredAt why n p) (turned (p .memory) (entered h x (record { ep = ep; a = a; sp = p .sp; rp = p .rp })) e)
       go Nothing q = tt
       go (Item j) q =
           let f = found base l h (j .0) q in

@@ -4,6 +4,7 @@ use mathlib.Core.Bool.{Bool, true, false, _&&_, true≢false}
 use mathlib.Core.List.{List}
 use Prim.Native.Nat.{ℕ, zero, suc, _+_, _*_, _<_}
 use native.Mathlib.Omega.{arith}
+use borrow.Author.Tests.{lt-ltb}
 use Rattle.cell.specs.Choice.{if}
 use Rattle.cell.specs.Memory.{cellAt}
 use Rattle.cell.specs.Shift.{asr8}
@@ -70,7 +71,7 @@ module _ (machine : Machine) (base : ℕ) (l : Listing) (ok : Legal base l) wher
   abbrev Stands : Course → Position → Turned → Type 0
   Stands goesOn p t = GoesOn machine base l p t
   Stands (stoppedBy x) p t = Stops x p t
-  Stands stoodOutside p t = GoesOn machine base l p t
+  Stands (stoodOutside why) p t = GoesOn machine base l p t
 
   record Reached (s : Turned) (r : Run) : Type 0 where
     stands : Stands (r .course) (r .position) (cyclesOf machine (r .cycles) s)
@@ -106,7 +107,7 @@ module _ (machine : Machine) (base : ℕ) (l : Listing) (ok : Legal base l) wher
       carried-reached : (c : Carried) → Meets machine base l c (cyclesOf machine (r .cycles + counted) s) → Reached s (furtherBy machine base l r c)
       carried-reached (on p) h = record { stands = h; exact = exact-then }
       carried-reached (stopped x p) h = record { stands = h; exact = exact-then }
-      carried-reached outside h = record { stands = g; exact = reached .exact }
+      carried-reached (outside why) h = record { stands = g; exact = reached .exact }
 
     further-reached : Reached s (further machine base l r)
     unfolding further
@@ -118,7 +119,7 @@ module _ (machine : Machine) (base : ℕ) (l : Listing) (ok : Legal base l) wher
         go : (c : Course) → r .course ≡ c → Reached s (furtherIn machine base l r c)
         go goesOn q = carried-reached (goes-then q) (carryOut machine base l (r .position)) (meets-then (goes-then q))
         go (stoppedBy x) q = reached
-        go stoodOutside q = reached
+        go (stoodOutside why) q = reached
 
   run-reached : (k : ℕ) (s : Turned) (r : Run) → Reached s r → Reached s (runOf machine base l k r)
   unfolding runOf
@@ -136,10 +137,11 @@ module _ (machine : Machine) (base : ℕ) (l : Listing) (ok : Legal base l) wher
       ap (cellAt (machine .order) m) (let e : base ≡ base + 4 * 0 = omega arith in e)
       ∙ holds .cells 0 (omega (arith, at-inside base l ok 0 (some-item l (ok .input) .0)))
 
-  begins : (m : List ℕ) (sp rp : ℕ) → Holds machine base l m → Reached (begun m (firstRegisters machine base m sp rp)) (beginning m sp rp)
+  begins : (m : List ℕ) (sp rp : ℕ) → Holds machine base l m → Reached (begun m (firstRegisters machine base m sp rp)) (beginning l m sp rp)
   unfolding cyclesOf doneOf
   begins m sp rp holds =
-      record {
+      rw (lt-ltb 0 (l .count) (some-item l (ok .input) .0))
+      (record {
         stands =
             record {
               memory = refl;
@@ -148,7 +150,7 @@ module _ (machine : Machine) (base : ℕ) (l : Listing) (ok : Legal base l) wher
               sound = record { item = some-item l (ok .input) .0; holds = holds };
             };
         exact = refl;
-      }
+      })
 
   -- a run and the processor agree
   agrees : (s : Turned) (r : Run) → Reached s r → Agree machine s r
@@ -171,7 +173,7 @@ module _ (machine : Machine) (base : ℕ) (l : Listing) (ok : Legal base l) wher
 
       go : (c : Course) → r .course ≡ c → Stands (r .course) (r .position) (cyclesOf machine (r .cycles) s) → Agree machine s r
       go goesOn q g = going (subst (λ (c : Course). Stands c (r .position) (cyclesOf machine (r .cycles) s)) q g) (ap stopIn q)
-      go stoodOutside q g = going (subst (λ (c : Course). Stands c (r .position) (cyclesOf machine (r .cycles) s)) q g) (ap stopIn q)
+      go (stoodOutside why) q g = going (subst (λ (c : Course). Stands c (r .position) (cyclesOf machine (r .cycles) s)) q g) (ap stopIn q)
       go (stoppedBy x) q g =
           let t = subst (λ (c : Course). Stands c (r .position) (cyclesOf machine (r .cycles) s)) q g in
           record { memory = t .memory; sp = t .sp; rp = t .rp; stop = ap stopOf (t .ended) ∙ sym (ap stopIn q); exact = h .exact }
@@ -179,5 +181,5 @@ module _ (machine : Machine) (base : ℕ) (l : Listing) (ok : Legal base l) wher
 -- demand 3
 pub demand3 : Demand3
 demand3 machine base l m sp rp k ok holds =
-    agrees machine base l ok (begun m (firstRegisters machine base m sp rp)) (runOf machine base l k (beginning m sp rp))
-    (run-reached machine base l ok k (begun m (firstRegisters machine base m sp rp)) (beginning m sp rp) (begins machine base l ok m sp rp holds))
+    agrees machine base l ok (begun m (firstRegisters machine base m sp rp)) (runOf machine base l k (beginning l m sp rp))
+    (run-reached machine base l ok k (begun m (firstRegisters machine base m sp rp)) (beginning l m sp rp) (begins machine base l ok m sp rp holds))

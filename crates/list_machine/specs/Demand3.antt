@@ -52,7 +52,7 @@ stopOf (ended.Stopped x) = stoppedWith x
 abbrev pub stopIn : Course → Stop
 stopIn goesOn = running
 stopIn (stoppedBy x) = stoppedWith x
-stopIn stoodOutside = running
+stopIn (stoodOutside why) = running
 
 -- a run of the list machine against the processor from the state s
 pub record Agree (machine : Machine) (s : Turned) (r : Run) : Type 0 where
@@ -67,7 +67,7 @@ Demand3 =
     (machine : Machine) (base : ℕ) (l : Listing) (m : List ℕ) (sp rp k : ℕ)
     → Legal base l
     → Holds machine base l m
-    → Agree machine (begun m (firstRegisters machine base m sp rp)) (runOf machine base l k (beginning m sp rp))
+    → Agree machine (begun m (firstRegisters machine base m sp rp)) (runOf machine base l k (beginning l m sp rp))
 
 -- the image as the packer writes it, byte by byte from the base on
 pub record HoldsBytes (machine : Machine) (base : ℕ) (l : Listing) (m : List ℕ) : Type 0 where
@@ -97,4 +97,4 @@ RunFollows =
     → judgeMachine (length m) order ≡ Passed
     → Legal base l
     → Holds (machineOf order) base l m
-    → RunAgrees order base m sp rp (runOf (machineOf order) base l k (beginning m sp rp))
+    → RunAgrees order base m sp rp (runOf (machineOf order) base l k (beginning l m sp rp))

@@ -33,6 +33,8 @@ use Rattle.layout.specs.declared.Entry.{Entry}
 use Rattle.layout.specs.declared.Entry.the-variants.{Item, Nothing}
 use Rattle.layout.specs.declared.Form.{Form}
 use Rattle.layout.specs.declared.Form.the-variants.{Alone, Immediate, InCell}
+use Rattle.list_machine.specs.declared.Outside.{Outside}
+use Rattle.list_machine.specs.declared.Outside.the-variants.{WritesImage, NoEntry, NoHandler, PastEnd}
 
 -- where the machine stands: in front of an item, with memory, SP and RP; ran says that the item was run on into "(by no taken branch, call, return or
 -- throw) from an item not in its immediate form"
@@ -44,11 +46,11 @@ pub record Position : Type 0 where
   pub rp : ℕ
 
 -- what an item comes to: carried out, with the machine in front of the next; carried out, and the machine stopped by a reason; or not carried
--- out, since the machine "stops outside, in front of" it
+-- out, since the machine "stops outside, in front of" it, and why
 pub data Carried : Type 0 where
   on : Position → Carried
   stopped : ℕ → Position → Carried
-  outside : Carried
+  outside : Outside → Carried
 
 abbrev pub isImmediate : Form → Bool
 isImmediate Alone = false
@@ -80,10 +82,10 @@ actedTo machine p x =
 abbrev pub movedTo : ℕ → Bool → Position → Position
 movedTo i ran p = record { item = i; ran = ran; memory = p .memory; sp = p .sp; rp = p .rp }
 
--- "transfer to no entry": outside
-abbrev pub enteredAt : Entry → Position → Carried
-enteredAt (Item i) p = on (movedTo (i .0) false p)
-enteredAt Nothing p = outside
+-- in front of the entry that was found; or outside, by the reason that fits the transfer
+abbrev pub enteredAt : Outside → Entry → Position → Carried
+enteredAt why (Item i) p = on (movedTo (i .0) false p)
+enteredAt why Nothing p = outside why
 
 module _ (machine : Machine) (base : ℕ) (l : Listing) where
   -- what the processor would fetch for an instruction that takes an operand: a literal's value; the address of a branch's target
@@ -110,8 +112,8 @@ module _ (machine : Machine) (base : ℕ) (l : Listing) where
   writesImage stores = touches base (base + 4 * imageCells l) stores
 
   -- "An address leads to the entry placed there"
-  abbrev pub transferred : ℕ → Position → Carried
-  transferred a p = enteredAt (entryAt base l a) p
+  abbrev pub transferred : Outside → ℕ → Position → Carried
+  transferred why a p = enteredAt why (entryAt base l a) p
 
   -- the registers that a throw goes by; A plays no part in it
   abbrev pub registersAt : Position → Registers
@@ -120,8 +122,8 @@ module _ (machine : Machine) (base : ℕ) (l : Listing) where
   -- a throw as the processor makes it: stopped with -258 or -259, or on to 'THROW, "a valid 'THROW that is no entry" being outside
   abbrev pub handledBy : Position → Turned → Ended → Carried
   handledBy p t (Stopped x) = stopped x (thrownTo p t)
-  handledBy p t Went = transferred (cellAt (machine .order) (t .memory) handlerCell) (thrownTo p t)
-  handledBy p t (Threw f) = transferred (cellAt (machine .order) (t .memory) handlerCell) (thrownTo p t)
+  handledBy p t Went = transferred NoHandler (cellAt (machine .order) (t .memory) handlerCell) (thrownTo p t)
+  handledBy p t (Threw f) = transferred NoHandler (cellAt (machine .order) (t .memory) handlerCell) (thrownTo p t)
 
   abbrev pub handled : Position → Turned → Carried
   handled p t = handledBy p t (t .turn .ended)
@@ -129,7 +131,8 @@ module _ (machine : Machine) (base : ℕ) (l : Listing) where
   -- an item that raises
   abbrev pub thrown : Position → Fault → Carried
   thrown p f =
-      if (writesImage (pushOf (difference (p .sp) 4) f (placeOf machine oneCell Push (length (p .memory)) (difference (p .sp) 4)))) outside
+      if (writesImage (pushOf (difference (p .sp) 4) f (placeOf machine oneCell Push (length (p .memory)) (difference (p .sp) 4))))
+      (outside WritesImage)
       (handled p (throwOf machine (p .memory) (registersAt p) f))
 
   -- "run on past the end": outside
@@ -137,19 +140,19 @@ module _ (machine : Machine) (base : ℕ) (l : Listing) where
   ranOn p =
       if (ltb (suc (p .item)) (l .count))
       (on (movedTo (suc (p .item)) (not (isImmediate (formAt (layout l) (p .item)))) p))
-      outside
+      (outside PastEnd)
 
-  -- what follows the stores, p the position after them
+  -- what follows the stores, p the position after them. "transfer to no entry": outside
   abbrev pub followed : Control → Position → Carried
   followed goOn p = ranOn p
-  followed (jump a) p = transferred a p
+  followed (jump a) p = transferred NoEntry a p
   followed (halt x) p = stopped x p
   followed throwing p = handled p (throwingOf machine (p .memory) (registersAt p))
 
   -- an action whose places were judged: a bad place raises, as in the processor
   abbrev pub acted : Position → Action → Checked → Carried
   acted p x (Bad f) = thrown p f
-  acted p x Good = if (writesImage (x .stores)) outside (followed (x .control) (actedTo machine p x))
+  acted p x Good = if (writesImage (x .stores)) (outside WritesImage) (followed (x .control) (actedTo machine p x))
 
   abbrev pub carriedBy : Position → Effect → Carried
   carriedBy p (raise f) = thrown p f

@@ -26,29 +26,31 @@ use Rattle.layout.specs.Packing.{layout, entryAt}
 use Rattle.layout.specs.declared.Entry.{Entry}
 use Rattle.layout.specs.declared.Entry.the-variants.{Item, Nothing}
 use Rattle.layout.proofs.Finding.{found}
+use Rattle.list_machine.specs.declared.Outside.{Outside}
+use Rattle.list_machine.specs.declared.Outside.the-variants.{WritesImage, NoEntry, NoHandler, PastEnd}
 use Rattle.list_machine.specs.ListMachine.{Position, Carried, on, stopped, outside, isImmediate, pushOf, thrownTo, actedTo, movedTo, enteredAt, effectAt, writesImage, transferred, registersAt, handledBy, handled, thrown, ranOn, followed, acted, carriedBy, carryOut}
 
 abbrev pub Within : ℕ → Carried → Type 0
 Within n (on q) = q .item < n
 Within n (stopped x q) = Unit
-Within n outside = Unit
+Within n (outside why) = Unit
 
-if-within : (n : ℕ) (b : Bool) (c : Carried) → Within n c → Within n (if b outside c)
-if-within n true c h = tt
-if-within n false c h = h
+if-within : (n : ℕ) (b : Bool) (why : Outside) (c : Carried) → Within n c → Within n (if b (outside why) c)
+if-within n true why c h = tt
+if-within n false why c h = h
 
-entered-within : (n : ℕ) (e : Entry) (q : Position) → ((j : ℕ) → e ≡ Item (record { 0 = j }) → j < n) → Within n (enteredAt e q)
-entered-within n (Item i) q h = h (i .0) refl
-entered-within n Nothing q h = tt
+entered-within : (n : ℕ) (why : Outside) (e : Entry) (q : Position) → ((j : ℕ) → e ≡ Item (record { 0 = j }) → j < n) → Within n (enteredAt why e q)
+entered-within n why (Item i) q h = h (i .0) refl
+entered-within n why Nothing q h = tt
 
 module _ (machine : Machine) (base : ℕ) (l : Listing) where
-  transferred-within : (a : ℕ) (q : Position) → Within (l .count) (transferred machine base l a q)
-  transferred-within a q = entered-within (l .count) (entryAt base l a) q (λ j e. found base l a j e .item)
+  transferred-within : (why : Outside) (a : ℕ) (q : Position) → Within (l .count) (transferred machine base l why a q)
+  transferred-within why a q = entered-within (l .count) why (entryAt base l a) q (λ j e. found base l a j e .item)
 
   handled-by-within : (p : Position) (t : Turned) (e : Ended) → Within (l .count) (handledBy machine base l p t e)
   handled-by-within p t (Stopped x) = tt
-  handled-by-within p t Went = transferred-within (cellAt (machine .order) (t .memory) handlerCell) (thrownTo p t)
-  handled-by-within p t (Threw f) = transferred-within (cellAt (machine .order) (t .memory) handlerCell) (thrownTo p t)
+  handled-by-within p t Went = transferred-within NoHandler (cellAt (machine .order) (t .memory) handlerCell) (thrownTo p t)
+  handled-by-within p t (Threw f) = transferred-within NoHandler (cellAt (machine .order) (t .memory) handlerCell) (thrownTo p t)
 
   handled-within : (p : Position) (t : Turned) → Within (l .count) (handled machine base l p t)
   handled-within p t = handled-by-within p t (t .turn .ended)
@@ -57,27 +59,27 @@ module _ (machine : Machine) (base : ℕ) (l : Listing) where
   thrown-within p f =
       if-within (l .count)
       (writesImage machine base l (pushOf (difference (p .sp) 4) f (placeOf machine oneCell Push (length (p .memory)) (difference (p .sp) 4))))
-      (handled machine base l p (throwOf machine (p .memory) (registersAt machine base l p) f))
+      WritesImage (handled machine base l p (throwOf machine (p .memory) (registersAt machine base l p) f))
       (handled-within p (throwOf machine (p .memory) (registersAt machine base l p) f))
 
   ran-on-within : (p : Position) → Within (l .count) (ranOn machine base l p)
   ran-on-within p = go (ltb (suc (p .item)) (l .count)) refl
     where
       go : (b : Bool) → ltb (suc (p .item)) (l .count) ≡ b
-          → Within (l .count) (if b (on (movedTo (suc (p .item)) (not (isImmediate (formAt (layout l) (p .item)))) p)) outside)
+          → Within (l .count) (if b (on (movedTo (suc (p .item)) (not (isImmediate (formAt (layout l) (p .item)))) p)) (outside PastEnd))
       go true q = ltb-true (suc (p .item)) (l .count) q
       go false q = tt
 
   followed-within : (c : Control) (p : Position) → Within (l .count) (followed machine base l c p)
   followed-within goOn p = ran-on-within p
-  followed-within (jump a) p = transferred-within a p
+  followed-within (jump a) p = transferred-within NoEntry a p
   followed-within (halt x) p = tt
   followed-within throwing p = handled-within p (throwingOf machine (p .memory) (registersAt machine base l p))
 
   acted-within : (p : Position) (x : Action) (c : Checked) → Within (l .count) (acted machine base l p x c)
   acted-within p x (Bad f) = thrown-within p f
   acted-within p x Good =
-      if-within (l .count) (writesImage machine base l (x .stores)) (followed machine base l (x .control) (actedTo machine p x))
+      if-within (l .count) (writesImage machine base l (x .stores)) WritesImage (followed machine base l (x .control) (actedTo machine p x))
       (followed-within (x .control) (actedTo machine p x))
 
   carried-within : (p : Position) (e : Effect) → Within (l .count) (carriedBy machine base l p e)
