@@ -28,16 +28,19 @@ budgeted order base m sp rp r q a =
       registers = cyclesOf (machineOf order) (r .cycles) s .turn .registers;
       answer =
           rw (q, a .exact)
-          (ap (λ (x : List ℕ). ranTo x (ranAs (cyclesOf (machineOf order) (r .cycles) s .turn .registers) (r .cycles) (cyclesOf (machineOf order) (r .cycles) s .turn .ended))) (a .memory)
-          ∙ ap (ranTo (r .position .memory))
+          (ap (λ (x : List ℕ). ranTo given (r .cycles) x (ranAs (cyclesOf (machineOf order) (r .cycles) s .turn .registers) (r .cycles) (cyclesOf (machineOf order) (r .cycles) s .turn .ended))) (a .memory)
+          ∙ ap (ranTo given (r .cycles) (r .position .memory))
           (ran-as (cyclesOf (machineOf order) (r .cycles) s .turn .registers) (r .cycles) (cyclesOf (machineOf order) (r .cycles) s .turn .ended)
           ∙ ap (λ (x : Stop). ranWith x (cyclesOf (machineOf order) (r .cycles) s .turn .registers) (r .cycles)) (a .stop)));
       sp-is = a .sp;
       rp-is = a .rp;
     }
   where
+    abbrev given : Registers
+    given = firstRegisters (machineOf order) base m sp rp
+
     s : Turned
-    s = begun m (firstRegisters (machineOf order) base m sp rp)
+    s = begun m given
 
 pub run-follows : RunFollows
 run-follows order base l m sp rp k q ok holds =

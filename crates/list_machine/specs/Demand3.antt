@@ -87,7 +87,8 @@ pub record RunAgrees (order base : ℕ) (m : List ℕ) (sp rp : ℕ) (r : Run) :
   pub registers : Registers
   pub answer :
       runAnswer order m (firstRegisters (machineOf order) base m sp rp) (r .cycles)
-      ≡ ranTo (r .position .memory) (ranWith (stopIn (r .course)) registers (r .cycles))
+      ≡ ranTo (firstRegisters (machineOf order) base m sp rp) (r .cycles) (r .position .memory)
+      (ranWith (stopIn (r .course)) registers (r .cycles))
   pub sp-is : registers .sp ≡ r .position .sp
   pub rp-is : registers .rp ≡ r .position .rp
 
