@@ -11,7 +11,7 @@ use Rattle.cell.proofs.PlaceLaws.{room, good-byte}
 use Rattle.machine.specs.Places.{oneByte, oneCell, placeOf}
 use Rattle.machine.specs.declared.Access.{Access}
 use Rattle.machine.specs.Effects.{Store, effectOf}
-use Rattle.machine.specs.Commits.{placesOf, storedOf, stepped, raisedOf, settledOf, faultOf, commitOf, raised}
+use Rattle.machine.specs.Commits.{firstBad, placesOf, storedOf, stepped, raisedOf, settledOf, faultOf, commitOf, raised}
 use Rattle.machine.specs.declared.Machine.{Machine}
 use Rattle.machine.specs.declared.Registers.{Registers}
 use Rattle.machine.specs.declared.Then.{Then}
@@ -53,3 +53,13 @@ room-place machine access len a w e = room len a w e
 pub room-byte : (machine : Machine) (access : Access) (len a : ℕ) → placeOf machine oneByte access len a ≡ Good → a < len
 unfolding placeOf
 room-byte machine access len a e = good-byte len a e
+
+-- of two places, the first bad one
+pub first-good : (c : Checked) → firstBad c Good ≡ c
+first-good Good = refl
+first-good (Bad f) = refl
+
+-- where none is bad, the first is good
+pub both-good : (c d : Checked) → firstBad c d ≡ Good → c ≡ Good
+both-good Good d e = refl
+both-good (Bad f) d e = cc

@@ -1,15 +1,22 @@
--- The loop of ROLL: what is still to be stored, with the values of the start, gives the memory that is asked for.
+-- The loops of ROLL: the places that are still to be judged decide for all; and what is still to be stored, with the values of the start, gives the
+-- memory that is asked for.
 use mathlib.Core.Path.{_≡_, refl, sym, _∙_, ap}
 use mathlib.Core.List.{List, []}
 use mathlib.Core.Logic.{inr}
-use Prim.Native.Nat.{ℕ, zero, suc, _+_, _-_, _*_, _<_, _≤_}
+use Prim.Native.Nat.{ℕ, zero, suc, _+_, _-_, _*_, _%_, _<_, _≤_}
 use native.Mathlib.Omega.{arith}
 use lib.ListN.{length}
 use Rattle.cell.specs.Memory.{cellAt, storeCell, Alike}
 use Rattle.cell.proofs.MemoryLaws.{cell-alike, cell-frame, alike-refl, alike-trans, alike-narrow, store-length}
+use Rattle.cell.specs.declared.Checked.{Checked}
+use Rattle.cell.specs.declared.Checked.the-variants.{Good, Bad}
+use Rattle.cell.specs.declared.Fault.{Fault}
+use Rattle.machine.specs.Places.{oneCell, placeOf}
 use Rattle.machine.specs.Effects.{rollStores, rolled}
-use Rattle.machine.specs.Commits.{storedOf}
+use Rattle.machine.specs.Commits.{placesOf, storedOf}
 use Rattle.machine.specs.declared.Machine.{Machine}
+use Rattle.machine.specs.declared.Access.the-variants.{DataWrite}
+use Rattle.machine.proofs.CommitLaws.{first-good, both-good, room-place}
 
 pub record Rolling (machine : Machine) (m0 : List ℕ) (top depth last : ℕ) (m : List ℕ) (k : ℕ) : Type 0 where
   pub within : k ≤ depth
@@ -67,3 +74,45 @@ pub roll-done : (machine : Machine) (m0 : List ℕ) (top depth last : ℕ) (m : 
 roll-done machine m0 top depth last m zero m2 n e h q s =
     rw (rolled-some (machine .order) m0 top depth n, ← e) (q ∙ roll-ends machine m0 top depth last m s)
 roll-done machine m0 top depth last m (suc k) m2 n e h q s = absurd (omega arith)
+
+-- the places from the k-th up decide for all
+pub record Judging (machine : Machine) (m : List ℕ) (top depth k : ℕ) : Type 0 where
+  pub within : k ≤ depth
+  pub ahead :
+      placesOf machine (length m) (rolled (machine .order) m top depth)
+      ≡ placesOf machine (length m) (rollStores (machine .order) m top (cellAt (machine .order) m (top + 4 * depth)) k)
+
+module _ (machine : Machine) (m : List ℕ) (top depth : ℕ) where
+  pub judge-begins : (depth ≡ 0 → ⊥) → Judging machine m top depth depth
+  judge-begins n =
+      record { within = omega arith; ahead = ap (placesOf machine (length m)) (rolled-some (machine .order) m top depth n) }
+
+  -- a bad place
+  pub judge-bad : (k : ℕ) (c : Checked) (f : Fault) → 0 < k → c ≡ placeOf machine oneCell DataWrite (length m) (top + 4 * k) → c ≡ Bad f
+      → Judging machine m top depth k → c ≡ placesOf machine (length m) (rolled (machine .order) m top depth)
+  unfolding placesOf rollStores
+  judge-bad zero c f h e b s = absurd (omega arith)
+  judge-bad (suc k) c f h e b s = b ∙ sym (s .ahead ∙ simp (sym e ∙ b))
+
+  -- one place passed
+  pub judge-again : (k : ℕ) (c : Checked) → 0 < k → c ≡ placeOf machine oneCell DataWrite (length m) (top + 4 * k) → c ≡ Good
+      → Judging machine m top depth k → Judging machine m top depth (k - 1)
+  unfolding placesOf rollStores
+  judge-again zero c h e g s = absurd (omega arith)
+  judge-again (suc k) c h e g s =
+      let n : suc k - 1 ≡ k = omega arith in
+      rw n (record { within = omega (arith, s .within); ahead = s .ahead ∙ rw (sym e ∙ g) })
+
+  -- the top one, the last
+  pub judge-done : (k : ℕ) (c : Checked) → k ≤ 0 → c ≡ placeOf machine oneCell DataWrite (length m) top
+      → Judging machine m top depth k → c ≡ placesOf machine (length m) (rolled (machine .order) m top depth)
+  unfolding placesOf rollStores
+  judge-done zero c h e s = e ∙ sym (s .ahead ∙ first-good _)
+  judge-done (suc k) c h e s = absurd (omega arith)
+
+-- where all places are good, the cells lie in memory
+pub rolled-room : (machine : Machine) (m : List ℕ) (top depth : ℕ) → length m % 4 ≡ 0
+    → placesOf machine (length m) (rolled (machine .order) m top depth) ≡ Good → 0 < depth → top + 4 * depth + 4 ≤ length m
+unfolding placesOf rollStores
+rolled-room machine m top zero w e h = absurd (omega arith)
+rolled-room machine m top (suc u) w e h = room-place machine DataWrite (length m) (top + 4 * suc u) w (both-good _ _ e)

@@ -20,6 +20,7 @@ use Rattle.machine.specs.declared.MaybeStore.{MaybeStore}
 use Rattle.machine.specs.declared.TwoStores.{TwoStores}
 use Rattle.machine.specs.declared.ThreeStores.{ThreeStores}
 use Rattle.machine.specs.declared.ByteStore.{ByteStore}
+use Rattle.machine.specs.declared.RollStores.{RollStores}
 
 -- one place to be written, and the value
 pub record Store : Type 0 where
@@ -98,3 +99,7 @@ byteStores e = record { width = oneByte; access = NamedWrite; at = e .at .0; val
 
 abbrev pub byteStore : ByteStore → Effect
 byteStore e = effectOf (e .sp) (e .rp) (byteStores e) (e .then)
+
+-- ROLL's values are those of the memory m, before its stores
+abbrev pub rollEffect : ℕ → List ℕ → RollStores → Effect
+rollEffect order m e = effectOf (e .sp) (e .rp) (rolled order m (e .top .0) (e .depth .0)) (e .then)

@@ -45,9 +45,12 @@ badStack = 2 ^ 32 - 258
 abbrev pub badHandler : ℕ
 badHandler = 2 ^ 32 - 259
 
--- the cells at 0h, 8h and Ch: 'THROW, 'BAD, -ADDRESS
+-- the cells at 0h, 4h, 8h and Ch: 'THROW, MEMORY, 'BAD, -ADDRESS
 abbrev pub handlerCell : ℕ
 handlerCell = 0
+
+abbrev pub memoryCell : ℕ
+memoryCell = 4
 
 abbrev pub badCell : ℕ
 badCell = 8

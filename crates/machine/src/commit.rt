@@ -43,6 +43,7 @@ pub fn raise(r: Registers, place: Checked) -> Step
     ensures { λ s. ⌜ s ≡ commits.raisedOf r place ⌝ }
 {
     match place {
+        // never reached: every call stands where the place is not good
         Checked::Good => Step {
             registers: Registers {
                 ep: r.ep,
@@ -73,6 +74,7 @@ fn outcome_of(then: Then) -> Outcome
         Then::Jump(_) => Outcome::Next,
         Then::Halt(x) => Outcome::Halt(x),
         Then::Throw => Outcome::Throw,
+        // never reached: a commit settles once `fault_of` has found no fault
         Then::Raise(f) => Outcome::Raise(f),
     }
 }
@@ -85,6 +87,7 @@ fn ep_of(then: Then, ep: u32) -> u32
         Then::Jump(to) => to.0,
         Then::Halt(_) => ep,
         Then::Throw => ep,
+        // never reached, as above
         Then::Raise(_) => ep,
     }
 }
@@ -110,7 +113,7 @@ fn put(machine: Machine, memory: &mut [u8], w: Write)
     ensures { λ r. ⌜ now (memory .exit) ≡ mem.storeCell (machine .order) (now (memory .entry)) (w .at .0) (w .value) ⌝ }
 {
     let at = w.at;
-    store(machine.order, memory, at.0 as usize, w.value)
+    store(machine.order, memory, at, w.value)
 }
 
 fn check_write(machine: Machine, length: usize, w: Write) -> Checked

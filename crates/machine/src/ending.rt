@@ -13,6 +13,11 @@ use crate::Outcome;
 use crate::Registers;
 use crate::Step;
 use crate::Turn;
+use crate::fixed::ADDRESS_CELL;
+use crate::fixed::BAD_CELL;
+use crate::fixed::BAD_HANDLER;
+use crate::fixed::BAD_STACK;
+use crate::fixed::HANDLER_CELL;
 use crate::places::check_place;
 use crate::places::fetch;
 use cell::Address;
@@ -24,6 +29,7 @@ use cell::memory::store;
 use cell::number::add;
 use cell::number::subtract;
 use cell::place::fault_code;
+use cell::place::fault_in;
 
 // The registers once A is the cell at h.
 fn enter(h: u32, x: u32, r: Registers) -> Registers
@@ -51,7 +57,7 @@ fn to_handler(machine: Machine, memory: &[u8], r: Registers, ended: Ended, h: u3
                 sp: r.sp,
                 rp: r.rp,
             },
-            ended: Ended::Stopped(0xFFFFFEFD),
+            ended: Ended::Stopped(BAD_HANDLER),
         };
     };
     Turn {
@@ -75,8 +81,8 @@ pub fn handle(machine: Machine, memory: &mut [u8], r: Registers, ended: Ended) -
     requires { ⌜ 16 ≤ length (now memory) ⌝ }
     ensures { λ t. ⌜ throws.turnedTo (now (memory .exit)) t ≡ throws.handlerOf machine (now (memory .entry)) r ended ⌝ }
 {
-    store(machine.order, memory, 8, r.ep);
-    let h = load(machine.order, memory, 0);
+    store(machine.order, memory, BAD_CELL, r.ep);
+    let h = load(machine.order, memory, HANDLER_CELL);
     to_handler(
         machine,
         memory,
@@ -97,8 +103,8 @@ fn note(machine: Machine, memory: &mut [u8], f: Fault)
     ensures { λ u. ⌜ now (memory .exit) ≡ throws.noted machine (now (memory .entry)) f ⌝ }
 {
     match f {
-        Fault::Range(a) => store(machine.order, memory, 12, a.0),
-        Fault::Alignment(a) => store(machine.order, memory, 12, a.0),
+        Fault::Range(a) => store(machine.order, memory, ADDRESS_CELL, a.0),
+        Fault::Alignment(a) => store(machine.order, memory, ADDRESS_CELL, a.0),
         Fault::Divisor => (),
         Fault::Illegal => (),
         Fault::Library => (),
@@ -120,11 +126,11 @@ pub fn throw(machine: Machine, memory: &mut [u8], r: Registers, f: Fault) -> Tur
                 sp: r.sp,
                 rp: r.rp,
             },
-            ended: Ended::Stopped(0xFFFFFEFE),
+            ended: Ended::Stopped(BAD_STACK),
         };
     };
     note(machine, memory, f);
-    store(machine.order, memory, sp as usize, fault_code(f));
+    store(machine.order, memory, Address(sp), fault_code(f));
     handle(
         machine,
         memory,
@@ -164,7 +170,7 @@ fn throw_given(machine: Machine, memory: &mut [u8], r: Registers) -> Turn
             sp: r.sp,
             rp: r.rp,
         },
-        ended: Ended::Stopped(0xFFFFFEFE),
+        ended: Ended::Stopped(BAD_STACK),
     }
 }
 
@@ -174,21 +180,8 @@ pub fn next(machine: Machine, memory: &mut [u8], r: Registers) -> Turn
     ensures { λ t. ⌜ throws.turnedTo (now (memory .exit)) t ≡ throws.nextOf machine (now (memory .entry)) r ⌝ }
 {
     let got = fetch(machine, Access::Stream, memory, Address(r.ep));
-    match got {
-        Fetched::Cell(x) => Turn {
-            registers: enter(
-                r.ep,
-                x,
-                Registers {
-                    ep: r.ep,
-                    a: r.a,
-                    sp: r.sp,
-                    rp: r.rp,
-                },
-            ),
-            ended: Ended::Went,
-        },
-        Fetched::Failed(f) => throw(
+    let Fetched::Cell(x) = got else {
+        return throw(
             machine,
             memory,
             Registers {
@@ -197,8 +190,21 @@ pub fn next(machine: Machine, memory: &mut [u8], r: Registers) -> Turn
                 sp: r.sp,
                 rp: r.rp,
             },
-            f,
+            fault_in(got),
+        );
+    };
+    Turn {
+        registers: enter(
+            r.ep,
+            x,
+            Registers {
+                ep: r.ep,
+                a: r.a,
+                sp: r.sp,
+                rp: r.rp,
+            },
         ),
+        ended: Ended::Went,
     }
 }
 

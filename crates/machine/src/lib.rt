@@ -2,10 +2,12 @@
 
 pub mod commit;
 pub mod ending;
+pub mod fixed;
 pub mod places;
 pub mod roll;
 
 use cell::Address;
+use cell::CellCount;
 use cell::Fault;
 
 // What goes with every call and is no register.
@@ -42,7 +44,16 @@ pub struct Write {
     pub value: u32,
 }
 
-// What follows an instruction's writes.
+// What follows has three types, one for each stage of a cycle. `Then` is what an instruction asks for, or the fault of its reading; in specs/ an effect
+// is the fault or has the other four as its `Control`. `Outcome` is what the commit made of it: a jump has set EP and NEXT is to come, and a bad place is
+// a fault too. `Ended` is what the cycle came to when that was carried out.
+//   Then::GoOn      Outcome::Went      Ended::Went
+//   Then::Jump      Outcome::Next      Ended::Went; where NEXT fails, as Raise
+//   Then::Halt      Outcome::Halt      Ended::Stopped with its reason
+//   Then::Throw     Outcome::Throw     Ended::Went, or Stopped with -258 or -259
+//   Then::Raise     Outcome::Raise     Ended::Threw, or Stopped with -258 or -259
+
+// What an instruction asks for behind its writes.
 pub enum Then {
     GoOn,
     Jump(Address),
@@ -51,7 +62,8 @@ pub enum Then {
     Raise(Fault),
 }
 
-// What an instruction asks for, by the number of cells that it writes: the new stack pointers, the writes in order, and what follows.
+// What an instruction asks for, by the number of cells that it writes: the new stack pointers, the writes in order, and what follows. Where a fault
+// follows, pointers and writes are invented: the commit looks at the fault first, and never reads them.
 pub struct NoStore {
     pub sp: u32,
     pub rp: u32,
@@ -97,6 +109,15 @@ pub struct ByteStore {
     pub rp: u32,
     pub at: Address,
     pub value: u32,
+    pub then: Then,
+}
+
+// ROLL: the item `depth` below the top one comes to the top, which lies at `top` once the operand is popped.
+pub struct RollStores {
+    pub sp: u32,
+    pub rp: u32,
+    pub top: Address,
+    pub depth: CellCount,
     pub then: Then,
 }
 

@@ -11,11 +11,11 @@ fetch-requires c κs = search needs
 enum-known-got : tie.Need-enum-known-got
 enum-known-got c = search needs
 
-enter-requires : tie.Need-enter-requires
-enter-requires c κs = search needs
+enum-told : tie.Need-enum-told
+enum-told c = search needs
 
-enum-known-got-2 : tie.Need-enum-known-got-2
-enum-known-got-2 c = search needs
+fault-in-requires : tie.Need-fault-in-requires
+fault-in-requires c κs = search needs
 
 throw-requires : tie.Need-throw-requires
 throw-requires c κs = search needs
@@ -25,14 +25,17 @@ same-length c = search needs
 
 returns : tie.Need-returns
 unfolding throws.nextOf
-returns c = rw (sym (c .before .before .before .before .fetch .ensures) ∙ c .before .before .got .given .1, c .enter .ensures)
+returns c = rw (sym (c .before .before .before .before .before .before .before .fetch .ensures) ∙ c .before .before .before .fault-in .ensures) (c .before .before .throw .ensures)
+
+enter-requires : tie.Need-enter-requires
+enter-requires c κs = search needs
 
 same-length-2 : tie.Need-same-length-2
 same-length-2 c = search needs
 
 returns-2 : tie.Need-returns-2
 unfolding throws.nextOf
-returns-2 c = rw (sym (c .before .before .before .before .before .before .before .fetch .ensures) ∙ c .before .before .before .before .before .got2 .given .1) (c .before .before .throw .ensures)
+returns-2 c = rw (sym (c .before .before .before .before .fetch .ensures) ∙ c .before .before .got .given .1, c .enter .ensures)
 
 pub next-spec : {M : Type 1} → statement M
 next-spec =
@@ -40,10 +43,11 @@ next-spec =
     (tie.spec
     fetch-requires
     enum-known-got
-    enter-requires
-    enum-known-got-2
+    enum-told
+    fault-in-requires
     throw-requires
     same-length
     returns
+    enter-requires
     same-length-2
     returns-2)

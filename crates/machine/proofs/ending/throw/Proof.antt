@@ -29,9 +29,6 @@ returns c = rw (← c .before .before .before .subtract .ensures, sym (c .before
 note-requires : tie.Need-note-requires
 note-requires c κs = search needs
 
-cast-store : tie.Need-cast-store
-cast-store c = search needs
-
 fault-code-requires : tie.Need-fault-code-requires
 fault-code-requires c κs = search needs
 
@@ -58,7 +55,6 @@ throw-spec =
     enum-told-2
     returns
     note-requires
-    cast-store
     fault-code-requires
     store-requires
     handle-requires
