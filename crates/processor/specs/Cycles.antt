@@ -4,7 +4,7 @@ use Prim.Native.Nat.{ℕ, zero, suc, _-_, _%_}
 use lib.ListN.{length}
 use Rattle.cell.specs.Memory.{storeCell}
 use Rattle.cell.specs.Shift.{asr8}
-use Rattle.machine.specs.Throws.{Turned, turned, finishOf, nextOf, handlerCell, badCell, addressCell}
+use Rattle.machine.specs.Throws.{Turned, turned, finishOf, nextOf, handlerCell, memoryCell, badCell, addressCell}
 use Rattle.machine.specs.declared.Machine.{Machine}
 use Rattle.machine.specs.declared.Registers.{Registers}
 use Rattle.machine.specs.declared.Ended.{Ended}
@@ -36,7 +36,7 @@ cyclesOf machine (suc n) s = cyclesOf machine n (advance machine s)
 abbrev pub fourCells : Machine → List ℕ → ℕ → List ℕ
 fourCells machine m handler =
     storeCell (machine .order)
-    (storeCell (machine .order) (storeCell (machine .order) (storeCell (machine .order) m handlerCell handler) 4 (length m)) badCell
+    (storeCell (machine .order) (storeCell (machine .order) (storeCell (machine .order) m handlerCell handler) memoryCell (length m)) badCell
     0xFFFFFFFF)
     addressCell
     0xFFFFFFFF

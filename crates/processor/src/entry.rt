@@ -20,6 +20,10 @@ use machine::Machine;
 use machine::Registers;
 use machine::Turn;
 use machine::ending::next;
+use machine::fixed::ADDRESS_CELL;
+use machine::fixed::BAD_CELL;
+use machine::fixed::HANDLER_CELL;
+use machine::fixed::MEMORY_CELL;
 
 // The four cells at the start of memory, the registers, then NEXT.
 fn begin(machine: Machine, memory: &mut [u8], ep: Address, handler: Address) -> Turn
@@ -29,10 +33,10 @@ fn begin(machine: Machine, memory: &mut [u8], ep: Address, handler: Address) -> 
     ensures { λ t. ⌜ throws.turnedTo (now (memory .exit)) t ≡ cycles.startOf machine (now (memory .entry)) (ep .0) (handler .0) ⌝ }
 {
     let length = memory.len() as u32;
-    store(machine.order, memory, 0, handler.0);
-    store(machine.order, memory, 4, length);
-    store(machine.order, memory, 8, 0xFFFFFFFF);
-    store(machine.order, memory, 12, 0xFFFFFFFF);
+    store(machine.order, memory, HANDLER_CELL, handler.0);
+    store(machine.order, memory, MEMORY_CELL, length);
+    store(machine.order, memory, BAD_CELL, 0xFFFFFFFF);
+    store(machine.order, memory, ADDRESS_CELL, 0xFFFFFFFF);
     next(
         machine,
         memory,

@@ -23,7 +23,6 @@ pub struct Progress {
 fn turn(machine: Machine, memory: &mut [u8], r: Registers) -> Turn
     requires { ⌜ places.Whole (now memory) ⌝ }
     requires { ⌜ 16 ≤ length (now memory) ⌝ }
-    requires { ⌜ length (now memory) ≤ 16777216 ⌝ }
     ensures { λ t. ⌜ throws.turnedTo (now (memory .exit)) t ≡ cycles.cycleOf machine (now (memory .entry)) r ⌝ }
 {
     let s = execute_one(
@@ -56,7 +55,6 @@ fn is_last(ended: Ended, left: u32) -> bool
 pub fn turns(machine: Machine, memory: &mut [u8], r: Registers, budget: u32) -> Progress
     requires { ⌜ places.Whole (now memory) ⌝ }
     requires { ⌜ 16 ≤ length (now memory) ⌝ }
-    requires { ⌜ length (now memory) ≤ 16777216 ⌝ }
     ensures { λ t. ⌜ t .done ≡ answers.doneOf machine budget (answers.begun (now (memory .entry)) r) ⌝ }
     ensures { λ t. ⌜ throws.turnedTo (now (memory .exit)) (t .turn) ≡ cycles.cyclesOf machine (t .done) (answers.begun (now (memory .entry)) r) ⌝ }
 {

@@ -19,7 +19,7 @@ enum-told : tie.Need-enum-told
 enum-told c = search needs
 
 turns-requires : tie.Need-turns-requires
-turns-requires c κs = let p = passed (length (now (c .before .before .before .before .before .args .memory))) (c .before .before .before .before .before .args .order) (sym (c .before .before .before .judge-machine .ensures) ∙ c .before .enum-told .given .1) in (p .whole, (omega (arith, p .least), p .most))
+turns-requires c κs = let p = passed (length (now (c .before .before .before .before .before .args .memory))) (c .before .before .before .before .before .args .order) (sym (c .before .before .before .judge-machine .ensures) ∙ c .before .enum-told .given .1) in (p .whole, omega (arith, p .least))
 
 ran-as-requires : tie.Need-ran-as-requires
 ran-as-requires c κs = search needs

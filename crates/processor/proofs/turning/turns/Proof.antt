@@ -17,7 +17,7 @@ loop-holds : tie.Need-loop-holds Inv-loop μ-loop
 loop-holds c = run-begins _ _ _ _ refl
 
 turn-requires : tie.Need-turn-requires Inv-loop μ-loop
-turn-requires c κs = (rw (c .before .before .loop .inv .long) (c .before .before .before .before .pre .0), (rw (c .before .before .loop .inv .long) (c .before .before .before .before .pre .1 .0), rw (c .before .before .loop .inv .long) (c .before .before .before .before .pre .1 .1)))
+turn-requires c κs = (rw (c .before .before .loop .inv .long) (c .before .before .before .before .pre .0), rw (c .before .before .loop .inv .long) (c .before .before .before .before .pre .1))
 
 sub-left : tie.Need-sub-left Inv-loop μ-loop
 sub-left c = omega (arith, c .before .before .before .before .loop-test .taken)
