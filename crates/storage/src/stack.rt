@@ -4,6 +4,7 @@ ghost use Rattle.machine.specs.Places as places;
 ghost use Rattle.machine.specs.Effects as effects;
 ghost use Rattle.instruction.specs.Plain as plain;
 use cell::Address;
+use cell::CellCount;
 use cell::Fetched;
 use cell::number::add;
 use cell::number::subtract;
@@ -242,7 +243,7 @@ pub fn pick(machine: Machine, memory: &[u8], r: Registers) -> OneStore
     let Fetched::Cell(u) = got else {
         return fail_one(got);
     };
-    let got2 = fetch_deep(machine, memory, r.sp, u);
+    let got2 = fetch_deep(machine, memory, Address(r.sp), CellCount(u));
     let Fetched::Cell(x) = got2 else {
         return fail_one(got2);
     };
