@@ -114,13 +114,13 @@ pub fn rot(machine: Machine, memory: &[u8], r: Registers) -> ThreeStores
     let Fetched::Cell(x3) = got else {
         return fail_three(got);
     };
-    let got2 = fetch(machine, Access::DataRead, memory, Address(add(r.sp, 4)));
-    let Fetched::Cell(x2) = got2 else {
-        return fail_three(got2);
+    let second = fetch(machine, Access::DataRead, memory, Address(add(r.sp, 4)));
+    let Fetched::Cell(x2) = second else {
+        return fail_three(second);
     };
-    let got3 = fetch(machine, Access::DataRead, memory, Address(add(r.sp, 8)));
-    let Fetched::Cell(x1) = got3 else {
-        return fail_three(got3);
+    let third = fetch(machine, Access::DataRead, memory, Address(add(r.sp, 8)));
+    let Fetched::Cell(x1) = third else {
+        return fail_three(third);
     };
     ThreeStores {
         sp: r.sp,
