@@ -14,6 +14,7 @@ use machine::Machine;
 use machine::NoStore;
 use machine::Registers;
 use machine::Then;
+use machine::fixed::BAD_STACK;
 use machine::places::fetch;
 
 // 55h HALT ( x -- ): an SP that is no valid cell stops the machine with -258.
@@ -26,7 +27,7 @@ pub fn halt(machine: Machine, memory: &[u8], r: Registers) -> NoStore
         return NoStore {
             sp: r.sp,
             rp: r.rp,
-            then: Then::Halt(0xFFFFFEFE),
+            then: Then::Halt(BAD_STACK),
         };
     };
     NoStore {
@@ -45,6 +46,7 @@ pub fn lib(machine: Machine, memory: &[u8], r: Registers) -> NoStore
     let Fetched::Cell(_) = got else {
         return fail_none(got);
     };
+    // the pointers are never read: a fault follows
     NoStore {
         sp: r.sp,
         rp: r.rp,

@@ -293,7 +293,7 @@ moved sp rp = action sp rp [] goOn
 abbrev pub deepAddress : ℕ → ℕ → ℕ
 deepAddress sp u = sp + 4 + 4 * u
 
--- the fault that the code raises for a fetch that failed
+-- the fault that the code raises for a fetch that failed; of a cell nothing is ever asked
 abbrev pub failed : Fetched → Effect
 failed (fetch.Cell x) = raise fault.Illegal
 failed (fetch.Failed f) = raise f

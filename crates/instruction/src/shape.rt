@@ -1,17 +1,22 @@
 // Parts that many effects share.
 ghost use mathlib.Core.Path.{_≡_};
+ghost use mathlib.Core.List.{List};
+ghost use Prim.Native.Nat.{ℕ};
+ghost use Rattle.cell.specs.Place as place;
 ghost use Rattle.machine.specs.Places as places;
 ghost use Rattle.machine.specs.Effects as effects;
 ghost use Rattle.instruction.specs.Plain as plain;
 ghost use Rattle.instruction.specs.Taking as taking;
 use crate::Form;
 use cell::Address;
+use cell::CellCount;
 use cell::Fault;
 use cell::Fetched;
 use cell::Quotient;
 use cell::number::add;
 use cell::number::is_less;
 use cell::number::subtract;
+use cell::place::fault_in;
 use machine::Access;
 use machine::ByteStore;
 use machine::Machine;
@@ -20,6 +25,7 @@ use machine::NoStore;
 use machine::OneStore;
 use machine::Outcome;
 use machine::Registers;
+use machine::RollStores;
 use machine::Step;
 use machine::Then;
 use machine::ThreeStores;
@@ -106,6 +112,7 @@ pub fn maybe_not(sp: u32, rp: u32) -> MaybeStore
         sp: sp,
         rp: rp,
         writes: false,
+        // invented, and never read: nothing is written
         write: Write {
             access: Access::DataWrite,
             at: Address(0),
@@ -115,17 +122,16 @@ pub fn maybe_not(sp: u32, rp: u32) -> MaybeStore
     }
 }
 
-// A fetch that failed, as what follows.
-pub fn failure(got: Fetched) -> Then
+// A fetch that failed, as what follows. The effects below are made of it: what they have beside the fault is invented, and never read (machine/src/lib.rt).
+fn failure(got: Fetched) -> Then
+    requires { ⌜ place.Failing got ⌝ }
     ensures { λ t. ⌜ t ≡ plain.failure got ⌝ }
 {
-    match got {
-        Fetched::Cell(_) => Then::Raise(Fault::Illegal),
-        Fetched::Failed(f) => Then::Raise(f),
-    }
+    Then::Raise(fault_in(got))
 }
 
 pub fn fail_none(got: Fetched) -> NoStore
+    requires { ⌜ place.Failing got ⌝ }
     ensures { λ e. ⌜ effects.noStore e ≡ plain.failed got ⌝ }
 {
     NoStore {
@@ -136,6 +142,7 @@ pub fn fail_none(got: Fetched) -> NoStore
 }
 
 pub fn fail_one(got: Fetched) -> OneStore
+    requires { ⌜ place.Failing got ⌝ }
     ensures { λ e. ⌜ effects.oneStore e ≡ plain.failed got ⌝ }
 {
     OneStore {
@@ -151,6 +158,7 @@ pub fn fail_one(got: Fetched) -> OneStore
 }
 
 pub fn fail_maybe(got: Fetched) -> MaybeStore
+    requires { ⌜ place.Failing got ⌝ }
     ensures { λ e. ⌜ effects.maybeStore e ≡ plain.failed got ⌝ }
 {
     MaybeStore {
@@ -167,6 +175,7 @@ pub fn fail_maybe(got: Fetched) -> MaybeStore
 }
 
 pub fn fail_two(got: Fetched) -> TwoStores
+    requires { ⌜ place.Failing got ⌝ }
     ensures { λ e. ⌜ effects.twoStores e ≡ plain.failed got ⌝ }
 {
     TwoStores {
@@ -187,6 +196,7 @@ pub fn fail_two(got: Fetched) -> TwoStores
 }
 
 pub fn fail_three(got: Fetched) -> ThreeStores
+    requires { ⌜ place.Failing got ⌝ }
     ensures { λ e. ⌜ effects.threeStores e ≡ plain.failed got ⌝ }
 {
     ThreeStores {
@@ -212,6 +222,7 @@ pub fn fail_three(got: Fetched) -> ThreeStores
 }
 
 pub fn fail_byte(got: Fetched) -> ByteStore
+    requires { ⌜ place.Failing got ⌝ }
     ensures { λ e. ⌜ effects.byteStore e ≡ plain.failed got ⌝ }
 {
     ByteStore {
@@ -223,12 +234,26 @@ pub fn fail_byte(got: Fetched) -> ByteStore
     }
 }
 
-// The item u below the top one, at its exact address.
-pub fn fetch_deep(machine: Machine, memory: &[u8], sp: u32, u: u32) -> Fetched
-    requires { ⌜ places.Whole (now memory) ⌝ }
-    ensures { λ f. ⌜ f ≡ plain.fetchDeep machine (now (memory .entry)) (plain.deepAddress sp u) ⌝ }
+pub fn fail_roll(got: Fetched) -> RollStores
+    requires { ⌜ place.Failing got ⌝ }
+    ensures { λ e. ⌜ ((order : ℕ) → (m : List ℕ) → effects.rollEffect order m e ≡ plain.failed got) ⌝ }
+    ensures { λ e. ⌜ effects.Reached e ⌝ }
 {
-    let a = sp as u64 + 4 + 4 * (u as u64);
+    RollStores {
+        sp: 0,
+        rp: 0,
+        top: Address(0),
+        depth: CellCount(0),
+        then: failure(got),
+    }
+}
+
+// The item `depth` below the top one, at its exact address.
+pub fn fetch_deep(machine: Machine, memory: &[u8], sp: Address, depth: CellCount) -> Fetched
+    requires { ⌜ places.Whole (now memory) ⌝ }
+    ensures { λ f. ⌜ f ≡ plain.fetchDeep machine (now (memory .entry)) (plain.deepAddress (sp .0) (depth .0)) ⌝ }
+{
+    let a = sp.0 as u64 + 4 + 4 * (depth.0 as u64);
     if a < 0x1_0000_0000 {
         fetch(machine, Access::DataRead, memory, Address(a as u32))
     } else {

@@ -2,7 +2,7 @@
 -- be written, in the order of the writes. The first fault wins."
 use mathlib.Core.Bool.{Bool, true, false}
 use mathlib.Core.List.{List, [], _∷_}
-use Prim.Native.Nat.{ℕ, zero, suc, _+_, _*_}
+use Prim.Native.Nat.{ℕ, zero, suc, _+_, _*_, _<_, _^_}
 use Rattle.cell.specs.Choice.{if}
 use Rattle.cell.specs.Memory.{cellAt, byte0}
 use Rattle.cell.specs.declared.Fault.{Fault}
@@ -103,3 +103,7 @@ byteStore e = effectOf (e .sp) (e .rp) (byteStores e) (e .then)
 -- ROLL's values are those of the memory m, before its stores
 abbrev pub rollEffect : ℕ → List ℕ → RollStores → Effect
 rollEffect order m e = effectOf (e .sp) (e .rp) (rolled order m (e .top .0) (e .depth .0)) (e .then)
+
+-- the deepest place of ROLL is an address: its item was read there
+abbrev pub Reached : RollStores → Type 0
+Reached e = e .top .0 + 4 * e .depth .0 < 2 ^ 32

@@ -63,7 +63,7 @@ fn roll_cells(machine: Machine, memory: &mut [u8], top: Address, depth: CellCoun
 
 pub fn commit_roll(machine: Machine, memory: &mut [u8], r: Registers, e: RollStores) -> Step
     requires { ⌜ places.Whole (now memory) ⌝ }
-    requires { ⌜ e .top .0 + 4 * e .depth .0 < 2 ^ 32 ⌝ }
+    requires { ⌜ effects.Reached e ⌝ }
     ensures { λ s. ⌜ commits.stepped (now (memory .exit)) s ≡ commits.commitOf machine (now (memory .entry)) r (effects.rollEffect (machine .order) (now (memory .entry)) e) ⌝ }
 {
     let then = e.then;

@@ -4,6 +4,7 @@ ghost use Rattle.machine.specs.Places as places;
 ghost use Rattle.machine.specs.Effects as effects;
 ghost use Rattle.instruction.specs.Plain as plain;
 use cell::Address;
+use cell::CellCount;
 use cell::Fetched;
 use cell::number::add;
 use cell::number::subtract;
@@ -113,13 +114,13 @@ pub fn rot(machine: Machine, memory: &[u8], r: Registers) -> ThreeStores
     let Fetched::Cell(x3) = got else {
         return fail_three(got);
     };
-    let got2 = fetch(machine, Access::DataRead, memory, Address(add(r.sp, 4)));
-    let Fetched::Cell(x2) = got2 else {
-        return fail_three(got2);
+    let second = fetch(machine, Access::DataRead, memory, Address(add(r.sp, 4)));
+    let Fetched::Cell(x2) = second else {
+        return fail_three(second);
     };
-    let got3 = fetch(machine, Access::DataRead, memory, Address(add(r.sp, 8)));
-    let Fetched::Cell(x1) = got3 else {
-        return fail_three(got3);
+    let third = fetch(machine, Access::DataRead, memory, Address(add(r.sp, 8)));
+    let Fetched::Cell(x1) = third else {
+        return fail_three(third);
     };
     ThreeStores {
         sp: r.sp,
@@ -242,7 +243,7 @@ pub fn pick(machine: Machine, memory: &[u8], r: Registers) -> OneStore
     let Fetched::Cell(u) = got else {
         return fail_one(got);
     };
-    let got2 = fetch_deep(machine, memory, r.sp, u);
+    let got2 = fetch_deep(machine, memory, Address(r.sp), CellCount(u));
     let Fetched::Cell(x) = got2 else {
         return fail_one(got2);
     };

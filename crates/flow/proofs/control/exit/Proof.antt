@@ -15,7 +15,7 @@ enum-told : tie.Need-enum-told
 enum-told c = search needs
 
 fail-none-requires : tie.Need-fail-none-requires
-fail-none-requires c κs = search needs
+fail-none-requires c κs = (_, c .enum-told .given .1)
 
 returns : tie.Need-returns
 unfolding plain.plainOf

@@ -15,7 +15,7 @@ enum-told-2 : tie.Need-enum-told-2
 enum-told-2 c = search needs
 
 fail-one-requires : tie.Need-fail-one-requires
-fail-one-requires c κs = search needs
+fail-one-requires c κs = (_, c .enum-told2 .given .1)
 
 returns : tie.Need-returns
 unfolding plain.plainOf
@@ -34,7 +34,7 @@ enum-told-4 : tie.Need-enum-told-4
 enum-told-4 c = search needs
 
 fail-one-requires-2 : tie.Need-fail-one-requires-2
-fail-one-requires-2 c κs = search needs
+fail-one-requires-2 c κs = (_, c .enum-told4 .given .1)
 
 returns-2 : tie.Need-returns-2
 unfolding plain.plainOf
@@ -53,7 +53,7 @@ enum-told-5 : tie.Need-enum-told-5
 enum-told-5 c = search needs
 
 fail-one-requires-3 : tie.Need-fail-one-requires-3
-fail-one-requires-3 c κs = search needs
+fail-one-requires-3 c κs = (_, c .enum-told5 .given .1)
 
 returns-3 : tie.Need-returns-3
 unfolding plain.plainOf

@@ -17,7 +17,7 @@ enum-told : tie.Need-enum-told
 enum-told c = search needs
 
 fail-none-requires : tie.Need-fail-none-requires
-fail-none-requires c κs = search needs
+fail-none-requires c κs = (_, c .enum-told .given .1)
 
 returns : tie.Need-returns
 unfolding taking.takingOf
@@ -40,7 +40,7 @@ enum-told-2 : tie.Need-enum-told-2
 enum-told-2 c = search needs
 
 fail-none-requires-2 : tie.Need-fail-none-requires-2
-fail-none-requires-2 c κs = search needs
+fail-none-requires-2 c κs = (_, c .enum-told2 .given .1)
 
 returns-3 : tie.Need-returns-3
 unfolding taking.takingOf

@@ -19,7 +19,7 @@ enum-told : tie.Need-enum-told
 enum-told c = search needs
 
 fail-maybe-requires : tie.Need-fail-maybe-requires
-fail-maybe-requires c κs = search needs
+fail-maybe-requires c κs = (_, c .enum-told .given .1)
 
 returns : tie.Need-returns
 unfolding taking.takingOf
@@ -38,7 +38,7 @@ enum-told-2 : tie.Need-enum-told-2
 enum-told-2 c = search needs
 
 fail-maybe-requires-2 : tie.Need-fail-maybe-requires-2
-fail-maybe-requires-2 c κs = search needs
+fail-maybe-requires-2 c κs = (_, c .enum-told2 .given .1)
 
 returns-2 : tie.Need-returns-2
 unfolding taking.takingOf
@@ -66,7 +66,7 @@ enum-told-3 : tie.Need-enum-told-3
 enum-told-3 c = search needs
 
 fail-maybe-requires-3 : tie.Need-fail-maybe-requires-3
-fail-maybe-requires-3 c κs = search needs
+fail-maybe-requires-3 c κs = (_, c .enum-told3 .given .1)
 
 returns-4 : tie.Need-returns-4
 returns-4 c = let a = c .before .before .before .before .before .before .before .before .before .before .before .before .before .before .before .before .args in c .fail-maybe3 .ensures ∙ ap plain.failed (c .before .enum-told3 .given .1) ∙ sym (loop-fails (a .machine) (now (a .memory)) (a .r .sp) (a .r .rp) _ _ _ (sym (c .before .before .before .before .before .before .before .before .before .before .before .before .before .before .fetch .ensures) ∙ c .before .before .before .before .before .before .before .before .before .before .before .before .got .given .1) (rw (c .before .before .before .before .before .before .before .before .before .before .add .ensures) at (sym (c .before .before .before .before .before .before .before .before .before .fetch2 .ensures) ∙ c .before .before .before .before .before .before .before .got2 .given .1)) _ _ (ne-eqb _ _ (λ e. c .before .before .before .before .if1 .left (c .before .before .before .before .before .add2 .ensures ∙ e))) (sym (c .before .before .before .branch-operand .ensures) ∙ c .before .enum-told3 .given .1))

@@ -18,7 +18,7 @@ enum-told : tie.Need-enum-told
 enum-told c = search needs
 
 fail-maybe-requires : tie.Need-fail-maybe-requires
-fail-maybe-requires c κs = search needs
+fail-maybe-requires c κs = (_, c .enum-told .given .1)
 
 returns : tie.Need-returns
 unfolding taking.takingOf
@@ -34,7 +34,7 @@ enum-told-2 : tie.Need-enum-told-2
 enum-told-2 c = search needs
 
 fail-maybe-requires-2 : tie.Need-fail-maybe-requires-2
-fail-maybe-requires-2 c κs = search needs
+fail-maybe-requires-2 c κs = (_, c .enum-told2 .given .1)
 
 returns-2 : tie.Need-returns-2
 unfolding taking.takingOf
@@ -53,7 +53,7 @@ enum-told-3 : tie.Need-enum-told-3
 enum-told-3 c = search needs
 
 fail-maybe-requires-3 : tie.Need-fail-maybe-requires-3
-fail-maybe-requires-3 c κs = search needs
+fail-maybe-requires-3 c κs = (_, c .enum-told3 .given .1)
 
 returns-3 : tie.Need-returns-3
 unfolding taking.takingOf
@@ -87,7 +87,7 @@ enum-told-4 : tie.Need-enum-told-4
 enum-told-4 c = search needs
 
 fail-maybe-requires-4 : tie.Need-fail-maybe-requires-4
-fail-maybe-requires-4 c κs = search needs
+fail-maybe-requires-4 c κs = (_, c .enum-told4 .given .1)
 
 returns-5 : tie.Need-returns-5
 returns-5 c = let a = c .before .before .before .before .before .before .before .before .before .before .before .before .before .before .before .before .before .before .before .before .before .args in c .fail-maybe4 .ensures ∙ ap plain.failed (c .before .enum-told4 .given .1) ∙ sym (plus-loop-fails (a .machine) (now (a .memory)) (a .r .sp) (a .r .rp) _ _ _ (sym (c .before .before .before .before .before .before .before .before .before .before .before .before .before .before .before .fetch2 .ensures) ∙ c .before .before .before .before .before .before .before .before .before .before .before .before .before .got2 .given .1) (rw (c .before .before .before .before .before .before .before .before .before .before .before .add .ensures) at (sym (c .before .before .before .before .before .before .before .before .before .before .fetch3 .ensures) ∙ c .before .before .before .before .before .before .before .before .got3 .given .1)) _ (sym (c .before .before .before .before .before .before .before .before .before .before .before .before .before .before .before .before .before .before .before .fetch .ensures) ∙ c .before .before .before .before .before .before .before .before .before .before .before .before .before .before .before .before .before .got .given .1) _ _ (rw (c .before .before .before .before .before .before .add2 .ensures) at (sym (c .before .before .before .before .before .is-crossed .ensures) ∙ c .before .before .before .before .if1 .left)) (sym (c .before .before .before .branch-operand .ensures) ∙ c .before .enum-told4 .given .1))

@@ -15,7 +15,7 @@ enum-told-2 : tie.Need-enum-told-2
 enum-told-2 c = search needs
 
 fail-none-requires : tie.Need-fail-none-requires
-fail-none-requires c κs = search needs
+fail-none-requires c κs = (_, c .enum-told2 .given .1)
 
 returns : tie.Need-returns
 unfolding plain.plainOf
@@ -34,7 +34,7 @@ enum-told-4 : tie.Need-enum-told-4
 enum-told-4 c = search needs
 
 fail-none-requires-2 : tie.Need-fail-none-requires-2
-fail-none-requires-2 c κs = search needs
+fail-none-requires-2 c κs = (_, c .enum-told4 .given .1)
 
 returns-2 : tie.Need-returns-2
 unfolding plain.plainOf

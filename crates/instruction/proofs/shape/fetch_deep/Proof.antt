@@ -4,8 +4,14 @@ use Rattle.instruction.proofs.shape.fetch_deep.Statement.{statement}
 use Rattle.instruction.proofs.shape.fetch_deep.Tie as tie
 use borrow.Author.Tests.{lt-ltb, le-ltb}
 
+cast-a : tie.Need-cast-a
+cast-a c = search needs
+
 add-a : tie.Need-add-a
 add-a c = search needs
+
+cast-a-2 : tie.Need-cast-a-2
+cast-a-2 c = search needs
 
 mul-a : tie.Need-mul-a
 mul-a c = search needs
@@ -30,4 +36,15 @@ returns-2 c = simp (le-ltb _ _ (c .if1 .left))
 
 pub fetch-deep-spec : {M : Type 1} → statement M
 fetch-deep-spec =
-    tie.close (tie.spec add-a mul-a add-a-2 cast-t13 fetch-requires cast-t16 returns returns-2)
+    tie.close
+    (tie.spec
+    cast-a
+    add-a
+    cast-a-2
+    mul-a
+    add-a-2
+    cast-t13
+    fetch-requires
+    cast-t16
+    returns
+    returns-2)

@@ -15,7 +15,7 @@ enum-told : tie.Need-enum-told
 enum-told c = search needs
 
 fail-one-requires : tie.Need-fail-one-requires
-fail-one-requires c κs = search needs
+fail-one-requires c κs = (_, c .enum-told .given .1)
 
 returns : tie.Need-returns
 unfolding plain.plainOf

@@ -4,7 +4,7 @@ use Rattle.operators.proofs.arithmetic.u_slash_mod.Statement.{statement
 use Rattle.operators.proofs.arithmetic.u_slash_mod.Tie as tie
 use Rattle.instruction.specs.Plain as plain
 use borrow.Author.Tests.{eq-eqb, ne-eqb}
-use mathlib.Core.Path.{_∙_, sym, ap}
+use mathlib.Core.Path.{_∙_, sym, ap, refl}
 
 fetch-requires : tie.Need-fetch-requires
 fetch-requires c κs = search needs
@@ -16,7 +16,7 @@ enum-told : tie.Need-enum-told
 enum-told c = search needs
 
 fail-two-requires : tie.Need-fail-two-requires
-fail-two-requires c κs = search needs
+fail-two-requires c κs = (_, c .enum-told .given .1)
 
 returns : tie.Need-returns
 unfolding plain.plainOf
@@ -35,14 +35,14 @@ enum-told-2 : tie.Need-enum-told-2
 enum-told-2 c = search needs
 
 fail-two-requires-2 : tie.Need-fail-two-requires-2
-fail-two-requires-2 c κs = search needs
+fail-two-requires-2 c κs = (_, c .enum-told2 .given .1)
 
 returns-2 : tie.Need-returns-2
 unfolding plain.plainOf
 returns-2 c = simp (sym (c .before .before .before .before .before .before .before .before .fetch .ensures) ∙ c .before .before .before .before .before .before .got .given .1, rw (c .before .before .before .before .add .ensures) at (sym (c .before .before .before .fetch2 .ensures) ∙ c .before .enum-told2 .given .1)) (c .fail-two2 .ensures ∙ ap plain.failed (c .before .enum-told2 .given .1))
 
 fail-two-requires-3 : tie.Need-fail-two-requires-3
-fail-two-requires-3 c κs = search needs
+fail-two-requires-3 c κs = (_, refl)
 
 returns-3 : tie.Need-returns-3
 unfolding plain.plainOf

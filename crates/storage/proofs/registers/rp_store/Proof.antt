@@ -4,7 +4,7 @@ use Rattle.storage.proofs.registers.rp_store.Statement.{statement}
 use Rattle.storage.proofs.registers.rp_store.Tie as tie
 use Rattle.instruction.specs.Plain as plain
 use borrow.Author.Tests.{eq-eqb, ne-eqb}
-use mathlib.Core.Path.{_∙_, sym, ap}
+use mathlib.Core.Path.{_∙_, sym, ap, refl}
 
 fetch-requires : tie.Need-fetch-requires
 fetch-requires c κs = search needs
@@ -16,7 +16,7 @@ enum-told : tie.Need-enum-told
 enum-told c = search needs
 
 fail-none-requires : tie.Need-fail-none-requires
-fail-none-requires c κs = search needs
+fail-none-requires c κs = (_, c .enum-told .given .1)
 
 returns : tie.Need-returns
 unfolding plain.plainOf
@@ -30,7 +30,7 @@ unfolding plain.plainOf
 returns-2 c = simp (sym (c .before .before .before .before .before .fetch .ensures) ∙ c .before .before .before .got .given .1, eq-eqb _ _ (c .before .if1 .taken), c .add .ensures)
 
 fail-none-requires-2 : tie.Need-fail-none-requires-2
-fail-none-requires-2 c κs = search needs
+fail-none-requires-2 c κs = (_, refl)
 
 returns-3 : tie.Need-returns-3
 unfolding plain.plainOf

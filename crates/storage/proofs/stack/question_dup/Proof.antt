@@ -16,7 +16,7 @@ enum-told : tie.Need-enum-told
 enum-told c = search needs
 
 fail-maybe-requires : tie.Need-fail-maybe-requires
-fail-maybe-requires c κs = search needs
+fail-maybe-requires c κs = (_, c .enum-told .given .1)
 
 returns : tie.Need-returns
 unfolding plain.plainOf

@@ -15,7 +15,7 @@ enum-told : tie.Need-enum-told
 enum-told c = search needs
 
 fail-three-requires : tie.Need-fail-three-requires
-fail-three-requires c κs = search needs
+fail-three-requires c κs = (_, c .enum-told .given .1)
 
 returns : tie.Need-returns
 unfolding plain.plainOf
@@ -27,14 +27,14 @@ add-requires c κs = search needs
 fetch-requires-2 : tie.Need-fetch-requires-2
 fetch-requires-2 c κs = search needs
 
-enum-known-got2 : tie.Need-enum-known-got2
-enum-known-got2 c = search needs
+enum-known-second : tie.Need-enum-known-second
+enum-known-second c = search needs
 
 enum-told-2 : tie.Need-enum-told-2
 enum-told-2 c = search needs
 
 fail-three-requires-2 : tie.Need-fail-three-requires-2
-fail-three-requires-2 c κs = search needs
+fail-three-requires-2 c κs = (_, c .enum-told2 .given .1)
 
 returns-2 : tie.Need-returns-2
 unfolding plain.plainOf
@@ -46,18 +46,18 @@ add-requires-2 c κs = search needs
 fetch-requires-3 : tie.Need-fetch-requires-3
 fetch-requires-3 c κs = search needs
 
-enum-known-got3 : tie.Need-enum-known-got3
-enum-known-got3 c = search needs
+enum-known-third : tie.Need-enum-known-third
+enum-known-third c = search needs
 
 enum-told-3 : tie.Need-enum-told-3
 enum-told-3 c = search needs
 
 fail-three-requires-3 : tie.Need-fail-three-requires-3
-fail-three-requires-3 c κs = search needs
+fail-three-requires-3 c κs = (_, c .enum-told3 .given .1)
 
 returns-3 : tie.Need-returns-3
 unfolding plain.plainOf
-returns-3 c = simp (sym (c .before .before .before .before .before .before .before .before .before .before .before .before .before .fetch .ensures) ∙ c .before .before .before .before .before .before .before .before .before .before .before .got .given .1, rw (c .before .before .before .before .before .before .before .before .before .add .ensures) at (sym (c .before .before .before .before .before .before .before .before .fetch2 .ensures) ∙ c .before .before .before .before .before .before .got2 .given .1), rw (c .before .before .before .before .add2 .ensures) at (sym (c .before .before .before .fetch3 .ensures) ∙ c .before .enum-told3 .given .1)) (c .fail-three3 .ensures ∙ ap plain.failed (c .before .enum-told3 .given .1))
+returns-3 c = simp (sym (c .before .before .before .before .before .before .before .before .before .before .before .before .before .fetch .ensures) ∙ c .before .before .before .before .before .before .before .before .before .before .before .got .given .1, rw (c .before .before .before .before .before .before .before .before .before .add .ensures) at (sym (c .before .before .before .before .before .before .before .before .fetch2 .ensures) ∙ c .before .before .before .before .before .before .second .given .1), rw (c .before .before .before .before .add2 .ensures) at (sym (c .before .before .before .fetch3 .ensures) ∙ c .before .enum-told3 .given .1)) (c .fail-three3 .ensures ∙ ap plain.failed (c .before .enum-told3 .given .1))
 
 add-requires-3 : tie.Need-add-requires-3
 add-requires-3 c κs = search needs
@@ -67,7 +67,7 @@ add-requires-4 c κs = search needs
 
 returns-4 : tie.Need-returns-4
 unfolding plain.plainOf
-returns-4 c = simp (sym (c .before .before .before .before .before .before .before .before .before .before .before .before .before .before .before .fetch .ensures) ∙ c .before .before .before .before .before .before .before .before .before .before .before .before .before .got .given .1, rw (c .before .before .before .before .before .before .before .before .before .before .before .add .ensures) at (sym (c .before .before .before .before .before .before .before .before .before .before .fetch2 .ensures) ∙ c .before .before .before .before .before .before .before .before .got2 .given .1), rw (c .before .before .before .before .before .before .add2 .ensures) at (sym (c .before .before .before .before .before .fetch3 .ensures) ∙ c .before .before .before .got3 .given .1), c .before .before .before .before .before .before .before .before .before .before .before .add .ensures, c .before .before .before .before .before .before .add2 .ensures, c .before .add3 .ensures, c .add4 .ensures)
+returns-4 c = simp (sym (c .before .before .before .before .before .before .before .before .before .before .before .before .before .before .before .fetch .ensures) ∙ c .before .before .before .before .before .before .before .before .before .before .before .before .before .got .given .1, rw (c .before .before .before .before .before .before .before .before .before .before .before .add .ensures) at (sym (c .before .before .before .before .before .before .before .before .before .before .fetch2 .ensures) ∙ c .before .before .before .before .before .before .before .before .second .given .1), rw (c .before .before .before .before .before .before .add2 .ensures) at (sym (c .before .before .before .before .before .fetch3 .ensures) ∙ c .before .before .before .third .given .1), c .before .before .before .before .before .before .before .before .before .before .before .add .ensures, c .before .before .before .before .before .before .add2 .ensures, c .before .add3 .ensures, c .add4 .ensures)
 
 pub rot-spec : {M : Type 1} → statement M
 rot-spec =
@@ -80,13 +80,13 @@ rot-spec =
     returns
     add-requires
     fetch-requires-2
-    enum-known-got2
+    enum-known-second
     enum-told-2
     fail-three-requires-2
     returns-2
     add-requires-2
     fetch-requires-3
-    enum-known-got3
+    enum-known-third
     enum-told-3
     fail-three-requires-3
     returns-3
