@@ -133,7 +133,7 @@ module _ (base : ℕ) (l : Listing) (ok : Legal base l) where
       branch-value (classOf (l .kind i)) (formAt (layout l) i) inCell (l .operand i) (mid (layout l) i .next)
       (mid (layout l) (l .operand i) .at) base c q
 
-  -- a call leaves the address of the following cell: the next item's, or the end of the image
+  -- what a call leaves to return to: the next item's cell, or the end of the image
   pub call-leaves : (i : ℕ) → calls (l .kind i) ≡ true → behind base l i ≡ addressOf base l (suc i)
   call-leaves i q = omega (arith, run-on (layout l) i (entry-opens (layout l) (suc i) (call-entry l i q)))
 

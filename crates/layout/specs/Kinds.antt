@@ -1,5 +1,5 @@
--- The kinds of a listing. Document 01, Listings: 52h is the literal; 42h, 44h, 48h, 4Ch, 4Eh are branches; the other opcodes of
--- table 7, LIB included, are plain; NEXT, the immediate opcodes and the five that raise -256 are not kinds.
+-- The kinds of a listing, document 01, Listings: one literal, five branches, and as plain items all opcodes of the table but NEXT, the
+-- immediate ones and those that always raise.
 use mathlib.Core.Bool.{Bool, true, false, _||_}
 use mathlib.Core.List.{List, [], _∷_}
 use Prim.Native.Nat.{ℕ}

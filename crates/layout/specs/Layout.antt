@@ -33,8 +33,8 @@ abbrev pub begin : Bool → Spot → Spot
 begin true c = opening (c .next)
 begin false c = c
 
--- after an item with f bytes left behind its opcode: the immediate form closes the cell; an operand cell joins those after the open
--- cell, which stays open
+-- after an item with f bytes left behind its opcode: the immediate form closes the cell; with an operand cell, which
+-- goes behind all cells so far, it stays open
 abbrev pub finish : Form → ℕ → Spot → Spot
 finish alone f d = record { at = d .at; free = f; next = d .next }
 finish immediate f d = record { at = d .at; free = 0; next = d .next }

@@ -35,7 +35,7 @@ Holds rows = (map rowJudged rows ≡ map (λ r. Passed) rows) × (map rowImage r
 -- the kinds here: 01h DUP, 1Eh, 42h BRANCH, 52h literal, 55h HALT
 abbrev pub worked : List Row
 worked =
-    -- literals 2, 3, then 1Eh, 55h at base 10h
+    -- two literals, + and HALT
     row 0x10 (0x52 ∷ 0x52 ∷ 0x1E ∷ 0x55 ∷ []) (2 ∷ 3 ∷ 0 ∷ 0 ∷ []) (0x00000253 ∷ 0x00000353 ∷ 0x0000551E ∷ [])
     -- after two DUPs literal -1
     ∷ row 0x10 (0x01 ∷ 0x01 ∷ 0x52 ∷ []) (0 ∷ 0 ∷ 0xFFFFFFFF ∷ []) (0xFF530101 ∷ [])

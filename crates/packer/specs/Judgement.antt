@@ -1,5 +1,5 @@
--- What turns a packing back. Document 01: "Turned back for the input", "Turned back for the state", and "Order: -4101, -4102, input list, -4104, -1,
--- -4110, -4105, each where it applies". -4101 and -1 speak of a memory, and a packing has none.
+-- What turns a packing back. Document 01, Turned back for the input, Turned back for the state, and the order below them. -4101 and -1
+-- speak of a memory, and a packing has none.
 use mathlib.Core.List.{List, [], _∷_}
 use Prim.Native.Nat.{ℕ, _*_}
 use lib.Dec.{ltb}
@@ -10,7 +10,7 @@ use Rattle.layout.specs.Listing.{Listing, listed, judgedArrays}
 use Rattle.layout.specs.File.{filed, fileCount, fileBase, judgedLength, judgedFile}
 use Rattle.layout.specs.Packing.{imageCells, judgedPlace}
 
--- -4102: "byte order argument above 1"
+-- -4102: no byte order but 0 and 1
 unfoldable pub judgeOrder : ℕ → Judged
 judgeOrder order = judge (byteOrder order ∷ [])
 
@@ -22,7 +22,7 @@ unfoldable pub judgeHeader : ℕ → List ℕ → Judged
 judgeHeader order file =
     inOrder (judgeOrder order ∷ judgedLength file ∷ judge (manyItems (fileCount file) ∷ []) ∷ [])
 
--- -4105: "a lent output shorter than what the success would write there (for an image, 4 bytes a cell)"
+-- -4105: the output has no room for the image, which takes four bytes a cell
 abbrev pub shortOutput : ℕ → ℕ → Ground
 shortOutput cells size = record { applies = ltb size (4 * cells); refusal = ShortOutput }
 

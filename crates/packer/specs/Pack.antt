@@ -1,5 +1,5 @@
--- What a packing leaves and answers. Document 01: "A refusal gives its number, zero counts, .. all memory and outputs untouched. A success writes its
--- bytes and no others".
+-- What a packing leaves and answers. Document 01, Turned back for the state: a refusal has a number, a count of 0 and leaves the output;
+-- a success changes the bytes of its image alone.
 use mathlib.Core.List.{List}
 use Prim.Native.Nat.{ℕ}
 use lib.ListN.{length}
