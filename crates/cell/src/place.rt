@@ -1,13 +1,22 @@
-// The check of a place, and the fetch.
+// The place of a cell, its check, and the fetch.
 ghost use mathlib.Core.Path.{_≡_};
-ghost use Prim.Native.Nat.{_%_};
+ghost use Prim.Native.Nat.{_+_, _*_, _%_, _<_, _^_};
 ghost use lib.ListN.{length};
 ghost use Rattle.cell.specs.Place as place;
 use crate::Address;
+use crate::CellCount;
 use crate::Checked;
 use crate::Fault;
 use crate::Fetched;
 use crate::memory::load;
+
+// The address of the cell that stands `index` cells behind a base.
+pub fn address_at(base: Address, index: CellCount) -> Address
+    requires { ⌜ base .0 + 4 * index .0 < 2 ^ 32 ⌝ }
+    ensures { λ r. ⌜ r ≡ place.address (base .0 + 4 * index .0) ⌝ }
+{
+    Address(base.0 + 4 * index.0)
+}
 
 pub fn check_byte(length: usize, address: Address) -> Checked
     ensures { λ r. ⌜ r ≡ place.checkByte length (address .0) ⌝ }

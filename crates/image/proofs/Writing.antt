@@ -11,17 +11,16 @@ use lib.Dec.{eqb}
 use lib.ListN.{length, getD, set, take, drop, length-append, take-append-drop}
 use lib.Seq.{sets, sets-eq, length-take-le, take-append-le, take-take, drop-at}
 use Rattle.cell.specs.Shift.{pick}
+use Rattle.cell.specs.declared.Judged.the-variants.{Passed}
 use Rattle.layout.specs.declared.Class.{Class}
-use Rattle.layout.specs.declared.Cursor.{Cursor}
 use Rattle.layout.specs.declared.Form.{Form}
 use Rattle.layout.specs.Bytes.{pack}
 use Rattle.layout.specs.declared.Class.the-variants.{Plain as plain, Literal as literal, Branch as branch, NoKind as noKind}
 use Rattle.layout.specs.Kinds.{classOf, isBranch}
 use Rattle.layout.specs.Flags.{bit, flagged}
-use Rattle.layout.specs.Refusals.{accepted}
 use Rattle.layout.specs.Listing.{Listing, judgedListing}
 use Rattle.layout.specs.declared.Form.the-variants.{Alone as alone, Immediate as immediate, InCell as inCell}
-use Rattle.layout.specs.Layout.{begin, extra, Plan, cur, opens, mid, left, formAt, Laid}
+use Rattle.layout.specs.Layout.{Spot, begin, extra, Plan, cur, opens, mid, left, formAt, Laid}
 use Rattle.layout.specs.Image.{byteOf, above, opened, joined, word, cells}
 use Rattle.layout.specs.Packing.{formOf, branchValue, valueOf, marks, layout, value, image, imageCells}
 use Rattle.layout.specs.Output.{cellBytes, bytesOf, written, joinedAt, openedAt}
@@ -85,7 +84,7 @@ operand-front alone order o cells end a x h = rw add-zero
 operand-front immediate order o cells end a x h = rw add-zero
 operand-front inCell order o cells end a x h = store-front order o cells end a x h
 
-pub open-front : (b : Bool) (order : ℕ) (o cells end : List ℕ) (c : Cursor) (w : ℕ) → 4 * begin b c .next ≤ length o
+pub open-front : (b : Bool) (order : ℕ) (o cells end : List ℕ) (c : Spot) (w : ℕ) → 4 * begin b c .next ≤ length o
     → openedAt b order (from order (begin b c .next) cells o end) (begin b c .at) w ≡ from order (c .next) (opened b w cells) o end
 open-front true order o cells end c w h = store-front order o cells end (c .next) w h
 open-front false order o cells end c w h = refl
@@ -152,11 +151,11 @@ module _ (order base : ℕ) (l : Listing) (o : List ℕ) (room : 4 * imageCells 
             ap (λ (a : ℕ). from order a (cells p (l .kind) (value base l) (l .count - suc j) (suc j)) o (drop (4 * imageCells l) o)) (next-after p j)
 
     -- the turn, over what the code has
-    pub write-turn : (g : Form) (v f at ep w r : ℕ) (out1 out2 : List ℕ) → g ≡ formAt p j → v ≡ value base l j → f ≡ left p j
-        → at ≡ mid p j .at → ep ≡ mid p j .next → w ≡ pack (byteOf g (l .kind j)) (above g false v rest)
-        → r ≡ pick (eqb f 3) 0 w → out1 ≡ joinedAt g order out ep v → out2 ≡ openedAt (eqb f 3) order out1 at w
+    pub write-turn : (g : Form) (v f at next w r : ℕ) (out1 out2 : List ℕ) → g ≡ formAt p j → v ≡ value base l j → f ≡ left p j
+        → at ≡ mid p j .at → next ≡ mid p j .next → w ≡ pack (byteOf g (l .kind j)) (above g false v rest)
+        → r ≡ pick (eqb f 3) 0 w → out1 ≡ joinedAt g order out next v → out2 ≡ openedAt (eqb f 3) order out1 at w
         → length out2 ≡ length out → WriteTurn order base l o out2 r j
-    write-turn g v f at ep w r out1 out2 qg qv qf qa qe qw qr q1 q2 z =
+    write-turn g v f at next w r out1 out2 qg qv qf qa qe qw qr q1 q2 z =
         let b : eqb f 3 ≡ opens p j = ap (λ (k : ℕ). eqb k 3) qf ∙ sym (opens-is p j) in
         let y : w ≡ wordAt = qw ∙ rw (qg, qv) word-is in
         record {
@@ -171,9 +170,9 @@ module _ (order base : ℕ) (l : Listing) (o : List ℕ) (room : 4 * imageCells 
         }
 
     -- there is room for the cells of the item
-    pub operand-room : (g : Form) (ep : ℕ) → l .count ≤ 4096 → g ≡ formAt p j → ep ≡ mid p j .next
-        → (ep ≤ 8192) × (4 * (ep + extra g) ≤ length out)
-    operand-room g ep m qg qe =
+    pub operand-room : (g : Form) (next : ℕ) → l .count ≤ 4096 → g ≡ formAt p j → next ≡ mid p j .next
+        → (next ≤ 8192) × (4 * (next + extra g) ≤ length out)
+    operand-room g next m qg qe =
         rw (qg, qe) (omega (arith, ends-inside, at-most p (l .count)), omega (arith, ends-inside, t .size))
 
     pub open-room : (f at : ℕ) → l .count ≤ 4096 → at ≡ mid p j .at → (at ≤ 8192) × (4 * (at + bit (eqb f 3)) ≤ length out)
@@ -188,24 +187,24 @@ module _ (order base : ℕ) (l : Listing) (o : List ℕ) (room : 4 * imageCells 
       (rw e at (t .out-is))
       ∙ rw (let z : l .count - 0 ≡ l .count = omega arith in z, image-size (layout l) (l .kind) (value base l) (l .count))
 
-value-same : (c : Class) (g : Form) (x ep to goal base : ℕ) → (c ≡ branch → to ≡ goal) → valueOf c g x ep to base ≡ valueOf c g x ep goal base
-value-same plain g x ep to goal base h = refl
-value-same literal g x ep to goal base h = refl
-value-same branch g x ep to goal base h = ap (λ (k : ℕ). branchValue g ep k base) (h refl)
-value-same noKind g x ep to goal base h = refl
+value-same : (c : Class) (g : Form) (x next to goal base : ℕ) → (c ≡ branch → to ≡ goal) → valueOf c g x next to base ≡ valueOf c g x next goal base
+value-same plain g x next to goal base h = refl
+value-same literal g x next to goal base h = refl
+value-same branch g x next to goal base h = ap (λ (k : ℕ). branchValue g next k base) (h refl)
+value-same noKind g x next to goal base h = refl
 
 -- what the code reads at item j of the settled layout
-module _ (base : ℕ) (l : Listing) (ok : judgedListing l ≡ accepted) (flags ats eps lefts : List ℕ)
-    (laid : Laid (layout l) ats eps lefts (l .count)) (marked : flagged flags ≡ marks l) (j : ℕ) (h : j < l .count) where
+module _ (base : ℕ) (l : Listing) (ok : judgedListing l ≡ Passed) (flags ats nexts lefts : List ℕ)
+    (laid : Laid (layout l) ats nexts lefts (l .count)) (marked : flagged flags ≡ marks l) (j : ℕ) (h : j < l .count) where
   pub form-is : formOf (classOf (l .kind j)) (flagged flags j) (l .operand j) (getD lefts j 0) ≡ formAt (layout l) j
   form-is = rw (laid .left j h) (ap (λ (m : ℕ → Bool). formOf (classOf (l .kind j)) (m j) (l .operand j) (left (layout l) j)) marked)
 
   pub value-is : (g : Form) → g ≡ formAt (layout l) j
-      → valueOf (classOf (l .kind j)) g (l .operand j) (getD eps j 0)
+      → valueOf (classOf (l .kind j)) g (l .operand j) (getD nexts j 0)
       (pick (isBranch (classOf (l .kind j))) (getD ats (l .operand j) 0) 0) base
       ≡ value base l j
   value-is g q =
-      rw (q, laid .ep j h)
+      rw (q, laid .next j h)
       (value-same (classOf (l .kind j)) (formAt (layout l) j) (l .operand j) (mid (layout l) j .next) _ _ base
       (λ b. rw b (laid .at (l .operand j) (target-below l ok j h b))))
 

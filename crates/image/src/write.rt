@@ -1,4 +1,6 @@
 // Cells of an image, and their bytes in a lent output.
+use cell::Address;
+use cell::CellCount;
 use layout::Form;
 use layout::ItemNumber;
 use listing::entries::is_branch;
@@ -12,6 +14,7 @@ ghost use mathlib.Core.Path.{_≡_};
 ghost use Prim.Native.Nat.{_+_, _*_, _≤_, _<_};
 ghost use lib.ListN.{length, getD};
 ghost use lib.Seq.{sets};
+ghost use Rattle.cell.specs.Memory.{cellCount};
 ghost use Rattle.cell.specs.Shift.{pick};
 ghost use Rattle.layout.specs.Kinds.{classOf, isBranch};
 ghost use Rattle.layout.specs.Bytes.{pack};
@@ -41,11 +44,11 @@ fn put_bytes(out: &mut [u8], at: usize, a: u8, b: u8, c: u8, d: u8)
 }
 
 // Stores a cell at its index.
-fn put_cell(order: u8, out: &mut [u8], cell: u32, x: u32)
-    requires { ⌜ (cell ≤ 8192) × (4 * cell + 4 ≤ length (now out)) ⌝ }
-    ensures { λ r. ⌜ now (out .exit) ≡ sets (now (out .entry)) (4 * cell) (cellBytes order x) ⌝ }
+fn put_cell(order: u8, out: &mut [u8], index: CellCount, x: u32)
+    requires { ⌜ (index .0 ≤ 8192) × (4 * index .0 + 4 ≤ length (now out)) ⌝ }
+    ensures { λ r. ⌜ now (out .exit) ≡ sets (now (out .entry)) (4 * index .0) (cellBytes order x) ⌝ }
 {
-    let at = 4 * (cell as usize);
+    let at = 4 * (index.0 as usize);
     let a = low(x % 256);
     let b = low(x / 256 % 256);
     let c = low(x / 65536 % 256);
@@ -89,32 +92,32 @@ fn pack_of(b: u32, x: u32) -> u32
 }
 
 // The index of a branch's target.
-fn target_of(kind: u8, x: u32, ats: &[u32]) -> u32
+fn target_of(kind: u8, x: u32, ats: &[u32]) -> CellCount
     requires { ⌜ (isBranch (classOf kind) ≡ true → x < length (now ats)) ⌝ }
-    ensures { λ r. ⌜ r ≡ pick (isBranch (classOf kind)) (getD (now (ats .entry)) x 0) 0 ⌝ }
+    ensures { λ r. ⌜ r ≡ cellCount (pick (isBranch (classOf kind)) (getD (now (ats .entry)) x 0) 0) ⌝ }
 {
     if is_branch(kind) {
         return place_of(ats, ItemNumber(x));
     }
-    0
+    CellCount(0)
 }
 
 // Stores the operand cell of an item that has one.
-fn put_operand(order: u8, out: &mut [u8], g: Form, ep: u32, v: u32)
-    requires { ⌜ (ep ≤ 8192) × (4 * (ep + extra g) ≤ length (now out)) ⌝ }
-    ensures { λ r. ⌜ now (out .exit) ≡ joinedAt g order (now (out .entry)) ep v ⌝ }
+fn put_operand(order: u8, out: &mut [u8], g: Form, next: CellCount, v: u32)
+    requires { ⌜ (next .0 ≤ 8192) × (4 * (next .0 + extra g) ≤ length (now out)) ⌝ }
+    ensures { λ r. ⌜ now (out .exit) ≡ joinedAt g order (now (out .entry)) (next .0) v ⌝ }
 {
     match g {
         Form::Alone => {}
         Form::Immediate => {}
-        Form::InCell => put_cell(order, out, ep, v),
+        Form::InCell => put_cell(order, out, next, v),
     }
 }
 
 // Stores the cell of an item that opens one. The answer stands above the item before it.
-fn put_opened(order: u8, out: &mut [u8], opens: bool, at: u32, w: u32) -> u32
-    requires { ⌜ (at ≤ 8192) × (4 * (at + bit opens) ≤ length (now out)) ⌝ }
-    ensures { λ r. ⌜ (r ≡ pick opens 0 w) × (now (out .exit) ≡ openedAt opens order (now (out .entry)) at w) ⌝ }
+fn put_opened(order: u8, out: &mut [u8], opens: bool, at: CellCount, w: u32) -> u32
+    requires { ⌜ (at .0 ≤ 8192) × (4 * (at .0 + bit opens) ≤ length (now out)) ⌝ }
+    ensures { λ r. ⌜ (r ≡ pick opens 0 w) × (now (out .exit) ≡ openedAt opens order (now (out .entry)) (at .0) w) ⌝ }
 {
     if opens {
         put_cell(order, out, at, w);
@@ -129,15 +132,23 @@ struct Packed {
     value: u32,
 }
 
-// The form and the value of an item with operand x, f bytes left behind its opcode, and ep the index of its EP value.
-fn pack_item(kind: u8, marked: bool, x: u32, f: u32, ep: u32, ats: &[u32], base: u32) -> Packed
-    requires { ⌜ (f ≤ 3) × (base ≤ 16777216) × (isBranch (classOf kind) ≡ true → (x < length (now ats)) × (getD (now ats) x 0 ≤ 8192)) ⌝ }
-    ensures { λ r. ⌜ (r .form ≡ formOf (classOf kind) marked x f) × (r .value ≡ valueOf (classOf kind) (r .form) x ep (pick (isBranch (classOf kind)) (getD (now (ats .entry)) x 0) 0) base) ⌝ }
+// The form and the value of an item with operand x, f bytes left behind its opcode, and next the index of its EP value.
+fn pack_item(
+    kind: u8,
+    marked: bool,
+    x: u32,
+    f: u32,
+    next: CellCount,
+    ats: &[u32],
+    base: Address,
+) -> Packed
+    requires { ⌜ (f ≤ 3) × (base .0 ≤ 16777216) × (isBranch (classOf kind) ≡ true → (x < length (now ats)) × (getD (now ats) x 0 ≤ 8192)) ⌝ }
+    ensures { λ r. ⌜ (r .form ≡ formOf (classOf kind) marked x f) × (r .value ≡ valueOf (classOf kind) (r .form) x (next .0) (pick (isBranch (classOf kind)) (getD (now (ats .entry)) x 0) 0) (base .0)) ⌝ }
 {
     let c = class_of(kind);
     let g = form_of(c, marked, x, f);
     let to = target_of(kind, x, ats);
-    let v = value_of(c, g, x, ep, to, base);
+    let v = value_of(c, g, x, next, to, base);
     Packed { form: g, value: v }
 }
 
@@ -153,34 +164,34 @@ fn word_of(kind: u8, g: Form, v: u32, rest: u32) -> u32
 // Writes the image of a settled layout, from the last item to the first.
 pub fn write_image(
     order: u8,
-    base: u32,
+    base: Address,
     kinds: &[u8],
     operands: &[u32],
     marks: &[u8],
     ats: &[u32],
-    eps: &[u32],
+    nexts: &[u32],
     lefts: &[u32],
     out: &mut [u8],
 )
     requires { ⌜ Checked (now kinds) (now operands) ⌝ }
-    requires { ⌜ (length (now marks) ≡ length (now kinds)) × (length (now ats) ≡ length (now kinds)) × (length (now eps) ≡ length (now kinds)) × (length (now lefts) ≡ length (now kinds)) ⌝ }
+    requires { ⌜ (length (now marks) ≡ length (now kinds)) × (length (now ats) ≡ length (now kinds)) × (length (now nexts) ≡ length (now kinds)) × (length (now lefts) ≡ length (now kinds)) ⌝ }
     requires { ⌜ flagged (now marks) ≡ marksOf (listed (now kinds) (now operands)) ⌝ }
-    requires { ⌜ Laid (layout (listed (now kinds) (now operands))) (now ats) (now eps) (now lefts) (length (now kinds)) ⌝ }
-    requires { ⌜ (base ≤ 16777216) × (4 * imageCells (listed (now kinds) (now operands)) ≤ length (now out)) ⌝ }
-    ensures { λ r. ⌜ now (out .exit) ≡ written order (image base (listed (now (kinds .entry)) (now (operands .entry)))) (now (out .entry)) ⌝ }
+    requires { ⌜ Laid (layout (listed (now kinds) (now operands))) (now ats) (now nexts) (now lefts) (length (now kinds)) ⌝ }
+    requires { ⌜ (base .0 ≤ 16777216) × (4 * imageCells (listed (now kinds) (now operands)) ≤ length (now out)) ⌝ }
+    ensures { λ r. ⌜ now (out .exit) ≡ written order (image (base .0) (listed (now (kinds .entry)) (now (operands .entry)))) (now (out .entry)) ⌝ }
 {
     let mut i = kinds.len();
     let mut rest: u32 = 0;
     while 0 < i {
         i -= 1;
         let f = lefts[i];
-        let ep = eps[i];
+        let next = CellCount(nexts[i]);
         let kind = kinds[i];
-        let p = pack_item(kind, marks[i] == 1, operands[i], f, ep, ats, base);
+        let p = pack_item(kind, marks[i] == 1, operands[i], f, next, ats, base);
         let g = p.form;
         let v = p.value;
-        put_operand(order, out, g, ep, v);
+        put_operand(order, out, g, next, v);
         let w = word_of(kind, g, v, rest);
-        rest = put_opened(order, out, f == 3, ats[i], w);
+        rest = put_opened(order, out, f == 3, CellCount(ats[i]), w);
     }
 }

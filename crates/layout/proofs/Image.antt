@@ -10,16 +10,15 @@ use native.Mathlib.Omega.{arith}
 use lib.ListN.{length, getD, drop}
 use lib.Seq.{drop-drop, getD-drop}
 use Rattle.cell.specs.Shift.{asr8}
-use Rattle.layout.specs.declared.Cursor.{Cursor}
 use Rattle.layout.specs.declared.Form.{Form}
 use Rattle.layout.specs.Bytes.{fits, shifts}
-use Rattle.layout.specs.Layout.{begin, finish, Plan, cur, opens, mid, left, formAt, alone, immediate, inCell}
+use Rattle.layout.specs.Layout.{Spot, begin, finish, Plan, cur, opens, mid, left, formAt, alone, immediate, inCell}
 use Rattle.layout.specs.Image.{byteOf, above, opened, joined, word, cells, reg}
 use Rattle.layout.proofs.Bytes.{Fits, fits-case, fits-zero, fits-pack, asr-above, pack-low, pack-below}
 use Rattle.layout.proofs.Placing.{left-le, same}
 
 -- the cells from an item's first on, less what the item opens and joins
-skip : (o : Bool) (g : Form) (f : ℕ) (c : Cursor) (img l : List ℕ) (w v : ℕ)
+skip : (o : Bool) (g : Form) (f : ℕ) (c : Spot) (img l : List ℕ) (w v : ℕ)
     → drop (c .next) img ≡ opened o w (joined g v l) → drop (finish g f (begin o c) .next) img ≡ l
 skip true alone f c img l w v e = sym (drop-drop 1 (c .next) img) ∙ ap (drop 1) e
 skip true immediate f c img l w v e = sym (drop-drop 1 (c .next) img) ∙ ap (drop 1) e
@@ -29,7 +28,7 @@ skip false alone f c img l w v e = e
 skip false immediate f c img l w v e = e
 skip false inCell f c img l w v e = sym (drop-drop 1 (c .next) img) ∙ ap (drop 1) e
 
-size-of : (o : Bool) (g : Form) (f : ℕ) (c : Cursor) (l : List ℕ) (w v : ℕ)
+size-of : (o : Bool) (g : Form) (f : ℕ) (c : Spot) (l : List ℕ) (w v : ℕ)
     → c .next + length (opened o w (joined g v l)) ≡ finish g f (begin o c) .next + length l
 size-of true alone f c l w v = omega arith
 size-of true immediate f c l w v = omega arith
@@ -39,7 +38,7 @@ size-of false immediate f c l w v = refl
 size-of false inCell f c l w v = omega arith
 
 -- an item's operand cell, behind the cell that it opens
-operand-of : (o : Bool) (c : Cursor) (img l : List ℕ) (w v : ℕ)
+operand-of : (o : Bool) (c : Spot) (img l : List ℕ) (w v : ℕ)
     → drop (c .next) img ≡ opened o w (v ∷ l) → getD img (begin o c .next) 0 ≡ v
 operand-of true c img l w v e = sym (getD-drop (c .next) img 1 0) ∙ ap (λ (s : List ℕ). getD s 1 0) e
 operand-of false c img l w v e =

@@ -1,17 +1,22 @@
 -- What an accepted listing has: kinds below 5Ch, plain operands 0, targets among the items; and its entries.
 -- Assumes nothing.
 use mathlib.Core.Path.{_≡_, refl, sym, ap, _∙_}
-use mathlib.Core.Bool.{Bool, true, false, _||_, true≢false}
+use mathlib.Core.Bool.{Bool, true, false, not, _||_, true≢false}
+use mathlib.Core.List.{[], _∷_}
 use Prim.Native.Nat.{ℕ, zero, suc, _+_, _≤_, _<_}
 use native.Mathlib.Decide.{decLt}
 use native.Mathlib.Omega.{arith}
-use borrow.Author.Tests.{eqb-true, ltb-true, ltb-false, eqb-false, eq-eqb}
-use lib.Dec.{eqb, ltb}
-use Rattle.cell.specs.Shift.{pick}
+use borrow.Author.Tests.{eqb-true, leb-false, ltb-false, eqb-false, eq-eqb, not-false}
+use lib.Dec.{eqb, leb, ltb}
+use Rattle.cell.specs.Refusals.{judge}
+use Rattle.cell.specs.declared.Refusal.the-variants as refusal
+use Rattle.cell.specs.declared.Judged.the-variants.{Passed}
+use Rattle.cell.proofs.BooleanLaws.{neither}
+use Rattle.cell.proofs.JudgementLaws.{both-pass, one-clear}
 use Rattle.layout.specs.declared.Class.{Class}
 use Rattle.layout.specs.Kinds.{classOf, isBranch, plain, literal, branch, noKind}
-use Rattle.layout.specs.Refusals.{accepted, first}
-use Rattle.layout.specs.Listing.{Listing, any, targets, calls, afterCall, entry, judged, judgedFrom, judgedCount, judgedListing}
+use Rattle.layout.specs.Grounds.{itemCount}
+use Rattle.layout.specs.Listing.{Listing, any, targets, calls, afterCall, entry, judged, judgedFrom, judgedListing}
 use Rattle.layout.proofs.Classes.{high-is-none}
 
 -- every kind is below 5Ch
@@ -22,29 +27,21 @@ kind-low k h = go (decLt k 0x5C)
     go (yes l) = l
     go (no l) = absurd (h (sym (high-is-none k (omega arith))))
 
-pub first-none : (a b : ℕ) → first a b ≡ accepted → (a ≡ accepted) × (b ≡ accepted)
-first-none zero b e = (refl, e)
-first-none (suc a) b e = absurd (omega arith)
-
 -- an item that is not turned back
-judged-kind : (c : Class) (n x : ℕ) → judged c n x ≡ accepted → c ≡ noKind → ⊥
+judged-kind : (c : Class) (n x : ℕ) → judged c n x ≡ Passed → c ≡ noKind → ⊥
 judged-kind plain n x e q = let z : _≡_ {A = ℕ} 0 1 = cc in omega arith
 judged-kind literal n x e q = let z : _≡_ {A = ℕ} 0 1 = cc in omega arith
 judged-kind branch n x e q = let z : _≡_ {A = ℕ} 0 1 = cc in omega arith
-judged-kind noKind n x e q = omega arith
+judged-kind noKind n x e q = let z : _≡_ {A = ℕ} 0 1 = cc in omega arith
 
-pick-none : (b : Bool) (k : ℕ) → pick b accepted (suc k) ≡ accepted → b ≡ true
-pick-none true k e = refl
-pick-none false k e = absurd (omega arith)
-
-judged-target : (c : Class) (n x : ℕ) → judged c n x ≡ accepted → c ≡ branch → x < n
+judged-target : (c : Class) (n x : ℕ) → judged c n x ≡ Passed → c ≡ branch → x < n
 judged-target plain n x e q = absurd (let z : _≡_ {A = ℕ} 0 1 = cc in omega arith)
 judged-target literal n x e q = absurd (let z : _≡_ {A = ℕ} 0 1 = cc in omega arith)
-judged-target branch n x e q = ltb-true x n (pick-none (ltb x n) _ e)
+judged-target branch n x e q = leb-false n x (one-clear (leb n x) refusal.Target Passed e .0)
 judged-target noKind n x e q = absurd (let z : _≡_ {A = ℕ} 0 1 = cc in omega arith)
 
-judged-plain : (c : Class) (n x : ℕ) → judged c n x ≡ accepted → c ≡ plain → x ≡ 0
-judged-plain plain n x e q = eqb-true x 0 (pick-none (eqb x 0) _ e)
+judged-plain : (c : Class) (n x : ℕ) → judged c n x ≡ Passed → c ≡ plain → x ≡ 0
+judged-plain plain n x e q = eqb-true x 0 (not-false (eqb x 0) (one-clear (not (eqb x 0)) refusal.PlainOperand Passed e .0))
 judged-plain literal n x e q = absurd (let z : _≡_ {A = ℕ} 0 1 = cc in omega arith)
 judged-plain branch n x e q = absurd (let z : _≡_ {A = ℕ} 0 1 = cc in omega arith)
 judged-plain noKind n x e q = absurd (let z : _≡_ {A = ℕ} 0 1 = cc in omega arith)
@@ -88,22 +85,22 @@ is-branch literal q = cc
 is-branch branch q = refl
 is-branch noKind q = cc
 
-module _ (l : Listing) (ok : judgedListing l ≡ accepted) where
-  items-from : (k i : ℕ) → judgedFrom l k i ≡ accepted → (j : ℕ) → i ≤ j → j < i + k
-      → judged (classOf (l .kind j)) (l .count) (l .operand j) ≡ accepted
+module _ (l : Listing) (ok : judgedListing l ≡ Passed) where
+  items-from : (k i : ℕ) → judgedFrom l k i ≡ Passed → (j : ℕ) → i ≤ j → j < i + k
+      → judged (classOf (l .kind j)) (l .count) (l .operand j) ≡ Passed
   unfolding judgedFrom
   items-from zero i e j a b = absurd (omega arith)
-  items-from (suc k) i e j a b = go (decLt i j) (first-none _ _ e) (λ q c. items-from k (suc i) q j c (omega arith))
+  items-from (suc k) i e j a b = go (decLt i j) (both-pass _ _ e) (λ q c. items-from k (suc i) q j c (omega arith))
     where
-      go : Dec (i < j) → (judged (classOf (l .kind i)) (l .count) (l .operand i) ≡ accepted) × (judgedFrom l k (suc i) ≡ accepted)
-          → (judgedFrom l k (suc i) ≡ accepted → suc i ≤ j → judged (classOf (l .kind j)) (l .count) (l .operand j) ≡ accepted)
-          → judged (classOf (l .kind j)) (l .count) (l .operand j) ≡ accepted
+      go : Dec (i < j) → (judged (classOf (l .kind i)) (l .count) (l .operand i) ≡ Passed) × (judgedFrom l k (suc i) ≡ Passed)
+          → (judgedFrom l k (suc i) ≡ Passed → suc i ≤ j → judged (classOf (l .kind j)) (l .count) (l .operand j) ≡ Passed)
+          → judged (classOf (l .kind j)) (l .count) (l .operand j) ≡ Passed
       go (yes c) q f = f (q .1) c
       go (no c) q f = rw (let t : j ≡ i = omega arith in t) (q .0)
 
-  item-judged : (i : ℕ) → i < l .count → judged (classOf (l .kind i)) (l .count) (l .operand i) ≡ accepted
+  item-judged : (i : ℕ) → i < l .count → judged (classOf (l .kind i)) (l .count) (l .operand i) ≡ Passed
   unfolding judgedListing
-  item-judged i h = items-from (l .count) 0 (first-none (judgedCount (l .count)) (judgedFrom l (l .count) 0) ok .1) i (omega arith) (omega arith)
+  item-judged i h = items-from (l .count) 0 (both-pass (judge (itemCount (l .count) ∷ [])) (judgedFrom l (l .count) 0) ok .1) i (omega arith) (omega arith)
 
   pub kind-below : (i : ℕ) → i < l .count → l .kind i < 0x5C
   kind-below i h = kind-low (l .kind i) (judged-kind _ _ _ (item-judged i h))
@@ -119,13 +116,11 @@ module _ (l : Listing) (ok : judgedListing l ≡ accepted) where
 
   pub some-item : (0 < l .count) × (l .count ≤ 4096)
   unfolding judgedListing
-  some-item = go (eqb (l .count) 0) refl (ltb 4096 (l .count)) refl (first-none _ _ ok .0)
+  some-item =
+      let e = one-clear (eqb (l .count) 0 || ltb 4096 (l .count)) refusal.ItemCount Passed (both-pass _ (judgedFrom l (l .count) 0) ok .0) in
+      let t = neither (eqb (l .count) 0) (ltb 4096 (l .count)) (e .0) in
+      (nonzero (l .count) (eqb-false (l .count) 0 (t .0)), ltb-false 4096 (l .count) (t .1))
     where
-      go : (a : Bool) → eqb (l .count) 0 ≡ a → (b : Bool) → ltb 4096 (l .count) ≡ b → pick (a || b) 4106 0 ≡ 0 → (0 < l .count) × (l .count ≤ 4096)
-      go true p b q e = absurd (omega arith)
-      go false p true q e = absurd (omega arith)
-      go false p false q e = (nonzero (l .count) (eqb-false (l .count) 0 p), ltb-false 4096 (l .count) q)
-        where
-          nonzero : (n : ℕ) → (n ≡ 0 → ⊥) → 0 < n
-          nonzero zero h = absurd (h refl)
-          nonzero (suc n) h = omega arith
+      nonzero : (n : ℕ) → (n ≡ 0 → ⊥) → 0 < n
+      nonzero zero h = absurd (h refl)
+      nonzero (suc n) h = omega arith

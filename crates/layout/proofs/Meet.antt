@@ -8,11 +8,10 @@ use native.Mathlib.Omega.{arith}
 use lib.ListN.{length, getD}
 use Rattle.cell.specs.Shift.{asr8}
 use Rattle.layout.specs.declared.Class.{Class}
-use Rattle.layout.specs.declared.Cursor.{Cursor}
 use Rattle.layout.specs.declared.Form.{Form}
 use Rattle.layout.specs.Kinds.{classOf, literal, branch}
 use Rattle.layout.specs.Listing.{Listing, calls, entry}
-use Rattle.layout.specs.Layout.{begin, extra, cur, opens, mid, formAt, alone, immediate, inCell}
+use Rattle.layout.specs.Layout.{Spot, begin, extra, cur, opens, mid, formAt, alone, immediate, inCell}
 use Rattle.layout.specs.Image.{byteOf, above}
 use Rattle.layout.specs.Packing.{valueOf, branchValue, value, layout, image, addressOf, epValue, register, behind, Legal}
 use Rattle.layout.proofs.Placing.{same, closes, next-after, run-on, reach, entry-opens}
@@ -29,10 +28,10 @@ above-immediate alone o v w q = cc
 above-immediate immediate o v w q = refl
 above-immediate inCell o v w q = cc
 
-branch-value : (c : Class) (g h : Form) (x ep to base : ℕ) → c ≡ branch → g ≡ h → valueOf c g x ep to base ≡ branchValue h ep to base
-branch-value c g h x ep to base p q = rw (p, q)
+branch-value : (c : Class) (g h : Form) (x next to base : ℕ) → c ≡ branch → g ≡ h → valueOf c g x next to base ≡ branchValue h next to base
+branch-value c g h x next to base p q = rw (p, q)
 
-begin-after : (o : Bool) (c : Cursor) → o ≡ true → begin o c .next ≡ begin o c .at + 1
+begin-after : (o : Bool) (c : Spot) → o ≡ true → begin o c .next ≡ begin o c .at + 1
 begin-after true c q = refl
 begin-after false c q = cc
 
@@ -124,9 +123,9 @@ module _ (base : ℕ) (l : Listing) (ok : Legal base l) where
       (omega (arith, placed base l ok .inside, ep-inside base l ok i h))
       (omega (arith, placed base l ok .inside, at-inside base l ok (l .operand i) (target i h c .0)))
     where
-      lands : (ep to : ℕ) → base + 4 * ep ≤ 16777216 → base + 4 * to ≤ 16777216
-          → (base + 4 * ep + 4 * branchValue immediate ep to base) % 2 ^ 32 ≡ base + 4 * to
-      lands ep to a b = omega arith
+      lands : (next to : ℕ) → base + 4 * next ≤ 16777216 → base + 4 * to ≤ 16777216
+          → (base + 4 * next + 4 * branchValue immediate next to base) % 2 ^ 32 ≡ base + 4 * to
+      lands next to a b = omega arith
 
   pub branch-cell : (i : ℕ) → classOf (l .kind i) ≡ branch → formAt (layout l) i ≡ inCell
       → value base l i ≡ addressOf base l (l .operand i)

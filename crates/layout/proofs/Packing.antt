@@ -7,21 +7,23 @@ use native.Mathlib.Omega.{arith}
 use borrow.Author.Tests.{not-false, eqb-true, ltb-false}
 use lib.Dec.{eqb, ltb}
 use lib.ListN.{length, getD}
-use Rattle.cell.specs.Shift.{pick}
+use Rattle.cell.specs.declared.Refusal.the-variants.{Unaligned, Base}
+use Rattle.cell.specs.declared.Judged.the-variants.{Passed}
+use Rattle.cell.proofs.BooleanLaws.{neither}
+use Rattle.cell.proofs.JudgementLaws.{one-clear}
 use Rattle.layout.specs.declared.Class.{Class}
 use Rattle.layout.specs.declared.Form.{Form}
 use Rattle.layout.specs.Bytes.{fits}
 use Rattle.layout.specs.Kinds.{classOf, plain, literal, branch, noKind}
-use Rattle.layout.specs.Refusals.{first}
 use Rattle.layout.specs.Listing.{Listing}
 use Rattle.layout.specs.Layout.{mid, left, formAt, alone, immediate, inCell}
 use Rattle.layout.specs.Image.{byteOf}
 use Rattle.layout.specs.Rounds.{settled}
-use Rattle.layout.specs.Packing.{taking, formOf, distance, branchValue, valueOf, newIn, newOf, plan, distanceAt, new, marks, layout, value, image, imageCells, Legal}
+use Rattle.layout.specs.Packing.{taking, formOf, distance, branchValue, valueOf, newIn, newOf, plan, distanceAt, new, marks, layout, value, image, imageCells, judgedPlace, Legal}
 use Rattle.layout.proofs.Placing.{at-before, reach}
 use Rattle.layout.proofs.Image.{Decoded, theorem1, image-size, cells-below}
 use Rattle.layout.proofs.Rounds.{settled-adds-none}
-use Rattle.layout.proofs.Listing.{first-none, kind-below, target-below}
+use Rattle.layout.proofs.Listing.{kind-below, target-below}
 
 -- only an unmarked branch is marked
 only-taking : (m : Bool) (f : ℕ) (b : Bool) → newIn (taking m f) b ≡ true → m ≡ false
@@ -50,14 +52,14 @@ new-immediate alone b q e = cc
 new-immediate immediate b q e = not-false b e
 new-immediate inCell b q e = cc
 
-fits-of : (c : Class) (m : Bool) (x f ep to base : ℕ) → formOf c m x f ≡ immediate
-    → newOf c (formOf c m x f) (fits f (distance ep to)) ≡ false
-    → fits f (valueOf c (formOf c m x f) x ep to base) ≡ true
-fits-of plain m x f ep to base q e = cc
-fits-of literal m x f ep to base q e = not-false (fits f x) (taking-immediate (not (fits f x)) f q)
-fits-of branch m x f ep to base q e =
-    ap (λ (g : Form). fits f (branchValue g ep to base)) q ∙ new-immediate (taking m f) (fits f (distance ep to)) q e
-fits-of noKind m x f ep to base q e = cc
+fits-of : (c : Class) (m : Bool) (x f next to base : ℕ) → formOf c m x f ≡ immediate
+    → newOf c (formOf c m x f) (fits f (distance next to)) ≡ false
+    → fits f (valueOf c (formOf c m x f) x next to base) ≡ true
+fits-of plain m x f next to base q e = cc
+fits-of literal m x f next to base q e = not-false (fits f x) (taking-immediate (not (fits f x)) f q)
+fits-of branch m x f next to base q e =
+    ap (λ (g : Form). fits f (branchValue g next to base)) q ∙ new-immediate (taking m f) (fits f (distance next to)) q e
+fits-of noKind m x f next to base q e = cc
 
 pub immediates-fit : (base : ℕ) (l : Listing) (i : ℕ) → i < l .count → formAt (layout l) i ≡ immediate
     → fits (left (layout l) i) (value base l i) ≡ true
@@ -73,14 +75,14 @@ byte-low immediate k h = omega arith
 byte-low inCell k h = omega arith
 
 -- an operand cell's value: a literal's, or a target's address
-value-below : (c : Class) (g : Form) (x ep to base : ℕ) → x < 2 ^ 32 → (c ≡ branch → base + 4 * to < 2 ^ 32)
-    → valueOf c g x ep to base < 2 ^ 32
-value-below plain g x ep to base h k = omega arith
-value-below literal g x ep to base h k = h
-value-below branch alone x ep to base h k = omega arith
-value-below branch immediate x ep to base h k = omega arith
-value-below branch inCell x ep to base h k = k refl
-value-below noKind g x ep to base h k = omega arith
+value-below : (c : Class) (g : Form) (x next to base : ℕ) → x < 2 ^ 32 → (c ≡ branch → base + 4 * to < 2 ^ 32)
+    → valueOf c g x next to base < 2 ^ 32
+value-below plain g x next to base h k = omega arith
+value-below literal g x next to base h k = h
+value-below branch alone x next to base h k = omega arith
+value-below branch immediate x next to base h k = omega arith
+value-below branch inCell x next to base h k = k refl
+value-below noKind g x next to base h k = omega arith
 
 -- what -4104 and -4110 leave
 pub record Placed (base size : ℕ) : Type 0 where
@@ -88,18 +90,16 @@ pub record Placed (base size : ℕ) : Type 0 where
   pub above-cells : 0x10 ≤ base
   pub inside : base + 4 * size ≤ 16777216
 
-pub base-of : (base size : ℕ)
-    → first (pick (eqb (base % 4) 0) 0 4104) (pick (ltb base 0x10 || ltb 16777216 (base + 4 * size)) 4110 0) ≡ 0
-    → Placed base size
-base-of base size e = go (eqb (base % 4) 0) refl (ltb base 0x10) refl (ltb 16777216 (base + 4 * size)) refl (first-none _ _ e)
-  where
-    go : (a : Bool) → eqb (base % 4) 0 ≡ a → (b : Bool) → ltb base 0x10 ≡ b → (d : Bool) → ltb 16777216 (base + 4 * size) ≡ d
-        → (pick a 0 4104 ≡ 0) × (pick (b || d) 4110 0 ≡ 0) → Placed base size
-    go false p b q d r e = absurd (omega (arith, e .0))
-    go true p true q d r e = absurd (omega (arith, e .1))
-    go true p false q true r e = absurd (omega (arith, e .1))
-    go true p false q false r e =
-        record { aligned = eqb-true _ _ p; above-cells = ltb-false base 0x10 q; inside = ltb-false 16777216 (base + 4 * size) r }
+pub base-of : (base size : ℕ) → judgedPlace base size ≡ Passed → Placed base size
+base-of base size e =
+    let p = one-clear (not (eqb (base % 4) 0)) Unaligned _ e in
+    let q = one-clear (ltb base 0x10 || ltb 16777216 (base + 4 * size)) Base Passed (p .1) in
+    let t = neither (ltb base 0x10) (ltb 16777216 (base + 4 * size)) (q .0) in
+    record {
+      aligned = eqb-true (base % 4) 0 (not-false (eqb (base % 4) 0) (p .0));
+      above-cells = ltb-false base 0x10 (t .0);
+      inside = ltb-false 16777216 (base + 4 * size) (t .1);
+    }
 
 module _ (base : ℕ) (l : Listing) (ok : Legal base l) where
   pub placed : Placed base (imageCells l)

@@ -1,12 +1,12 @@
 -- A listing as a file. Document 01, Listings: the count, the base, the kinds a byte each, the operands; all but the kinds in four bytes,
 -- the least significant first.
 use mathlib.Core.List.{List, [], _∷_}
-use Prim.Native.Nat.{ℕ, zero, suc, _+_, _*_}
-use lib.Dec.{leb, eqb}
+use Prim.Native.Nat.{ℕ, zero, suc, _+_}
 use lib.ListN.{length, take, drop}
 use Rattle.cell.specs.Memory.{cellAt}
-use Rattle.cell.specs.Shift.{pick}
-use Rattle.layout.specs.Refusals.{accepted, badCount, first}
+use Rattle.cell.specs.Refusals.{judge, after}
+use Rattle.cell.specs.declared.Judged.{Judged}
+use Rattle.layout.specs.Grounds.{listingLength}
 use Rattle.layout.specs.Listing.{Listing, listed, judgedArrays}
 
 abbrev pub leastFirst : List ℕ → ℕ → ℕ
@@ -33,8 +33,8 @@ abbrev pub filed : List ℕ → Listing
 filed s = listed (fileKinds s) (fileOperands s)
 
 -- document 01, Turned back for the input: a file's length is that of its header and its items
-abbrev pub judgedLength : List ℕ → ℕ
-judgedLength s = pick (leb 8 (length s)) (pick (eqb (length s) (8 + 5 * fileCount s)) accepted badCount) badCount
+abbrev pub judgedLength : List ℕ → Judged
+judgedLength s = judge (listingLength (length s) (fileCount s) ∷ [])
 
-unfoldable pub judgedFile : List ℕ → ℕ
-judgedFile s = first (judgedLength s) (judgedArrays (fileKinds s) (fileOperands s))
+unfoldable pub judgedFile : List ℕ → Judged
+judgedFile s = after (judgedLength s) (judgedArrays (fileKinds s) (fileOperands s))

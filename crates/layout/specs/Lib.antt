@@ -1,4 +1,4 @@
-pub mod Refusals
+pub mod Grounds
 pub mod Kinds
 pub mod Bytes
 pub mod Flags

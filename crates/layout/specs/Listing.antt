@@ -3,11 +3,14 @@ use mathlib.Core.Path.{_≡_}
 use mathlib.Core.Bool.{Bool, true, false, _&&_, _||_}
 use mathlib.Core.List.{List, [], _∷_}
 use Prim.Native.Nat.{ℕ, zero, suc}
-use lib.Dec.{ltb, eqb}
+use lib.Dec.{eqb}
 use lib.ListN.{length, getD}
-use Rattle.cell.specs.Shift.{pick}
+use Rattle.cell.specs.Refusals.{judge, after}
+use Rattle.cell.specs.declared.Refusal.the-variants as refusal
+use Rattle.cell.specs.declared.Judged.{Judged}
+use Rattle.cell.specs.declared.Judged.the-variants.{Passed, Refused}
 use Rattle.layout.specs.declared.Class.{Class}
-use Rattle.layout.specs.Refusals.{accepted, badCount, badKind, badOperand, badTarget, first}
+use Rattle.layout.specs.Grounds.{itemCount, unequal, plainOperand, noTarget}
 use Rattle.layout.specs.Kinds.{classOf, among, isBranch, plain, literal, branch, noKind}
 
 -- kind and operand are functions of the item's number; what they give from count on plays no part
@@ -42,31 +45,27 @@ afterCall kind (suc i) = calls (kind i)
 unfoldable pub entry : Listing → ℕ → Bool
 entry l i = afterCall (l .kind) i || any (λ j. targets (classOf (l .kind j)) (l .operand j) i) (l .count)
 
--- document 01, Turned back for the input: one item of n: its kind, then a plain operand that is not 0, then a target of n or more
-abbrev pub judged : Class → ℕ → ℕ → ℕ
-judged plain n x = pick (eqb x 0) accepted badOperand
-judged literal n x = accepted
-judged branch n x = pick (ltb x n) accepted badTarget
-judged noKind n x = badKind
+-- document 01, Turned back for the input: one item of n, by its class; a byte that is no kind is -4107
+abbrev pub judged : Class → ℕ → ℕ → Judged
+judged plain n x = judge (plainOperand x ∷ [])
+judged literal n x = Passed
+judged branch n x = judge (noTarget n x ∷ [])
+judged noKind n x = Refused refusal.Kind
 
 -- k items from item i on, lowest first
-unfoldable pub judgedFrom : Listing → ℕ → ℕ → ℕ
-judgedFrom l zero i = accepted
-judgedFrom l (suc k) i = first (judged (classOf (l .kind i)) (l .count) (l .operand i)) (judgedFrom l k (suc i))
+unfoldable pub judgedFrom : Listing → ℕ → ℕ → Judged
+judgedFrom l zero i = Passed
+judgedFrom l (suc k) i = after (judged (classOf (l .kind i)) (l .count) (l .operand i)) (judgedFrom l k (suc i))
 
--- n is 0 or above 4,096
-abbrev pub judgedCount : ℕ → ℕ
-judgedCount n = pick (eqb n 0 || ltb 4096 n) badCount accepted
-
-unfoldable pub judgedListing : Listing → ℕ
-judgedListing l = first (judgedCount (l .count)) (judgedFrom l (l .count) 0)
+unfoldable pub judgedListing : Listing → Judged
+judgedListing l = after (judge (itemCount (l .count) ∷ [])) (judgedFrom l (l .count) 0)
 
 -- a listing in two arrays: unequal arrays are turned back with the count
-unfoldable pub judgedArrays : List ℕ → List ℕ → ℕ
+unfoldable pub judgedArrays : List ℕ → List ℕ → Judged
 judgedArrays kinds operands =
-    first (pick (eqb (length kinds) (length operands)) accepted badCount) (judgedListing (listed kinds operands))
+    after (judge (unequal (length kinds) (length operands) ∷ [])) (judgedListing (listed kinds operands))
 
 -- arrays of one length that are not turned back
 pub record Checked (kinds operands : List ℕ) : Type 0 where
   pub equal : length operands ≡ length kinds
-  pub input : judgedListing (listed kinds operands) ≡ accepted
+  pub input : judgedListing (listed kinds operands) ≡ Passed

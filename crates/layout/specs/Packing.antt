@@ -1,10 +1,12 @@
 -- The image of a listing: forms, values, marks and cells. Document 01, Listings, the paragraph on entries, its second half.
 use mathlib.Core.Path.{_≡_}
 use mathlib.Core.Bool.{Bool, true, false, not, _&&_, _||_}
-use mathlib.Core.List.{List}
+use mathlib.Core.List.{List, [], _∷_}
 use Prim.Native.Nat.{ℕ, zero, suc, _+_, _-_, _*_, _%_, _^_, _<_}
-use lib.Dec.{ltb, eqb}
-use Rattle.cell.specs.Shift.{pick}
+use lib.Dec.{eqb}
+use Rattle.cell.specs.Refusals.{judge}
+use Rattle.cell.specs.declared.Judged.{Judged}
+use Rattle.cell.specs.declared.Judged.the-variants.{Passed}
 use Rattle.layout.specs.declared.Class.{Class}
 use Rattle.layout.specs.declared.Entry.{Entry}
 use Rattle.layout.specs.declared.Entry.the-variants.{Item, Nothing}
@@ -12,7 +14,7 @@ use Rattle.layout.specs.declared.Form.{Form}
 use Rattle.layout.specs.Bytes.{fits}
 use Rattle.layout.specs.Flags.{flagged}
 use Rattle.layout.specs.Kinds.{classOf, plain, literal, branch, noKind}
-use Rattle.layout.specs.Refusals.{accepted, badAlignment, badPlace, first}
+use Rattle.layout.specs.Grounds.{unaligned, outOfPlace}
 use Rattle.layout.specs.Listing.{Listing, entry, judgedListing}
 use Rattle.layout.specs.Layout.{Plan, extra, cur, mid, left, formAt, alone, immediate, inCell}
 use Rattle.layout.specs.Image.{cells, reg}
@@ -32,22 +34,22 @@ formOf literal m x f = taking (not (fits f x)) f
 formOf branch m x f = taking m f
 formOf noKind m x f = alone
 
--- document 01, Listings: a branch holds the cells from its EP value to its target, or in an operand cell the target's address. ep and
+-- document 01, Listings: a branch holds the cells from its EP value to its target, or in an operand cell the target's address. next and
 -- to are the indexes of the EP value and of the target's cell; a way back is a cell's negative number
 abbrev pub distance : ℕ → ℕ → ℕ
-distance ep to = (to + 2 ^ 32 - ep) % 2 ^ 32
+distance next to = (to + 2 ^ 32 - next) % 2 ^ 32
 
 abbrev pub branchValue : Form → ℕ → ℕ → ℕ → ℕ
-branchValue alone ep to base = 0
-branchValue immediate ep to base = distance ep to
-branchValue inCell ep to base = base + 4 * to
+branchValue alone next to base = 0
+branchValue immediate next to base = distance next to
+branchValue inCell next to base = base + 4 * to
 
 -- the value of an item with operand x
 abbrev pub valueOf : Class → Form → ℕ → ℕ → ℕ → ℕ → ℕ
-valueOf plain g x ep to base = 0
-valueOf literal g x ep to base = x
-valueOf branch g x ep to base = branchValue g ep to base
-valueOf noKind g x ep to base = 0
+valueOf plain g x next to base = 0
+valueOf literal g x next to base = x
+valueOf branch g x next to base = branchValue g next to base
+valueOf noKind g x next to base = 0
 
 -- document 01, Listings: a round marks each immediate branch whose value does not fit
 abbrev pub newIn : Form → Bool → Bool
@@ -86,12 +88,9 @@ module _ (l : Listing) where
   abbrev pub imageCells : ℕ
   imageCells = cur layout (l .count) .next
 
--- Document 01, Turned back for the state: -4104, base unaligned; -4110, base below 10h, or image passes 16,777,216; size is the cells
--- of the image
-abbrev pub judgedPlace : ℕ → ℕ → ℕ
-judgedPlace base size =
-    first (pick (eqb (base % 4) 0) accepted badAlignment)
-    (pick (ltb base 0x10 || ltb 16777216 (base + 4 * size)) badPlace accepted)
+-- document 01, Turned back for the state: -4104, then -4110, of the base of an image of size cells
+abbrev pub judgedPlace : ℕ → ℕ → Judged
+judgedPlace base size = judge (unaligned base ∷ outOfPlace base size ∷ [])
 
 -- arrays of marks before and after a round, for the first n items
 abbrev pub Marked : Listing → List ℕ → List ℕ → ℕ → Type 0
@@ -130,11 +129,11 @@ module _ (base : ℕ) (l : Listing) where
   abbrev pub behind : ℕ → ℕ
   behind i = epValue i + 4 * extra (formAt (layout l) i)
 
-  abbrev pub judgedBase : ℕ
+  abbrev pub judgedBase : Judged
   judgedBase = judgedPlace base (imageCells l)
 
 -- document 01, Listings, on demand 3: what an accepted listing and a legal base are; operands are cells
 pub record Legal (base : ℕ) (l : Listing) : Type 0 where
-  pub input : judgedListing l ≡ accepted
-  pub state : judgedBase base l ≡ accepted
+  pub input : judgedListing l ≡ Passed
+  pub state : judgedBase base l ≡ Passed
   pub cell : (i : ℕ) → i < l .count → l .operand i < 2 ^ 32

@@ -2,12 +2,14 @@
 use mathlib.Core.Path.{_≡_}
 use mathlib.Core.Bool.{Bool, true, false}
 use mathlib.Core.List.{List, [], _∷_, _++_, map}
-use Prim.Native.Nat.{ℕ, zero, suc, _+_}
+use Prim.Native.Nat.{ℕ, zero, suc, _+_, _-_, _^_}
 use lib.ListN.{replicate}
 use Rattle.cell.specs.Shift.{pick}
+use Rattle.cell.specs.Refusals.{refusalNumber}
+use Rattle.cell.specs.declared.Judged.{Judged}
+use Rattle.cell.specs.declared.Judged.the-variants.{Passed, Refused}
 use Rattle.layout.specs.declared.Class.{Class}
 use Rattle.layout.specs.Kinds.{classOf, plain, literal, branch, noKind}
-use Rattle.layout.specs.Refusals.{accepted}
 use Rattle.layout.specs.Listing.{listed, judgedArrays}
 use Rattle.layout.specs.Packing.{image}
 
@@ -20,7 +22,7 @@ pub record Row : Type 0 where
 abbrev pub row : ℕ → List ℕ → List ℕ → List ℕ → Row
 row base kinds operands cells = record { base = base; kinds = kinds; operands = operands; cells = cells }
 
-abbrev pub rowJudged : Row → ℕ
+abbrev pub rowJudged : Row → Judged
 rowJudged r = judgedArrays (r .kinds) (r .operands)
 
 abbrev pub rowImage : Row → List ℕ
@@ -28,7 +30,7 @@ rowImage r = image (r .base) (listed (r .kinds) (r .operands))
 
 -- every row of a table is accepted and packs to its cells
 abbrev pub Holds : List Row → Type 0
-Holds rows = (map rowJudged rows ≡ map (λ r. accepted) rows) × (map rowImage rows ≡ map (λ r. r .cells) rows)
+Holds rows = (map rowJudged rows ≡ map (λ r. Passed) rows) × (map rowImage rows ≡ map (λ r. r .cells) rows)
 
 -- the kinds here: 01h DUP, 1Eh, 42h BRANCH, 52h literal, 55h HALT
 abbrev pub worked : List Row
@@ -83,19 +85,25 @@ further =
     (0x00480101 ∷ 0x220 ∷ repeated 26 (0x52525252 ∷ replicate 4 8388608) ++ (0x00000001 ∷ []))
     ∷ []
 
--- Listings that are turned back: arrays and the number that document 01 gives
-pub record Refused : Type 0 where
+-- the number of a judgement: 0, or the refusal's
+abbrev pub judgedNumber : Judged → ℕ
+judgedNumber Passed = 0
+judgedNumber (Refused r) = refusalNumber r
+
+-- Listings that are turned back: arrays, and k where document 01 gives the refusal -k
+pub record Turned : Type 0 where
   pub kinds : List ℕ
   pub operands : List ℕ
   pub number : ℕ
 
-abbrev pub refused : List ℕ → List ℕ → ℕ → Refused
+abbrev pub refused : List ℕ → List ℕ → ℕ → Turned
 refused kinds operands number = record { kinds = kinds; operands = operands; number = number }
 
-abbrev pub TurnedBack : List Refused → Type 0
-TurnedBack rows = map (λ r. judgedArrays (r .kinds) (r .operands)) rows ≡ map (λ r. r .number) rows
+abbrev pub TurnedBack : List Turned → Type 0
+TurnedBack rows =
+    map (λ r. judgedNumber (judgedArrays (r .kinds) (r .operands))) rows ≡ map (λ r. 2 ^ 32 - r .number) rows
 
-abbrev pub turned : List Refused
+abbrev pub turned : List Turned
 turned =
     -- no item; arrays unequal
     refused [] [] 4106

@@ -1,4 +1,5 @@
 // Listings and their packing into cells: the types that the code shares with the definitions.
+use cell::CellCount;
 
 // The number of an item of a listing, from 0.
 pub struct ItemNumber(pub u32);
@@ -6,9 +7,9 @@ pub struct ItemNumber(pub u32);
 // Where the layout stands: the index of the open cell, the bytes free in it (0: none is open, or it is full), and the
 // index of the next cell.
 pub struct Cursor {
-    pub at: u32,
+    pub at: CellCount,
     pub free: u32,
-    pub next: u32,
+    pub next: CellCount,
 }
 
 // How an item is written: its opcode alone, with its value in the rest of the cell, or with an operand cell.

@@ -8,8 +8,11 @@ use native.Mathlib.Numerals.{add-one}
 use native.Mathlib.Omega.{arith}
 use borrow.Author.Tests.{lt-ltb, le-ltb, le-leb, lt-leb}
 use lib.Dec.{leb, ltb}
+use Rattle.cell.specs.Refusals.{after}
+use Rattle.cell.specs.declared.Refusal.{Refusal}
+use Rattle.cell.specs.declared.Judged.{Judged}
+use Rattle.cell.specs.declared.Judged.the-variants.{Passed, Refused}
 use Rattle.layout.specs.Kinds.{classOf}
-use Rattle.layout.specs.Refusals.{accepted, first}
 use Rattle.layout.specs.Listing.{Listing, judged, judgedFrom}
 use Rattle.layout.specs.declared.Form.the-variants.{Immediate as immediate, InCell as inCell}
 use Rattle.layout.specs.Layout.{fresh}
@@ -40,25 +43,21 @@ taking-false false (suc f) h q = refl
 pub three-left : (f : ℕ) → f ≤ 3 → (f ≡ 0 → ⊥) → (f ≡ 1 → ⊥) → (f ≡ 2 → ⊥) → f ≡ 3
 three-left f h a b c = omega arith
 
-first-some : (a b : ℕ) → (a ≡ accepted → ⊥) → first a b ≡ a
-first-some zero b h = absurd (h refl)
-first-some (suc a) b h = refl
-
 -- a turn over the items of a listing
 module _ (l : Listing) (n i : ℕ) where
-  abbrev here : ℕ
+  abbrev here : Judged
   here = judged (classOf (l .kind i)) (l .count) (l .operand i)
 
-  judged-step : i < n → judgedFrom l (n - i) i ≡ first here (judgedFrom l (n - (i + 1)) (i + 1))
+  judged-step : i < n → judgedFrom l (n - i) i ≡ after here (judgedFrom l (n - (i + 1)) (i + 1))
   unfolding judgedFrom
   judged-step h = rw (let e : n - i ≡ suc (n - (i + 1)) = omega arith in e, add-one i)
 
-  pub judged-turn : i < n → here ≡ accepted → judgedFrom l (n - i) i ≡ judgedFrom l (n - (i + 1)) (i + 1)
-  judged-turn h e = judged-step h ∙ ap (λ (a : ℕ). first a (judgedFrom l (n - (i + 1)) (i + 1))) e
+  pub judged-turn : i < n → here ≡ Passed → judgedFrom l (n - i) i ≡ judgedFrom l (n - (i + 1)) (i + 1)
+  judged-turn h e = judged-step h ∙ ap (λ (a : Judged). after a (judgedFrom l (n - (i + 1)) (i + 1))) e
 
-  pub judged-stop : i < n → (here ≡ accepted → ⊥) → judgedFrom l (n - i) i ≡ here
-  judged-stop h e = judged-step h ∙ first-some here _ e
+  pub judged-stop : (r : Refusal) → i < n → here ≡ Refused r → judgedFrom l (n - i) i ≡ Refused r
+  judged-stop r h e = judged-step h ∙ ap (λ (a : Judged). after a (judgedFrom l (n - (i + 1)) (i + 1))) e
 
-  pub judged-end : n ≤ i → judgedFrom l (n - i) i ≡ accepted
+  pub judged-end : n ≤ i → judgedFrom l (n - i) i ≡ Passed
   unfolding judgedFrom
   judged-end h = rw (let e : n - i ≡ 0 = omega arith in e)

@@ -1,6 +1,6 @@
 // Listings as files.
-use crate::check::ACCEPTED;
-use crate::check::BAD_COUNT;
+use cell::Judged;
+use cell::Refusal;
 use cell::memory::load;
 ghost use mathlib.Core.Path.{_≡_};
 ghost use Prim.Native.Nat.{_+_, _*_, _≤_};
@@ -16,18 +16,18 @@ pub fn cell_at(file: &[u8], a: usize) -> u32
 }
 
 // The length of a file against its count of items.
-pub fn judged_length(file: &[u8]) -> u32
+pub fn judge_length(file: &[u8]) -> Judged
     ensures { λ r. ⌜ r ≡ judgedLength (now (file .entry)) ⌝ }
 {
     let n = file.len();
     if n < 8 {
-        return BAD_COUNT;
+        return Judged::Refused(Refusal::ItemCount);
     }
     let k = cell_at(file, 0) as usize;
     if n != 8 + 5 * k {
-        return BAD_COUNT;
+        return Judged::Refused(Refusal::ItemCount);
     }
-    ACCEPTED
+    Judged::Passed
 }
 
 // Reads the operands from the byte a on.

@@ -10,13 +10,13 @@ use Rattle.cell.specs.declared.CellCount.{CellCount}
 use Rattle.cell.specs.declared.Refusal.{Refusal}
 use Rattle.cell.specs.declared.Judged.{Judged}
 use Rattle.cell.specs.declared.Judged.the-variants as judged
-use Rattle.layout.specs.Listing.{Listing, listed}
-use Rattle.layout.specs.File.{filed, fileBase}
+use Rattle.layout.specs.Listing.{Listing, listed, judgedArrays}
+use Rattle.layout.specs.File.{filed, fileBase, judgedFile}
 use Rattle.layout.specs.Packing.{image, imageCells}
 use Rattle.layout.specs.Output.{written}
 use Rattle.packer.specs.declared.Packed.{Packed}
 use Rattle.packer.specs.declared.Packed.the-variants as packed
-use Rattle.packer.specs.Judgement.{judgeArrays, judgeFile, judgeInput, judgeImage, judgePack, judgePackFile}
+use Rattle.packer.specs.Judgement.{judgeInput, judgeImage, judgePack, judgePackFile}
 use Rattle.packer.specs.Pack.{packCount, PackResult, packedTo, packIf, packOf, packFileOf}
 use Rattle.packer.proofs.Judging.{pack-halves, all-room}
 
@@ -56,11 +56,11 @@ module _ (order : ℕ) (out next : List ℕ) (a : Packed) where
   pack-room kinds operands base e =
       rw (ap (λ (p : PackResult). p .count) e)
       (if-room _ order base (listed kinds operands) out
-      (all-room order (judgeArrays kinds operands) base (listed kinds operands) (length out)))
+      (all-room order (judgedArrays kinds operands) base (listed kinds operands) (length out)))
 
   pub pack-file-room : (file : List ℕ) → packedTo next a ≡ packFileOf order file out → 4 * packCount a ≤ length out
   unfolding packFileOf judgePackFile
   pack-file-room file e =
       rw (ap (λ (p : PackResult). p .count) e)
       (if-room _ order (fileBase file) (filed file) out
-      (all-room order (judgeFile file) (fileBase file) (filed file) (length out)))
+      (all-room order (judgedFile file) (fileBase file) (filed file) (length out)))

@@ -1,64 +1,53 @@
 -- A listing file: its header, and the two arrays that it holds.
 -- Assumes nothing.
 use mathlib.Core.Path.{_≡_, refl, sym, ap, _∙_}
-use mathlib.Core.Bool.{Bool, true, false}
+use mathlib.Core.Bool.{Bool, true, false, not, _||_}
 use mathlib.Core.List.{List, [], _∷_, _++_}
 use Prim.Native.Nat.{ℕ, _+_, _-_, _*_, _<_}
 use native.Mathlib.Omega.{arith}
-use borrow.Author.Tests.{eqb-true, eq-eqb, ne-eqb, le-leb, lt-ltb, ltb-true, ltb-false}
-use lib.Dec.{eqb, leb, ltb}
+use borrow.Author.Tests.{eqb-true, eq-eqb, ne-eqb, not-false, lt-ltb, le-ltb, ltb-true, ltb-false}
+use lib.Dec.{eqb, ltb}
 use lib.ListN.{length, take, drop, length-append, length-take, length-drop}
 use lib.Seq.{take-at}
 use Rattle.cell.specs.Choice.{if}
 use Rattle.cell.specs.Refusals.{judge, after, inOrder}
-use Rattle.cell.specs.Shift.{pick}
 use Rattle.cell.specs.declared.Refusal.{Refusal}
 use Rattle.cell.specs.declared.Refusal.the-variants.{ItemCount}
 use Rattle.cell.specs.declared.Judged.{Judged}
 use Rattle.cell.specs.declared.Judged.the-variants.{Passed, Refused}
+use Rattle.cell.proofs.BooleanLaws.{neither}
 use Rattle.cell.proofs.JudgementLaws.{both-pass, one-clear}
-use Rattle.layout.specs.Refusals.{accepted, badCount, first}
 use Rattle.layout.specs.Listing.{listed, judgedArrays, judgedListing}
 use Rattle.layout.specs.File.{cellsFrom, fileCount, fileBase, fileKinds, fileOperands, filed, judgedLength, judgedFile}
-use Rattle.layout.specs.Packing.{imageCells}
+use Rattle.layout.specs.Packing.{imageCells, judgedPlace}
 use Rattle.packer.specs.declared.Packed.the-variants as packed
-use Rattle.packer.specs.Judgement.{refusalOf, manyItems, judgeOrder, judgeArrays, judgeFile, judgePlace, judgeRoom, judgeHeader, judgePack, judgePackFile}
+use Rattle.packer.specs.Judgement.{manyItems, judgeOrder, judgeRoom, judgeHeader, judgePack, judgePackFile}
 use Rattle.packer.specs.Pack.{PackResult, packedTo, packOf, packFileOf}
 use Rattle.packer.specs.Prepared.{Header}
-use Rattle.packer.proofs.Judging.{refused-none, refusal-first}
 
 -- a file whose length is that of its header and its items
-pub length-of : (s : List ℕ) → judgedLength s ≡ accepted → length s ≡ 8 + 5 * fileCount s
-length-of s e = go (leb 8 (length s)) (eqb (length s) (8 + 5 * fileCount s)) refl e
-  where
-    go : (a b : Bool) → eqb (length s) (8 + 5 * fileCount s) ≡ b → pick a (pick b accepted badCount) badCount ≡ accepted
-        → length s ≡ 8 + 5 * fileCount s
-    go false b q e = absurd (omega arith)
-    go true false q e = absurd (omega arith)
-    go true true q e = eqb-true _ _ q
+pub length-of : (s : List ℕ) → judgedLength s ≡ Passed → length s ≡ 8 + 5 * fileCount s
+length-of s e =
+    let same = eqb (length s) (8 + 5 * fileCount s) in
+    let p = one-clear (ltb (length s) 8 || not same) ItemCount Passed e in
+    eqb-true (length s) (8 + 5 * fileCount s) (not-false same (neither (ltb (length s) 8) (not same) (p .0) .1))
 
 -- more than 4,096 items
-many : (kinds operands : List ℕ) → 4096 < length kinds → judgedArrays kinds operands ≡ badCount
+many : (kinds operands : List ℕ) → 4096 < length kinds → judgedArrays kinds operands ≡ Refused ItemCount
 unfolding judgedArrays judgedListing
 many kinds operands h = go (eqb (length kinds) (length operands))
   where
-    go : (b : Bool) → first (pick b accepted badCount) (judgedListing (listed kinds operands)) ≡ badCount
+    go : (b : Bool) → after (if (not b) (Refused ItemCount) Passed) (judgedListing (listed kinds operands)) ≡ Refused ItemCount
     go false = refl
     go true =
         let z : length kinds ≡ 0 → ⊥ = λ q. omega arith in
         simp (ne-eqb (length kinds) 0 z, lt-ltb 4096 (length kinds) h)
 
--- a file is judged by its length, then by its arrays
-file-parts : (s : List ℕ) → judgeFile s ≡ after (refusalOf (judgedLength s)) (judgeArrays (fileKinds s) (fileOperands s))
-unfolding judgedFile
-file-parts s = refusal-first (judgedLength s) (judgedArrays (fileKinds s) (fileOperands s))
-
-many-file : (s : List ℕ) → judgedLength s ≡ accepted → 4096 < fileCount s
-    → judgeArrays (fileKinds s) (fileOperands s) ≡ Refused ItemCount
-unfolding refusalOf
+many-file : (s : List ℕ) → judgedLength s ≡ Passed → 4096 < fileCount s
+    → judgedArrays (fileKinds s) (fileOperands s) ≡ Refused ItemCount
 many-file s e h =
     let k : 4096 < length (fileKinds s) = simp (length-take, length-drop) (omega (arith, length-of s e)) in
-    ap refusalOf (many (fileKinds s) (fileOperands s) k)
+    many (fileKinds s) (fileOperands s) k
 
 -- the operands, read into the first n elements of an array of 4,096
 pub operands-back : (s x y : List ℕ) (n k : ℕ) → Header s → n ≡ fileCount s → k ≡ n → length x ≡ 4096 → length y ≡ length (take k x)
@@ -73,38 +62,38 @@ module _ (order : ℕ) (s : List ℕ) where
   pub header-good : judgeHeader order s ≡ Passed → Header s
   unfolding judgeHeader
   header-good e =
-      let p = both-pass (judgeOrder order) (inOrder (refusalOf (judgedLength s) ∷ judge (manyItems (fileCount s) ∷ []) ∷ [])) e in
-      let q = both-pass (refusalOf (judgedLength s)) (inOrder (judge (manyItems (fileCount s) ∷ []) ∷ [])) (p .1) in
+      let p = both-pass (judgeOrder order) (inOrder (judgedLength s ∷ judge (manyItems (fileCount s) ∷ []) ∷ [])) e in
+      let q = both-pass (judgedLength s) (inOrder (judge (manyItems (fileCount s) ∷ []) ∷ [])) (p .1) in
       let t = both-pass (judge (manyItems (fileCount s) ∷ [])) Passed (q .1) in
       record {
-        whole = length-of s (refused-none (judgedLength s) (q .0));
+        whole = length-of s (q .0);
         most = ltb-false 4096 (fileCount s) (one-clear (ltb 4096 (fileCount s)) ItemCount Passed (t .0) .0);
       }
 
   -- a bad header turns the packing back, whatever follows
   pub header-refused : (r : Refusal) → judgeHeader order s ≡ Refused r → (size : ℕ) → judgePackFile order s size ≡ Refused r
-  unfolding judgeHeader judgePackFile
-  header-refused r e size = go (judgeOrder order) (refusalOf (judgedLength s)) refl (ltb 4096 (fileCount s)) refl e
-      (inOrder (judgePlace (fileBase s) (imageCells (filed s)) ∷ judgeRoom (imageCells (filed s)) size ∷ []))
+  unfolding judgeHeader judgePackFile judgedFile
+  header-refused r e size = go (judgeOrder order) (judgedLength s) refl (ltb 4096 (fileCount s)) refl e
+      (inOrder (judgedPlace (fileBase s) (imageCells (filed s)) ∷ judgeRoom (imageCells (filed s)) size ∷ []))
     where
       arrays : Judged → Judged
-      arrays j = after j (judgeArrays (fileKinds s) (fileOperands s))
+      arrays j = after j (judgedArrays (fileKinds s) (fileOperands s))
 
-      go : (a b : Judged) → refusalOf (judgedLength s) ≡ b → (t : Bool) → ltb 4096 (fileCount s) ≡ t
-          → inOrder (a ∷ b ∷ if t (Refused ItemCount) Passed ∷ []) ≡ Refused r → (j : Judged) → after a (after (judgeFile s) j) ≡ Refused r
+      go : (a b : Judged) → judgedLength s ≡ b → (t : Bool) → ltb 4096 (fileCount s) ≡ t
+          → inOrder (a ∷ b ∷ if t (Refused ItemCount) Passed ∷ []) ≡ Refused r → (j : Judged) → after a (after (judgedFile s) j) ≡ Refused r
       go (Refused x) b p t q e j = e
-      go Passed (Refused x) p t q e j = ap (λ (i : Judged). after i j) (file-parts s ∙ ap arrays p) ∙ e
+      go Passed (Refused x) p t q e j = ap (λ (i : Judged). after i j) (ap arrays p) ∙ e
       go Passed Passed p true q e j =
           ap (λ (i : Judged). after i j)
-          (file-parts s ∙ ap arrays p ∙ many-file s (refused-none (judgedLength s) p) (ltb-true 4096 (fileCount s) q))
+          (ap arrays p ∙ many-file s p (ltb-true 4096 (fileCount s) q))
           ∙ e
       go Passed Passed p false q e j = absurd (let z : _≡_ {A = ℕ} 0 1 = cc in omega arith)
 
   -- with a good header a file is packed as its two arrays are
-  length-judged : Header s → judgedLength s ≡ accepted
-  length-judged h = simp (le-leb 8 (length s) (omega (arith, h .whole)), eq-eqb (length s) (8 + 5 * fileCount s) (h .whole))
+  length-judged : Header s → judgedLength s ≡ Passed
+  length-judged h = simp (le-ltb (length s) 8 (omega (arith, h .whole)), eq-eqb (length s) (8 + 5 * fileCount s) (h .whole))
 
-  file-arrays : Header s → judgeFile s ≡ judgeArrays (fileKinds s) (fileOperands s)
+  file-arrays : Header s → judgedFile s ≡ judgedArrays (fileKinds s) (fileOperands s)
   unfolding judgedFile
   file-arrays h = rw (length-judged h)
 

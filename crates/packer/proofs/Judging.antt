@@ -1,29 +1,27 @@
 -- Judgements in order, and what an accepted listing gives.
 -- Assumes nothing.
 use mathlib.Core.Path.{_≡_, refl, sym, ap, _∙_}
-use mathlib.Core.Bool.{Bool, true, false}
+use mathlib.Core.Bool.{not}
 use mathlib.Core.List.{List, [], _∷_}
-use Prim.Native.Nat.{ℕ, zero, suc, _*_, _≤_}
+use Prim.Native.Nat.{ℕ, _*_, _≤_}
 use native.Mathlib.Omega.{arith}
-use borrow.Author.Tests.{eqb-true, ne-eqb, ltb-false}
+use borrow.Author.Tests.{eqb-true, ltb-false, not-false}
 use lib.Dec.{eqb, ltb}
 use lib.ListN.{length}
-use Rattle.cell.specs.Choice.{if}
 use Rattle.cell.specs.Memory.{cellCount}
-use Rattle.cell.specs.Refusals.{after, inOrder}
-use Rattle.cell.specs.Shift.{pick}
+use Rattle.cell.specs.Refusals.{judge, after, inOrder}
 use Rattle.cell.specs.declared.CellCount.{CellCount}
-use Rattle.cell.specs.declared.Refusal.the-variants.{ShortOutput}
+use Rattle.cell.specs.declared.Refusal.the-variants.{ItemCount, ShortOutput}
 use Rattle.cell.specs.declared.Judged.{Judged}
 use Rattle.cell.specs.declared.Judged.the-variants.{Passed, Refused}
 use Rattle.cell.proofs.JudgementLaws.{both-pass, one-clear}
-use Rattle.layout.specs.Refusals.{accepted, badCount, first}
+use Rattle.layout.specs.Grounds.{unequal}
 use Rattle.layout.specs.Listing.{Listing, listed, judgedArrays, judgedListing, Checked}
 use Rattle.layout.specs.Packing.{layout, imageCells, judgedPlace}
-use Rattle.layout.proofs.Listing.{first-none, some-item}
+use Rattle.layout.proofs.Listing.{some-item}
 use Rattle.layout.proofs.Placing.{at-most}
 use Rattle.layout.proofs.Packing.{base-of}
-use Rattle.packer.specs.Judgement.{named, refusalOf, judgeOrder, judgeArrays, judgePlace, judgeRoom, judgeInput, judgeImage, judgeListing, judgeAll, judgePack}
+use Rattle.packer.specs.Judgement.{judgeOrder, judgeRoom, judgeInput, judgeImage, judgeListing, judgeAll, judgePack}
 
 -- four judgements in order: where the first two turn back, they decide; where they pass, the last two do
 halves : (a b c d : Judged) → inOrder (a ∷ b ∷ c ∷ d ∷ []) ≡ after (inOrder (a ∷ b ∷ [])) (inOrder (c ∷ d ∷ []))
@@ -37,7 +35,7 @@ pub pack-halves : (order : ℕ) (kinds operands : List ℕ) (base size : ℕ)
     ≡ after (judgeInput order kinds operands) (judgeImage base (imageCells (listed kinds operands)) size)
 unfolding judgePack judgeInput judgeImage
 pack-halves order kinds operands base size =
-    halves (judgeOrder order) (judgeArrays kinds operands) (judgePlace base (imageCells (listed kinds operands)))
+    halves (judgeOrder order) (judgedArrays kinds operands) (judgedPlace base (imageCells (listed kinds operands)))
     (judgeRoom (imageCells (listed kinds operands)) size)
 
 -- the last in order decides
@@ -45,38 +43,19 @@ pub last-one : (a : Judged) → inOrder (a ∷ []) ≡ a
 last-one Passed = refl
 last-one (Refused r) = refl
 
--- a judgement of 0 passes, and no other
-pub refused-none : (k : ℕ) → refusalOf k ≡ Passed → k ≡ accepted
-unfolding refusalOf
-refused-none k e = go (eqb k accepted) refl e
-  where
-    go : (b : Bool) → eqb k accepted ≡ b → if b Passed (Refused (named k)) ≡ Passed → k ≡ accepted
-    go true q e = eqb-true k accepted q
-    go false q e = absurd (let z : _≡_ {A = ℕ} 0 1 = cc in omega arith)
-
--- of two numbers the first that turns back is the first refusal
-pub refusal-first : (a b : ℕ) → refusalOf (first a b) ≡ after (refusalOf a) (refusalOf b)
-unfolding refusalOf
-refusal-first zero b = refl
-refusal-first (suc a) b = let h : suc a ≡ accepted → ⊥ = λ q. omega arith in simp (ne-eqb (suc a) accepted h)
-
-equal-of : (b : Bool) → pick b accepted badCount ≡ accepted → b ≡ true
-equal-of true e = refl
-equal-of false e = absurd (omega arith)
-
 -- arrays that the input list passes
-pub arrays-checked : (kinds operands : List ℕ) → judgeArrays kinds operands ≡ Passed → Checked kinds operands
+pub arrays-checked : (kinds operands : List ℕ) → judgedArrays kinds operands ≡ Passed → Checked kinds operands
 unfolding judgedArrays
 arrays-checked kinds operands e =
-    let s = first-none (pick (eqb (length kinds) (length operands)) accepted badCount) (judgedListing (listed kinds operands))
-    (refused-none _ e) in
-    record { equal = sym (eqb-true (length kinds) (length operands) (equal-of _ (s .0))); input = s .1 }
+    let s = both-pass (judge (unequal (length kinds) (length operands) ∷ [])) (judgedListing (listed kinds operands)) e in
+    let t = one-clear (not (eqb (length kinds) (length operands))) ItemCount Passed (s .0) in
+    record { equal = sym (eqb-true (length kinds) (length operands) (not-false (eqb (length kinds) (length operands)) (t .0))); input = s .1 }
 
 pub input-checked : (order : ℕ) (kinds operands : List ℕ) → judgeInput order kinds operands ≡ Passed → Checked kinds operands
 unfolding judgeInput
 input-checked order kinds operands e =
-    let s = both-pass (judgeOrder order) (inOrder (judgeArrays kinds operands ∷ [])) e in
-    arrays-checked kinds operands (both-pass (judgeArrays kinds operands) Passed (s .1) .0)
+    let s = both-pass (judgeOrder order) (inOrder (judgedArrays kinds operands ∷ [])) e in
+    arrays-checked kinds operands (both-pass (judgedArrays kinds operands) Passed (s .1) .0)
 
 module _ (kinds operands : List ℕ) (ok : Checked kinds operands) where
   pub items-most : length kinds ≤ 4096
@@ -94,8 +73,8 @@ room-of cells size e = ltb-false size (4 * cells) (one-clear (ltb size (4 * cell
 image-fits : (base cells size : ℕ) → judgeImage base cells size ≡ Passed → (base ≤ 16777216) × (4 * cells ≤ size)
 unfolding judgeImage
 image-fits base cells size e =
-    let s = both-pass (judgePlace base cells) (inOrder (judgeRoom cells size ∷ [])) e in
-    let p = base-of base cells (refused-none (judgedPlace base cells) (s .0)) in
+    let s = both-pass (judgedPlace base cells) (inOrder (judgeRoom cells size ∷ [])) e in
+    let p = base-of base cells (s .0) in
     (omega (arith, p .inside), room-of cells size (both-pass (judgeRoom cells size) Passed (s .1) .0))
 
 -- where a packing passes, the output has room for the image
@@ -118,7 +97,7 @@ pack-counted order kinds operands base size cells j p e q =
     q ∙ ap (λ (x : CellCount). judgeImage base (x .0) size) e ∙ sym (rw (pack-halves, p))
 
 pub listing-counted : (kinds operands : List ℕ) (base : ℕ) (cells : CellCount) (j : Judged)
-    → judgeArrays kinds operands ≡ Passed → cells ≡ cellCount (imageCells (listed kinds operands))
-    → j ≡ judgePlace base (cells .0) → j ≡ judgeListing kinds operands base
+    → judgedArrays kinds operands ≡ Passed → cells ≡ cellCount (imageCells (listed kinds operands))
+    → j ≡ judgedPlace base (cells .0) → j ≡ judgeListing kinds operands base
 unfolding judgeListing
-listing-counted kinds operands base cells j p e q = q ∙ ap (λ (x : CellCount). judgePlace base (x .0)) e ∙ rw p (sym (last-one _))
+listing-counted kinds operands base cells j p e q = q ∙ ap (λ (x : CellCount). judgedPlace base (x .0)) e ∙ rw p (sym (last-one _))

@@ -1,4 +1,3 @@
 pub mod Judging
 pub mod Answering
 pub mod Filing
-pub mod Numbers

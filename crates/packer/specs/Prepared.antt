@@ -15,15 +15,15 @@ pub record Header (file : List ℕ) : Type 0 where
   pub most : fileCount file ≤ 4096
 
 -- five arrays with one place for each of n items
-pub record Places (n : ℕ) (entries marks ats eps lefts : List ℕ) : Type 0 where
+pub record Places (n : ℕ) (entries marks ats nexts lefts : List ℕ) : Type 0 where
   pub entries-length : length entries ≡ n
   pub marks-length : length marks ≡ n
   pub ats-length : length ats ≡ n
-  pub eps-length : length eps ≡ n
+  pub nexts-length : length nexts ≡ n
   pub lefts-length : length lefts ≡ n
 
 -- the arrays hold the entries, the last marks and the last layout of a listing
-pub record Prepared (kinds operands entries marks ats eps lefts : List ℕ) : Type 0 where
+pub record Prepared (kinds operands entries marks ats nexts lefts : List ℕ) : Type 0 where
   pub flags : Flags entries (entry (listed kinds operands)) (length kinds)
   pub settled : flagged marks ≡ marksOf (listed kinds operands)
-  pub laid : Laid (layout (listed kinds operands)) ats eps lefts (length kinds)
+  pub laid : Laid (layout (listed kinds operands)) ats nexts lefts (length kinds)

@@ -8,13 +8,12 @@ ghost use Rattle.packer.specs.Prepared.{Header};
 use crate::Packed;
 use crate::judgement::judge_order;
 use crate::judgement::judge_pack;
-use crate::judgement::refusal_of;
 use crate::pack::pack;
 use cell::Address;
 use cell::Judged;
 use cell::Refusal;
 use listing::file::cell_at;
-use listing::file::judged_length;
+use listing::file::judge_length;
 use listing::file::read_operands;
 
 // The byte order, the file's length and its count of items, with which the packing of a file begins.
@@ -23,7 +22,7 @@ fn judge_header(order: u8, file: &[u8]) -> Judged
 {
     match judge_order(order) {
         Judged::Refused(r) => Judged::Refused(r),
-        Judged::Passed => match refusal_of(judged_length(file)) {
+        Judged::Passed => match judge_length(file) {
             Judged::Refused(r) => Judged::Refused(r),
             Judged::Passed => {
                 if 4096 < cell_at(file, 0) {

@@ -7,39 +7,8 @@ use cell::Address;
 use cell::CellCount;
 use cell::Judged;
 use cell::Refusal;
-use listing::check::ACCEPTED;
-use listing::check::BAD_ALIGNMENT;
-use listing::check::BAD_COUNT;
-use listing::check::BAD_KIND;
-use listing::check::BAD_OPERAND;
-use listing::check::BAD_TARGET;
-use listing::check::judged_arrays;
-use listing::check::judged_place;
-
-// The refusal -k that a judgement k stands for.
-pub fn refusal_of(k: u32) -> Judged
-    ensures { λ r. ⌜ r ≡ judgement.refusalOf k ⌝ }
-{
-    if k == ACCEPTED {
-        return Judged::Passed;
-    }
-    if k == BAD_COUNT {
-        return Judged::Refused(Refusal::ItemCount);
-    }
-    if k == BAD_KIND {
-        return Judged::Refused(Refusal::Kind);
-    }
-    if k == BAD_OPERAND {
-        return Judged::Refused(Refusal::PlainOperand);
-    }
-    if k == BAD_TARGET {
-        return Judged::Refused(Refusal::Target);
-    }
-    if k == BAD_ALIGNMENT {
-        return Judged::Refused(Refusal::Unaligned);
-    }
-    Judged::Refused(Refusal::Base)
-}
+use listing::check::judge_arrays;
+use listing::check::judge_place;
 
 pub fn judge_order(order: u8) -> Judged
     ensures { λ r. ⌜ r ≡ judgement.judgeOrder order ⌝ }
@@ -48,21 +17,6 @@ pub fn judge_order(order: u8) -> Judged
         return Judged::Refused(Refusal::ByteOrder);
     }
     Judged::Passed
-}
-
-// The input list.
-pub fn judge_arrays(kinds: &[u8], operands: &[u32]) -> Judged
-    ensures { λ r. ⌜ r ≡ judgement.judgeArrays (now (kinds .entry)) (now (operands .entry)) ⌝ }
-{
-    refusal_of(judged_arrays(kinds, operands))
-}
-
-// The base of an image.
-pub fn judge_place(base: Address, cells: CellCount) -> Judged
-    requires { ⌜ cells .0 ≤ 8192 ⌝ }
-    ensures { λ r. ⌜ r ≡ judgement.judgePlace (base .0) (cells .0) ⌝ }
-{
-    refusal_of(judged_place(base.0, cells.0))
 }
 
 // The room for an image in an output of some size.

@@ -23,26 +23,26 @@ fn pack_checked(
     entries: &mut [u8],
     marks: &mut [u8],
     ats: &mut [u32],
-    eps: &mut [u32],
+    nexts: &mut [u32],
     lefts: &mut [u32],
     output: &mut [u8],
 ) -> Packed
     requires { ⌜ Checked (now kinds) (now operands) ⌝ }
-    requires { ⌜ Places (length (now kinds)) (now entries) (now marks) (now ats) (now eps) (now lefts) ⌝ }
+    requires { ⌜ Places (length (now kinds)) (now entries) (now marks) (now ats) (now nexts) (now lefts) ⌝ }
     ensures { λ r. ⌜ answers.packedTo (now (output .exit)) r ≡ answers.packIf (judgement.judgeImage (base .0) (imageCells (listed (now (kinds .entry)) (now (operands .entry)))) (length (now (output .entry)))) order (base .0) (listed (now (kinds .entry)) (now (operands .entry))) (now (output .entry)) ⌝ }
 {
-    let cells = prepare(kinds, operands, entries, marks, ats, eps, lefts);
+    let cells = prepare(kinds, operands, entries, marks, ats, nexts, lefts);
     match judge_image(base, cells, output.len()) {
         Judged::Refused(r) => Packed::Refused(r),
         Judged::Passed => {
             write_image(
                 order,
-                base.0,
+                base,
                 kinds,
                 operands,
                 marks,
                 ats,
-                eps,
+                nexts,
                 lefts,
                 output,
             );
@@ -61,7 +61,7 @@ pub fn pack(order: u8, kinds: &[u8], operands: &[u32], base: Address, output: &m
             let mut entries = [0u8; 4096];
             let mut marks = [0u8; 4096];
             let mut ats = [0u32; 4096];
-            let mut eps = [0u32; 4096];
+            let mut nexts = [0u32; 4096];
             let mut lefts = [0u32; 4096];
             pack_checked(
                 order,
@@ -71,7 +71,7 @@ pub fn pack(order: u8, kinds: &[u8], operands: &[u32], base: Address, output: &m
                 &mut entries[0..n],
                 &mut marks[0..n],
                 &mut ats[0..n],
-                &mut eps[0..n],
+                &mut nexts[0..n],
                 &mut lefts[0..n],
                 output,
             )

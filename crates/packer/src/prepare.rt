@@ -16,16 +16,16 @@ pub fn prepare(
     entries: &mut [u8],
     marks: &mut [u8],
     ats: &mut [u32],
-    eps: &mut [u32],
+    nexts: &mut [u32],
     lefts: &mut [u32],
 ) -> CellCount
     requires { ⌜ Checked (now kinds) (now operands) ⌝ }
-    requires { ⌜ Places (length (now kinds)) (now entries) (now marks) (now ats) (now eps) (now lefts) ⌝ }
+    requires { ⌜ Places (length (now kinds)) (now entries) (now marks) (now ats) (now nexts) (now lefts) ⌝ }
     ensures { λ r. ⌜ r ≡ cellCount (imageCells (listed (now (kinds .entry)) (now (operands .entry)))) ⌝ }
-    ensures { λ r. ⌜ Prepared (now (kinds .entry)) (now (operands .entry)) (now (entries .exit)) (now (marks .exit)) (now (ats .exit)) (now (eps .exit)) (now (lefts .exit)) ⌝ }
+    ensures { λ r. ⌜ Prepared (now (kinds .entry)) (now (operands .entry)) (now (entries .exit)) (now (marks .exit)) (now (ats .exit)) (now (nexts .exit)) (now (lefts .exit)) ⌝ }
 {
     find_entries(kinds, operands, entries);
-    CellCount(settle_marks(kinds, operands, entries, marks, ats, eps, lefts))
+    settle_marks(kinds, operands, entries, marks, ats, nexts, lefts)
 }
 
 // The number of cells of the image.
@@ -37,7 +37,7 @@ pub fn count_cells(kinds: &[u8], operands: &[u32]) -> CellCount
     let mut entries = [0u8; 4096];
     let mut marks = [0u8; 4096];
     let mut ats = [0u32; 4096];
-    let mut eps = [0u32; 4096];
+    let mut nexts = [0u32; 4096];
     let mut lefts = [0u32; 4096];
     prepare(
         kinds,
@@ -45,7 +45,7 @@ pub fn count_cells(kinds: &[u8], operands: &[u32]) -> CellCount
         &mut entries[0..n],
         &mut marks[0..n],
         &mut ats[0..n],
-        &mut eps[0..n],
+        &mut nexts[0..n],
         &mut lefts[0..n],
     )
 }

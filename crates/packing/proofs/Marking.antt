@@ -18,7 +18,7 @@ use Rattle.layout.specs.declared.Class.the-variants.{Plain as plain, Literal as
 use Rattle.layout.specs.Kinds.{classOf}
 use Rattle.layout.specs.Bytes.{fits}
 use Rattle.layout.specs.Flags.{flagged}
-use Rattle.layout.specs.Refusals.{accepted}
+use Rattle.cell.specs.declared.Judged.the-variants.{Passed}
 use Rattle.layout.specs.Listing.{Listing, listed, any, judgedListing}
 use Rattle.layout.specs.Layout.{mid, left, Laid}
 use Rattle.layout.specs.Rounds.{rounds}
@@ -34,13 +34,13 @@ new-same branch g a b h = ap (newOf branch g) (h refl)
 new-same noKind g a b h = refl
 
 -- what the code tests at item i, from the arrays of a layout
-module _ (l : Listing) (ok : judgedListing l ≡ accepted) (m : ℕ → Bool) (ats eps lefts : List ℕ)
-    (laid : Laid (plan l m) ats eps lefts (l .count)) where
+module _ (l : Listing) (ok : judgedListing l ≡ Passed) (m : ℕ → Bool) (ats nexts lefts : List ℕ)
+    (laid : Laid (plan l m) ats nexts lefts (l .count)) where
   pub new-at : (i : ℕ) → i < l .count
       → newOf (classOf (l .kind i)) (formOf (classOf (l .kind i)) (m i) (l .operand i) (getD lefts i 0))
-      (fits (getD lefts i 0) (distance (getD eps i 0) (getD ats (l .operand i) 0))) ≡ new l m i
+      (fits (getD lefts i 0) (distance (getD nexts i 0) (getD ats (l .operand i) 0))) ≡ new l m i
   new-at i h =
-      rw (laid .left i h, laid .ep i h)
+      rw (laid .left i h, laid .next i h)
       (new-same (classOf (l .kind i)) _ _ _
       (λ q. ap (λ (to : ℕ). fits (left (plan l m) i) (distance (mid (plan l m) i .next) to))
       (laid .at (l .operand i) (target-below l ok i h q))))
@@ -101,20 +101,20 @@ unfolding any
 mark-start l before n e =
     record { inside = omega arith; size = e; some = refl; done = λ j h. absurd (omega arith); rest = λ j h. refl }
 
-module _ (l : Listing) (ok : judgedListing l ≡ accepted) (before marks ats eps lefts : List ℕ)
-    (laid : Laid (plan l (flagged before)) ats eps lefts (l .count)) (i : ℕ) (h : i < l .count)
+module _ (l : Listing) (ok : judgedListing l ≡ Passed) (before marks ats nexts lefts : List ℕ)
+    (laid : Laid (plan l (flagged before)) ats nexts lefts (l .count)) (i : ℕ) (h : i < l .count)
     (same : flagged marks i ≡ flagged before i) where
   pub test-is : (r : Bool)
       → r ≡ newOf (classOf (l .kind i)) (formOf (classOf (l .kind i)) (flagged marks i) (l .operand i) (getD lefts i 0))
-      (fits (getD lefts i 0) (distance (getD eps i 0) (getD ats (l .operand i) 0)))
+      (fits (getD lefts i 0) (distance (getD nexts i 0) (getD ats (l .operand i) 0)))
       → r ≡ new l (flagged before) i
   test-is r q =
       q
       ∙ ap
       (λ (m : Bool). newOf (classOf (l .kind i)) (formOf (classOf (l .kind i)) m (l .operand i) (getD lefts i 0))
-      (fits (getD lefts i 0) (distance (getD eps i 0) (getD ats (l .operand i) 0))))
+      (fits (getD lefts i 0) (distance (getD nexts i 0) (getD ats (l .operand i) 0))))
       same
-      ∙ new-at l ok (flagged before) ats eps lefts laid i h
+      ∙ new-at l ok (flagged before) ats nexts lefts laid i h
 
   pub left-small : getD lefts i 0 ≤ 3
   left-small = rw (laid .left i h) (left-le (plan l (flagged before)) i)

@@ -15,30 +15,30 @@ use Rattle.layout.proofs.Packing.{only}
 use Rattle.packing.proofs.Marking.{no-mark, one-round, same-marks}
 
 -- what the loop keeps: the flags are the marks after some rounds, each of which added one
-pub record RoundTurn (kinds operands flags ats eps lefts : List ℕ) : Type 0 where
+pub record RoundTurn (kinds operands flags ats nexts lefts : List ℕ) : Type 0 where
   pub round : ℕ
   pub here : flagged flags ≡ rounds (length kinds) (new (listed kinds operands)) round
   pub at-round : AtRound (length kinds) (new (listed kinds operands)) round
   pub flags-length : length flags ≡ length kinds
   pub ats-length : length ats ≡ length kinds
-  pub eps-length : length eps ≡ length kinds
+  pub nexts-length : length nexts ≡ length kinds
   pub lefts-length : length lefts ≡ length kinds
 
-pub round-start : (kinds operands flags ats eps lefts : List ℕ) → ((j : ℕ) → getD flags j 0 ≡ 0) → length flags ≡ length kinds
-    → (length ats ≡ length kinds) × (length eps ≡ length kinds) × (length lefts ≡ length kinds)
-    → RoundTurn kinds operands flags ats eps lefts
-round-start kinds operands flags ats eps lefts z h k =
+pub round-start : (kinds operands flags ats nexts lefts : List ℕ) → ((j : ℕ) → getD flags j 0 ≡ 0) → length flags ≡ length kinds
+    → (length ats ≡ length kinds) × (length nexts ≡ length kinds) × (length lefts ≡ length kinds)
+    → RoundTurn kinds operands flags ats nexts lefts
+round-start kinds operands flags ats nexts lefts z h k =
     record {
       round = 0;
       here = no-mark kinds operands flags z;
       at-round = first-round (length kinds) (new (listed kinds operands)) (only (listed kinds operands));
       flags-length = h;
       ats-length = k .0;
-      eps-length = k .1;
+      nexts-length = k .1;
       lefts-length = k .2;
     }
 
-module _ (kinds operands s ats eps lefts : List ℕ) (turn : RoundTurn kinds operands s ats eps lefts) (t : List ℕ) (added : Bool)
+module _ (kinds operands s ats nexts lefts : List ℕ) (turn : RoundTurn kinds operands s ats nexts lefts) (t : List ℕ) (added : Bool)
     (some : added ≡ any (new (listed kinds operands) (flagged s)) (length kinds))
     (marked : Marked (listed kinds operands) s t (length kinds)) (size : length t ≡ length kinds) where
   abbrev l : Listing
@@ -50,16 +50,16 @@ module _ (kinds operands s ats eps lefts : List ℕ) (turn : RoundTurn kinds ope
   after-is : flagged t ≡ rounds (length kinds) (new l) (suc (turn .round))
   after-is = one-round kinds operands (turn .round) s t (turn .here) size marked
 
-  pub round-turn : added ≡ true → (ats2 eps2 lefts2 : List ℕ) → length ats2 ≡ length ats → length eps2 ≡ length eps → length lefts2 ≡ length lefts
-      → RoundTurn kinds operands t ats2 eps2 lefts2
-  round-turn q ats2 eps2 lefts2 a e f =
+  pub round-turn : added ≡ true → (ats2 nexts2 lefts2 : List ℕ) → length ats2 ≡ length ats → length nexts2 ≡ length nexts → length lefts2 ≡ length lefts
+      → RoundTurn kinds operands t ats2 nexts2 lefts2
+  round-turn q ats2 nexts2 lefts2 a e f =
       record {
         round = suc (turn .round);
         here = after-is;
         at-round = turn-round (length kinds) (new l) (only l) (turn .round) (turn .at-round) (sym adds-is ∙ q);
         flags-length = size;
         ats-length = a ∙ turn .ats-length;
-        eps-length = e ∙ turn .eps-length;
+        nexts-length = e ∙ turn .nexts-length;
         lefts-length = f ∙ turn .lefts-length;
       }
 

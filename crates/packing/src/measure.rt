@@ -1,10 +1,13 @@
 // Values of items, and whether they fit a few signed bytes.
+use cell::Address;
+use cell::CellCount;
+use cell::place::address_at;
 use layout::Class;
 use layout::Form;
 use std::num::wrapping_sub_u32;
 ghost use mathlib.Core.Bool.{_&&_, _||_};
 ghost use mathlib.Core.Path.{_≡_};
-ghost use Prim.Native.Nat.{_+_, _*_, _^_, _≤_, _<_};
+ghost use Prim.Native.Nat.{_+_, _^_, _≤_, _<_};
 ghost use lib.Dec.{leb, ltb};
 ghost use Rattle.layout.specs.Bytes.{fits};
 ghost use Rattle.layout.specs.Packing.{distance, valueOf};
@@ -33,25 +36,28 @@ pub fn fits_in(f: u32, x: u32) -> bool
     }
 }
 
-// The immediate value of a branch: cells from its EP value to its target.
-pub fn distance_of(ep: u32, to: u32) -> u32
-    ensures { λ r. ⌜ r ≡ distance ep to ⌝ }
+// The immediate value of a branch: cells from its EP value, at the index next, to its target.
+pub fn distance_of(next: CellCount, to: CellCount) -> u32
+    ensures { λ r. ⌜ r ≡ distance (next .0) (to .0) ⌝ }
 {
-    wrapping_sub_u32(to, ep)
+    wrapping_sub_u32(to.0, next.0)
 }
 
 // The value of an item with operand x. The base is legal, and an image has at most 8,192 cells.
-pub fn value_of(c: Class, g: Form, x: u32, ep: u32, to: u32, base: u32) -> u32
-    requires { ⌜ (base ≤ 16777216) × (to ≤ 8192) ⌝ }
-    ensures { λ r. ⌜ r ≡ valueOf c g x ep to base ⌝ }
+pub fn value_of(c: Class, g: Form, x: u32, next: CellCount, to: CellCount, base: Address) -> u32
+    requires { ⌜ (base .0 ≤ 16777216) × (to .0 ≤ 8192) ⌝ }
+    ensures { λ r. ⌜ r ≡ valueOf c g x (next .0) (to .0) (base .0) ⌝ }
 {
     match c {
         Class::Plain => 0,
         Class::Literal => x,
         Class::Branch => match g {
             Form::Alone => 0,
-            Form::Immediate => distance_of(ep, to),
-            Form::InCell => base + 4 * to,
+            Form::Immediate => distance_of(next, to),
+            Form::InCell => {
+                let target = address_at(base, to);
+                target.0
+            }
         },
         Class::NoKind => 0,
     }

@@ -1,55 +1,63 @@
 // Where an item goes, and in which form.
 use crate::measure::fits_in;
+use cell::CellCount;
 use layout::Class;
 use layout::Cursor;
 use layout::Form;
 ghost use mathlib.Core.Path.{_≡_};
 ghost use Prim.Native.Nat.{_-_, _≤_, _<_};
-ghost use Rattle.layout.specs.Layout.{fresh, begin, finish};
+ghost use Rattle.layout.specs.Layout.{spotOf, opening, fresh, begin, finish};
 ghost use Rattle.layout.specs.Packing.{taking, formOf};
 
-// The cursor when an item's cell is open. An image has at most 8,192 cells.
-pub fn begun(c: Cursor, entry: bool) -> Cursor
-    requires { ⌜ c .next ≤ 8192 ⌝ }
-    ensures { λ r. ⌜ r ≡ begin (fresh (c .free) entry) c ⌝ }
+// The cursor when a new cell is open. An image has at most 8,192 cells.
+fn open_cell(next: CellCount) -> Cursor
+    requires { ⌜ next .0 ≤ 8192 ⌝ }
+    ensures { λ r. ⌜ spotOf r ≡ opening (next .0) ⌝ }
 {
+    Cursor {
+        at: next,
+        free: 4,
+        next: CellCount(next.0 + 1),
+    }
+}
+
+// The cursor when an item's cell is open.
+pub fn begun(c: Cursor, entry: bool) -> Cursor
+    requires { ⌜ c .next .0 ≤ 8192 ⌝ }
+    ensures { λ r. ⌜ spotOf r ≡ begin (fresh (c .free) entry) (spotOf c) ⌝ }
+{
+    let next = c.next;
     if c.free == 0 {
-        return Cursor {
-            at: c.next,
-            free: 4,
-            next: c.next + 1,
-        };
+        return open_cell(next);
     }
     if entry {
-        return Cursor {
-            at: c.next,
-            free: 4,
-            next: c.next + 1,
-        };
+        return open_cell(next);
     }
     c
 }
 
 // The cursor after an item in the form g.
 pub fn finished(c: Cursor, g: Form) -> Cursor
-    requires { ⌜ (0 < c .free) × (c .next ≤ 8193) ⌝ }
-    ensures { λ r. ⌜ r ≡ finish g (c .free - 1) c ⌝ }
+    requires { ⌜ (0 < c .free) × (c .next .0 ≤ 8193) ⌝ }
+    ensures { λ r. ⌜ spotOf r ≡ finish g (c .free - 1) (spotOf c) ⌝ }
 {
+    let at = c.at;
+    let next = c.next;
     match g {
         Form::Alone => Cursor {
-            at: c.at,
+            at: at,
             free: c.free - 1,
-            next: c.next,
+            next: next,
         },
         Form::Immediate => Cursor {
-            at: c.at,
+            at: at,
             free: 0,
-            next: c.next,
+            next: next,
         },
         Form::InCell => Cursor {
-            at: c.at,
+            at: at,
             free: c.free - 1,
-            next: c.next + 1,
+            next: CellCount(next.0 + 1),
         },
     }
 }

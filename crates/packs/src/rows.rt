@@ -6,15 +6,22 @@ use packer::pack::pack;
 use print::print_packed;
 
 // One listing into an output.
-fn show_in(name: &[u8], order: u8, kinds: &[u8], operands: &[u32], base: u32, output: &mut [u8]) {
+fn show_in(
+    name: &[u8],
+    order: u8,
+    kinds: &[u8],
+    operands: &[u32],
+    base: Address,
+    output: &mut [u8],
+) {
     write_all(STDOUT_FILENO, name);
     write_all(STDOUT_FILENO, b":\n");
-    let answer = pack(order, kinds, operands, Address(base), output);
+    let answer = pack(order, kinds, operands, base, output);
     print_packed(answer, output);
 }
 
 // One listing into an output of some size, at most 1,024 bytes.
-fn show(name: &[u8], order: u8, kinds: &[u8], operands: &[u32], base: u32, size: usize) {
+fn show(name: &[u8], order: u8, kinds: &[u8], operands: &[u32], base: Address, size: usize) {
     if size <= 1024 {
         let mut output = [0u8; 1024];
         show_in(name, order, kinds, operands, base, &mut output[0..size]);
@@ -23,7 +30,7 @@ fn show(name: &[u8], order: u8, kinds: &[u8], operands: &[u32], base: u32, size:
 
 // A listing in order 0 at 10h, with room for it.
 fn row(name: &[u8], kinds: &[u8], operands: &[u32]) {
-    show(name, 0, kinds, operands, 0x10, 1024)
+    show(name, 0, kinds, operands, Address(0x10), 1024)
 }
 
 // After two DUPs, one literal.
@@ -70,7 +77,7 @@ pub fn marked() {
 
 // What the input list turns back, after the byte order.
 fn bad_input() {
-    show(b"order 2", 2, &[0x00], &[], 0x12, 0);
+    show(b"order 2", 2, &[0x00], &[], Address(0x12), 0);
     row(b"no item", &[], &[]);
     row(b"unequal arrays", &[0x01], &[]);
     row(b"no kind", &[0x53], &[0]);
@@ -88,15 +95,29 @@ fn bad_operands() {
 }
 
 fn bad_base() {
-    show(b"base 12h", 0, &[0x01], &[0], 0x12, 0);
-    show(b"base 0Ch", 0, &[0x01], &[0], 0x0C, 0);
-    show(b"two cells at FFFFFCh", 0, &[0x52], &[8388608], 0xFFFFFC, 0);
-    show(b"one cell at FFFFFCh", 0, &[0x01], &[0], 0xFFFFFC, 4);
+    show(b"base 12h", 0, &[0x01], &[0], Address(0x12), 0);
+    show(b"base 0Ch", 0, &[0x01], &[0], Address(0x0C), 0);
+    show(
+        b"two cells at FFFFFCh",
+        0,
+        &[0x52],
+        &[8388608],
+        Address(0xFFFFFC),
+        0,
+    );
+    show(
+        b"one cell at FFFFFCh",
+        0,
+        &[0x01],
+        &[0],
+        Address(0xFFFFFC),
+        4,
+    );
 }
 
 fn bad_output() {
-    show(b"no room", 0, &[0x52], &[8388608], 0x10, 7);
-    show(b"just room", 0, &[0x52], &[8388608], 0x10, 8);
+    show(b"no room", 0, &[0x52], &[8388608], Address(0x10), 7);
+    show(b"just room", 0, &[0x52], &[8388608], Address(0x10), 8);
 }
 
 pub fn refused() {

@@ -1,4 +1,5 @@
 // What the packing programs print: the cells of an image, one a line, or a refusal's number.
+use cell::CellCount;
 use cell::memory::load;
 use io::print_decimal;
 use io::write_all;
@@ -32,11 +33,12 @@ fn print_cell(x: u32) {
 }
 
 // The first cells of an output in order 0.
-fn print_cells(output: &[u8], count: usize)
-    requires { ⌜ 4 * count ≤ length (now output) ⌝ }
+fn print_cells(output: &[u8], count: CellCount)
+    requires { ⌜ 4 * count .0 ≤ length (now output) ⌝ }
 {
+    let n = count.0 as usize;
     let mut i = 0;
-    while i < count {
+    while i < n {
         print_cell(load(0, output, 4 * i));
         i += 1;
     }
@@ -55,7 +57,7 @@ pub fn print_packed(answer: Packed, output: &[u8])
 {
     let number = pack_number(answer);
     if number == 0 {
-        print_cells(output, pack_count(answer) as usize);
+        print_cells(output, CellCount(pack_count(answer)));
     } else {
         print_number(number);
     }

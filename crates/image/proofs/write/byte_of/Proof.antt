@@ -1,4 +1,4 @@
--- `packing::write::byte_of` meets its contract.
+-- `image::write::byte_of` meets its contract.
 -- Assumes nothing.
 use borrow.Author.Needs.{needs}
 use Rattle.image.proofs.write.byte_of.Statement.{statement}

@@ -1,7 +1,7 @@
--- `packing::write::pack_item` meets its contract.
+-- `image::write::pack_item` meets its contract.
 -- Assumes nothing.
 use mathlib.Core.Path.{ap, ap₂, _∙_}
-use Prim.Native.Nat.{ℕ}
+use Rattle.cell.specs.declared.CellCount.{CellCount}
 use Rattle.layout.specs.declared.Class.{Class}
 use Rattle.layout.specs.Packing.{formOf, valueOf}
 use Rattle.image.proofs.Writing.{pick-most}
@@ -32,11 +32,15 @@ returns c =
     let class-of = c .before .before .before .class-of in (
       form-of .ensures ∙ ap (λ (k : Class). formOf k (args .marked) (args .x) (args .f)) (class-of .ensures),
       c .value-of .ensures
-          ∙ ap₂ (λ (k : Class) (to : ℕ). valueOf k (form-of .result) (args .x) (args .ep) to (args .base)) (class-of .ensures) (c
-          .before .target-of .ensures),
+          ∙ ap₂ (λ (k : Class) (to : CellCount). valueOf k (form-of .result) (args .x) (args .next .0) (to .0) (args .base .0)) (class-of .ensures) (c .before .target-of .ensures),
     )
 
 pub pack-item-spec : {M : Type 1} → statement M
 pack-item-spec =
     tie.close
-    (tie.spec class-of-requires form-of-requires target-of-requires value-of-requires returns)
+    (tie.spec
+    class-of-requires
+    form-of-requires
+    target-of-requires
+    value-of-requires
+    returns)

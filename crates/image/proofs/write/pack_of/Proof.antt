@@ -1,4 +1,4 @@
--- `packing::write::pack_of` meets its contract.
+-- `image::write::pack_of` meets its contract.
 -- Assumes nothing.
 use mathlib.Core.Path.{refl}
 use Rattle.layout.specs.Bytes.{pack}

@@ -1,4 +1,4 @@
--- `packing::write::put_opened` meets its contract.
+-- `image::write::put_opened` meets its contract.
 -- Assumes nothing.
 use mathlib.Core.Path.{refl, ap}
 use native.Mathlib.Omega.{arith}
@@ -25,4 +25,10 @@ returns-2 : tie.Need-returns-2
 returns-2 c = search needs
 
 pub put-opened-spec : {M : Type 1} → statement M
-put-opened-spec = tie.close (tie.spec put-cell-requires same-length returns returns-2)
+put-opened-spec =
+    tie.close
+    (tie.spec
+    put-cell-requires
+    same-length
+    returns
+    returns-2)

@@ -1,4 +1,4 @@
--- `packing::write::put_operand` meets its contract.
+-- `image::write::put_operand` meets its contract.
 -- Assumes nothing.
 use mathlib.Core.Path.{ap}
 use native.Mathlib.Omega.{arith}

@@ -1,4 +1,4 @@
--- `packing::write::target_of` meets its contract.
+-- `image::write::target_of` meets its contract.
 -- Assumes nothing.
 use mathlib.Core.Path.{sym, _∙_}
 use borrow.Author.Needs.{needs}
@@ -18,4 +18,10 @@ returns-2 : tie.Need-returns-2
 returns-2 c = simp (sym (c .before .is-branch .ensures) ∙ c .if1 .left)
 
 pub target-of-spec : {M : Type 1} → statement M
-target-of-spec = tie.close (tie.spec is-branch-requires place-of-requires returns returns-2)
+target-of-spec =
+    tie.close
+    (tie.spec
+    is-branch-requires
+    place-of-requires
+    returns
+    returns-2)

@@ -1,4 +1,4 @@
--- `packing::write::word_of` meets its contract.
+-- `image::write::word_of` meets its contract.
 -- Assumes nothing.
 use borrow.Author.Needs.{needs}
 use Rattle.image.proofs.Writing.{byte-small}

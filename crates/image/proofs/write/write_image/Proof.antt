@@ -1,4 +1,4 @@
--- `packing::write::write_image` meets its contract: the items from the present one on are written.
+-- `image::write::write_image` meets its contract: the items from the present one on are written.
 -- Assumes nothing.
 use mathlib.Core.Path.{_∙_}
 use Prim.Native.Nat.{_-_, _<_}
@@ -14,11 +14,11 @@ use Rattle.image.proofs.write.write_image.Statement.{statement}
 use Rattle.image.proofs.write.write_image.Tie as tie
 
 abbrev Inv-loop : tie.InvT-loop
-Inv-loop order base kinds operands marks ats eps lefts out₀ i₀ rest₀ out i rest =
-    WriteTurn order base (listed kinds operands) out₀ out rest i
+Inv-loop order base kinds operands marks ats nexts lefts out₀ i₀ rest₀ out i rest =
+    WriteTurn order (base .0) (listed kinds operands) out₀ out rest i
 
 abbrev μ-loop : tie.MeasureT-loop
-μ-loop order base kinds operands marks ats eps lefts out₀ i₀ rest₀ out i rest = i
+μ-loop order base kinds operands marks ats nexts lefts out₀ i₀ rest₀ out i rest = i
 
 loop-holds : tie.Need-loop-holds Inv-loop μ-loop
 loop-holds c =
@@ -27,7 +27,7 @@ loop-holds c =
     let a = args in
     let pre = pre-here in
     let l = listed (a .kinds .now) (a .operands .now) in
-    write-start (a .order) (a .base) l (a .out .now) (pre .1 .1 .1 .1 .1)
+    write-start (a .order) (a .base .0) l (a .out .now) (pre .1 .1 .1 .1 .1)
 
 sub-i : tie.Need-sub-i Inv-loop μ-loop
 sub-i c = omega arith
@@ -55,21 +55,24 @@ shared-slice-read-f c =
     let turn = loop .inv in
     omega (arith, turn .inside, c .before .loop-test .taken, pre .1 .0 .3)
 
-mul-ep : tie.Need-mul-ep Inv-loop μ-loop
-mul-ep c =
-    let args = c .before .before .before .before .before .before .before .before .before .before .args in
+mul-pack-item : tie.Need-mul-pack-item Inv-loop μ-loop
+mul-pack-item c =
+    let args = c .before .before .before .before .before .before .before .before .before .before .args
+    in
     let pre-here = c .before .before .before .before .before .before .before .before .before .before .pre in
     let loop = c .before .before .loop in
+    let loop-test = c .before .loop-test in
     let a = args in
     let pre = pre-here in
     let l = listed (a .kinds .now) (a .operands .now) in
     let i = loop .i in
     let turn = loop .inv in
-    omega (arith, turn .inside, c .before .loop-test .taken, (some-item l (pre .0 .input) .1))
+    omega (arith, turn .inside, loop-test .taken, (some-item l (pre .0 .input) .1))
 
-shared-slice-read-ep : tie.Need-shared-slice-read-ep Inv-loop μ-loop
-shared-slice-read-ep c =
-    let args = c .before .before .before .before .before .before .before .before .before .before .before .args in
+shared-slice-read-pack-item : tie.Need-shared-slice-read-pack-item Inv-loop μ-loop
+shared-slice-read-pack-item c =
+    let args = c .before .before .before .before .before .before .before .before .before .before .before .args
+    in
     let pre-here = c .before .before .before .before .before .before .before .before .before .before .before .pre in
     let loop = c .before .before .before .loop in
     let loop-test = c .before .before .loop-test in
@@ -78,7 +81,7 @@ shared-slice-read-ep c =
     let l = listed (a .kinds .now) (a .operands .now) in
     let i = loop .i in
     let turn = loop .inv in
-    omega (arith, turn .inside, loop-test .taken, pre .1 .0 .2)
+    omega (arith, turn .inside, loop-test .taken, pre .1 .0 .0)
 
 shared-slice-read-kind : tie.Need-shared-slice-read-kind Inv-loop μ-loop
 shared-slice-read-kind c =
@@ -93,44 +96,12 @@ shared-slice-read-kind c =
     let turn = loop .inv in
     omega (arith, turn .inside, loop-test .taken)
 
-shared-slice-read-pack-item : tie.Need-shared-slice-read-pack-item Inv-loop μ-loop
-shared-slice-read-pack-item c =
-    let args = c .before .before .before .before .before .before .before .before .before .before .before .before .before .args
-    in
-    let pre-here = c .before .before .before .before .before .before .before .before .before .before .before .before .before
-    .pre in
-    let loop = c .before .before .before .before .before .loop in
-    let loop-test = c .before .before .before .before .loop-test in
-    let a = args in
-    let pre = pre-here in
-    let l = listed (a .kinds .now) (a .operands .now) in
-    let i = loop .i in
-    let turn = loop .inv in
-    omega (arith, turn .inside, loop-test .taken, pre .1 .0 .0)
-
-mul-pack-item : tie.Need-mul-pack-item Inv-loop μ-loop
-mul-pack-item c =
-    let args = c .before .before .before .before .before .before .before .before .before .before .before .before .before .args
-    in
-    let pre-here = c .before .before .before .before .before .before .before .before .before .before .before .before .before
-    .pre in
-    let loop = c .before .before .before .before .before .loop in
-    let loop-test = c .before .before .before .before .loop-test in
-    let a = args in
-    let pre = pre-here in
-    let l = listed (a .kinds .now) (a .operands .now) in
-    let i = loop .i in
-    let turn = loop .inv in
-    omega (arith, turn .inside, loop-test .taken, (some-item l (pre .0 .input) .1))
-
 shared-slice-read-pack-item-2 : tie.Need-shared-slice-read-pack-item-2 Inv-loop μ-loop
 shared-slice-read-pack-item-2 c =
-    let args = c .before .before .before .before .before .before .before .before .before .before .before .before .before .before
-    .args in
-    let pre-here = c .before .before .before .before .before .before .before .before .before .before .before .before .before
-    .before .pre in
-    let loop = c .before .before .before .before .before .before .loop in
-    let loop-test = c .before .before .before .before .before .loop-test in
+    let args = c .before .before .before .before .before .before .before .before .before .before .before .before .before .args in
+    let pre-here = c .before .before .before .before .before .before .before .before .before .before .before .before .before .pre in
+    let loop = c .before .before .before .before .before .loop in
+    let loop-test = c .before .before .before .before .loop-test in
     let a = args in
     let pre = pre-here in
     let l = listed (a .kinds .now) (a .operands .now) in
@@ -138,12 +109,26 @@ shared-slice-read-pack-item-2 c =
     let turn = loop .inv in
     omega (arith, turn .inside, loop-test .taken, pre .0 .equal)
 
+mul-pack-item-2 : tie.Need-mul-pack-item-2 Inv-loop μ-loop
+mul-pack-item-2 c =
+    let args = c .before .before .before .before .before .before .before .before .before .before .before .before .before .args in
+    let pre-here = c .before .before .before .before .before .before .before .before .before .before .before .before .before .pre in
+    let loop = c .before .before .before .before .before .loop in
+    let loop-test = c .before .before .before .before .loop-test in
+    let l = listed (args .kinds .now) (args .operands .now) in
+    omega (arith, loop .inv .inside, loop-test .taken, some-item l (pre-here .0 .input) .1)
+
+shared-slice-read-pack-item-3 : tie.Need-shared-slice-read-pack-item-3 Inv-loop μ-loop
+shared-slice-read-pack-item-3 c =
+    let pre-here = c .before .before .before .before .before .before .before .before .before .before .before .before .before .before .pre in
+    let loop = c .before .before .before .before .before .before .loop in
+    let loop-test = c .before .before .before .before .before .loop-test in
+    omega (arith, loop .inv .inside, loop-test .taken, pre-here .1 .0 .2)
+
 pack-item-requires : tie.Need-pack-item-requires Inv-loop μ-loop
 pack-item-requires c κs =
-    let args = c .before .before .before .before .before .before .before .before .before .before .before .before .before .before
-    .args in
-    let pre-here = c .before .before .before .before .before .before .before .before .before .before .before .before .before
-    .before .pre in
+    let args = c .before .before .before .before .before .before .before .before .before .before .before .before .before .before .args in
+    let pre-here = c .before .before .before .before .before .before .before .before .before .before .before .before .before .before .pre in
     let loop = c .before .before .before .before .before .before .loop in
     let loop-test = c .before .before .before .before .before .loop-test in
     let a = args in
@@ -152,21 +137,19 @@ pack-item-requires c κs =
     let i = loop .i in
     let turn = loop .inv in
     let h : i - 1 < length (a .kinds .now) = omega (arith, turn .inside, loop-test .taken) in
-    let next = turn-down (a .order) (a .base) l (a .out .now) (loop .out) (loop .rest) i (omega (arith, loop-test .taken)) turn in (
+    let next = turn-down (a .order) (a .base .0) l (a .out .now) (loop .out) (loop .rest) i (omega (arith, loop-test .taken)) turn in (
       rw (pre .1 .1 .1 .0 .left (i - 1) h) (left-le (layout l) (i - 1)),
       pre .1 .1 .1 .1 .0,
       λ q. rw (pre .1 .0 .1)
-          (target-inside (a .base) l (pre .0 .input) (a .marks .now) (a .ats .now) (a .eps .now) (a .lefts .now) (pre .1 .1 .1 .0)
+          (target-inside (a .base .0) l (pre .0 .input) (a .marks .now) (a .ats .now) (a .nexts .now) (a .lefts .now) (pre .1 .1 .1 .0)
           (pre .1 .1 .0) (i - 1) h (some-item l (pre .0 .input) .1) q),
     )
 
 put-operand-requires : tie.Need-put-operand-requires Inv-loop μ-loop
 unfolding flagged
 put-operand-requires c κs =
-    let args = c .before .before .before .before .before .before .before .before .before .before .before .before .before .before
-    .before .before .args in
-    let pre-here = c .before .before .before .before .before .before .before .before .before .before .before .before .before
-    .before .before .before .pre in
+    let args = c .before .before .before .before .before .before .before .before .before .before .before .before .before .before .before .before .args in
+    let pre-here = c .before .before .before .before .before .before .before .before .before .before .before .before .before .before .before .before .pre in
     let loop = c .before .before .before .before .before .before .before .before .loop in
     let loop-test = c .before .before .before .before .before .before .before .loop-test in
     let a = args in
@@ -175,18 +158,15 @@ put-operand-requires c κs =
     let i = loop .i in
     let turn = loop .inv in
     let h : i - 1 < length (a .kinds .now) = omega (arith, turn .inside, loop-test .taken) in
-    let next = turn-down (a .order) (a .base) l (a .out .now) (loop .out) (loop .rest) i (omega (arith, loop-test .taken)) turn in
-    operand-room (a .order) (a .base) l (a .out .now) (pre .1 .1 .1 .1 .1) (loop .out) (loop .rest) (i - 1) h next (c .before
-    .pack-item .result .form) (getD (a .eps .now) (i - 1) 0) (some-item l (pre .0 .input) .1) (c .before .pack-item .ensures .0
-    ∙ form-is (a .base) l (pre .0 .input) (a .marks .now) (a .ats .now) (a .eps .now) (a .lefts .now) (pre .1 .1 .1 .0) (pre .1
-    .1 .0) (i - 1) h) (pre .1 .1 .1 .0 .ep (i - 1) h)
+    let next = turn-down (a .order) (a .base .0) l (a .out .now) (loop .out) (loop .rest) i (omega (arith, loop-test .taken)) turn in
+    operand-room (a .order) (a .base .0) l (a .out .now) (pre .1 .1 .1 .1 .1) (loop .out) (loop .rest) (i - 1) h next (c .before .pack-item .result .form) (getD (a .nexts .now) (i - 1) 0) (some-item l (pre .0 .input) .1) (c .before .pack-item .ensures .0
+    ∙ form-is (a .base .0) l (pre .0 .input) (a .marks .now) (a .ats .now) (a .nexts .now) (a .lefts .now) (pre .1 .1 .1 .0) (pre .1
+    .1 .0) (i - 1) h) (pre .1 .1 .1 .0 .next (i - 1) h)
 
 word-of-requires : tie.Need-word-of-requires Inv-loop μ-loop
 word-of-requires c κs =
-    let args = c .before .before .before .before .before .before .before .before .before .before .before .before .before .before
-    .before .before .before .before .before .args in
-    let pre-here = c .before .before .before .before .before .before .before .before .before .before .before .before .before
-    .before .before .before .before .before .before .pre in
+    let args = c .before .before .before .before .before .before .before .before .before .before .before .before .before .before .before .before .before .before .before .args in
+    let pre-here = c .before .before .before .before .before .before .before .before .before .before .before .before .before .before .before .before .before .before .before .pre in
     let loop = c .before .before .before .before .before .before .before .before .before .before .before .loop in
     let loop-test = c .before .before .before .before .before .before .before .before .before .before .loop-test in
     let a = args in
@@ -195,53 +175,31 @@ word-of-requires c κs =
     let i = loop .i in
     let turn = loop .inv in
     let h : i - 1 < length (a .kinds .now) = omega (arith, turn .inside, loop-test .taken) in
-    let next = turn-down (a .order) (a .base) l (a .out .now) (loop .out) (loop .rest) i (omega (arith, loop-test .taken)) turn in
+    let next = turn-down (a .order) (a .base .0) l (a .out .now) (loop .out) (loop .rest) i (omega (arith, loop-test .taken)) turn in
     omega (arith, kind-below l (pre .0 .input) (i - 1) h)
 
-mul-put-opened : tie.Need-mul-put-opened Inv-loop μ-loop
-mul-put-opened c =
-    let args = c .before .before .before .before .before .before .before .before .before .before .before .before .before .before
-    .before .before .before .before .before .before .before .args in
-    let pre-here = c .before .before .before .before .before .before .before .before .before .before .before .before .before
-    .before .before .before .before .before .before .before .before .pre in
-    let loop = c .before .before .before .before .before .before .before .before .before .before .before .before .before .loop
-    in
-    let loop-test = c .before .before .before .before .before .before .before .before .before .before .before .before .loop-test
-    in
-    let a = args in
-    let pre = pre-here in
-    let l = listed (a .kinds .now) (a .operands .now) in
-    let i = loop .i in
-    let turn = loop .inv in
-    omega (arith, turn .inside, loop-test .taken, (some-item l (pre .0 .input) .1))
+mul-t20 : tie.Need-mul-t20 Inv-loop μ-loop
+mul-t20 c =
+    let args = c .before .before .before .before .before .before .before .before .before .before .before .before .before .before .before .before .before .before .before .before .before .args in
+    let pre-here = c .before .before .before .before .before .before .before .before .before .before .before .before .before .before .before .before .before .before .before .before .before .pre in
+    let loop = c .before .before .before .before .before .before .before .before .before .before .before .before .before .loop in
+    let loop-test = c .before .before .before .before .before .before .before .before .before .before .before .before .loop-test in
+    let l = listed (args .kinds .now) (args .operands .now) in
+    omega (arith, loop .inv .inside, loop-test .taken, some-item l (pre-here .0 .input) .1)
 
-shared-slice-read-put-opened : tie.Need-shared-slice-read-put-opened Inv-loop μ-loop
-shared-slice-read-put-opened c =
-    let args = c .before .before .before .before .before .before .before .before .before .before .before .before .before .before
-    .before .before .before .before .before .before .before .before .args in
-    let pre-here = c .before .before .before .before .before .before .before .before .before .before .before .before .before
-    .before .before .before .before .before .before .before .before .before .pre in
-    let loop = c .before .before .before .before .before .before .before .before .before .before .before .before .before .before
-    .loop in
-    let loop-test = c .before .before .before .before .before .before .before .before .before .before .before .before .before
-    .loop-test in
-    let a = args in
-    let pre = pre-here in
-    let l = listed (a .kinds .now) (a .operands .now) in
-    let i = loop .i in
-    let turn = loop .inv in
-    omega (arith, turn .inside, loop-test .taken, pre .1 .0 .1)
+shared-slice-read-t22 : tie.Need-shared-slice-read-t22 Inv-loop μ-loop
+shared-slice-read-t22 c =
+    let pre-here = c .before .before .before .before .before .before .before .before .before .before .before .before .before .before .before .before .before .before .before .before .before .before .pre in
+    let loop = c .before .before .before .before .before .before .before .before .before .before .before .before .before .before .loop in
+    let loop-test = c .before .before .before .before .before .before .before .before .before .before .before .before .before .loop-test in
+    omega (arith, loop .inv .inside, loop-test .taken, pre-here .1 .0 .1)
 
 put-opened-requires : tie.Need-put-opened-requires Inv-loop μ-loop
 put-opened-requires c κs =
-    let args = c .before .before .before .before .before .before .before .before .before .before .before .before .before .before
-    .before .before .before .before .before .before .before .before .args in
-    let pre-here = c .before .before .before .before .before .before .before .before .before .before .before .before .before
-    .before .before .before .before .before .before .before .before .before .pre in
-    let loop = c .before .before .before .before .before .before .before .before .before .before .before .before .before .before
-    .loop in
-    let loop-test = c .before .before .before .before .before .before .before .before .before .before .before .before .before
-    .loop-test in
+    let args = c .before .before .before .before .before .before .before .before .before .before .before .before .before .before .before .before .before .before .before .before .before .before .args in
+    let pre-here = c .before .before .before .before .before .before .before .before .before .before .before .before .before .before .before .before .before .before .before .before .before .before .pre in
+    let loop = c .before .before .before .before .before .before .before .before .before .before .before .before .before .before .loop in
+    let loop-test = c .before .before .before .before .before .before .before .before .before .before .before .before .before .loop-test in
     let put-operand = c .before .before .before .before .before .put-operand in
     let a = args in
     let pre = pre-here in
@@ -249,8 +207,8 @@ put-opened-requires c κs =
     let i = loop .i in
     let turn = loop .inv in
     let h : i - 1 < length (a .kinds .now) = omega (arith, turn .inside, loop-test .taken) in
-    let next = turn-down (a .order) (a .base) l (a .out .now) (loop .out) (loop .rest) i (omega (arith, loop-test .taken)) turn in
-    rw (put-operand .kept .1 .0) (open-room (a .order) (a .base) l (a .out .now) (pre .1 .1 .1 .1 .1) (loop .out) (loop .rest)
+    let next = turn-down (a .order) (a .base .0) l (a .out .now) (loop .out) (loop .rest) i (omega (arith, loop-test .taken)) turn in
+    rw (put-operand .kept .1 .0) (open-room (a .order) (a .base .0) l (a .out .now) (pre .1 .1 .1 .1 .1) (loop .out) (loop .rest)
     (i - 1) h next (getD (a .lefts .now) (i - 1) 0) (getD (a .ats .now) (i - 1) 0) (some-item l (pre .0 .input) .1) (pre .1 .1
     .1 .0 .at (i - 1) h))
 
@@ -260,14 +218,10 @@ loop-less c = omega arith
 loop-again : tie.Need-loop-again Inv-loop μ-loop
 unfolding flagged
 loop-again c =
-    let args = c .before .before .before .before .before .before .before .before .before .before .before .before .before .before
-    .before .before .before .before .before .before .before .before .before .before .before .args in
-    let pre-here = c .before .before .before .before .before .before .before .before .before .before .before .before .before
-    .before .before .before .before .before .before .before .before .before .before .before .before .pre in
-    let loop = c .before .before .before .before .before .before .before .before .before .before .before .before .before .before
-    .before .before .before .loop in
-    let loop-test = c .before .before .before .before .before .before .before .before .before .before .before .before .before
-    .before .before .before .loop-test in
+    let args = c .before .before .before .before .before .before .before .before .before .before .before .before .before .before .before .before .before .before .before .before .before .before .before .before .before .args in
+    let pre-here = c .before .before .before .before .before .before .before .before .before .before .before .before .before .before .before .before .before .before .before .before .before .before .before .before .before .pre in
+    let loop = c .before .before .before .before .before .before .before .before .before .before .before .before .before .before .before .before .before .loop in
+    let loop-test = c .before .before .before .before .before .before .before .before .before .before .before .before .before .before .before .before .loop-test in
     let pack-item = c .before .before .before .before .before .before .before .before .before .before .pack-item in
     let word-of = c .before .before .before .before .before .word-of in
     let put-opened = c .before .before .put-opened in
@@ -278,15 +232,15 @@ loop-again c =
     let i = loop .i in
     let turn = loop .inv in
     let h : i - 1 < length (a .kinds .now) = omega (arith, turn .inside, loop-test .taken) in
-    let next = turn-down (a .order) (a .base) l (a .out .now) (loop .out) (loop .rest) i (omega (arith, loop-test .taken)) turn in
-    let g = pack-item .ensures .0 ∙ form-is (a .base) l (pre .0 .input) (a .marks .now) (a .ats .now) (a .eps .now) (a .lefts
+    let next = turn-down (a .order) (a .base .0) l (a .out .now) (loop .out) (loop .rest) i (omega (arith, loop-test .taken)) turn in
+    let g = pack-item .ensures .0 ∙ form-is (a .base .0) l (pre .0 .input) (a .marks .now) (a .ats .now) (a .nexts .now) (a .lefts
     .now) (pre .1 .1 .1 .0) (pre .1 .1 .0) (i - 1) h in
-    write-turn (a .order) (a .base) l (a .out .now) (pre .1 .1 .1 .1 .1) (loop .out) (loop .rest) (i - 1) h next (pack-item
+    write-turn (a .order) (a .base .0) l (a .out .now) (pre .1 .1 .1 .1 .1) (loop .out) (loop .rest) (i - 1) h next (pack-item
     .result .form) (pack-item .result .value) (getD (a .lefts .now) (i - 1) 0)
-    (getD (a .ats .now) (i - 1) 0) (getD (a .eps .now) (i - 1) 0) (word-of .result) (put-opened .result)
-    (put-operand .last .1 .0) (put-opened .last .1 .0) g (pack-item .ensures .1 ∙ value-is (a .base) l (pre .0 .input) (a .marks
-    .now) (a .ats .now) (a .eps .now) (a .lefts .now) (pre .1 .1 .1 .0) (pre .1 .1 .0) (i - 1) h (pack-item .result .form) g)
-    (pre .1 .1 .1 .0 .left (i - 1) h) (pre .1 .1 .1 .0 .at (i - 1) h) (pre .1 .1 .1 .0 .ep (i - 1) h) (word-of .ensures)
+    (getD (a .ats .now) (i - 1) 0) (getD (a .nexts .now) (i - 1) 0) (word-of .result) (put-opened .result)
+    (put-operand .last .1 .0) (put-opened .last .1 .0) g (pack-item .ensures .1 ∙ value-is (a .base .0) l (pre .0 .input) (a .marks
+    .now) (a .ats .now) (a .nexts .now) (a .lefts .now) (pre .1 .1 .1 .0) (pre .1 .1 .0) (i - 1) h (pack-item .result .form) g)
+    (pre .1 .1 .1 .0 .left (i - 1) h) (pre .1 .1 .1 .0 .at (i - 1) h) (pre .1 .1 .1 .0 .next (i - 1) h) (word-of .ensures)
     (put-opened .ensures .0) (put-operand .ensures) (put-opened .ensures .1)
     (put-opened .kept .1 .0 ∙ put-operand .kept .1 .0)
 
@@ -300,8 +254,7 @@ returns c =
     let a = args in
     let pre = pre-here in
     let l = listed (a .kinds .now) (a .operands .now) in
-    write-end (a .order) (a .base) l (a .out .now) (pre .1 .1 .1 .1 .1) (c .before .loop .out) (c .before .loop .rest) (c
-    .before .loop .i) (omega (arith, c .loop-test .left)) (c .before .loop .inv)
+    write-end (a .order) (a .base .0) l (a .out .now) (pre .1 .1 .1 .1 .1) (c .before .loop .out) (c .before .loop .rest) (c .before .loop .i) (omega (arith, c .loop-test .left)) (c .before .loop .inv)
 
 pub write-image-spec : {M : Type 1} → statement M
 write-image-spec =
@@ -313,17 +266,17 @@ write-image-spec =
     sub-i
     mul-f
     shared-slice-read-f
-    mul-ep
-    shared-slice-read-ep
-    shared-slice-read-kind
-    shared-slice-read-pack-item
     mul-pack-item
+    shared-slice-read-pack-item
+    shared-slice-read-kind
     shared-slice-read-pack-item-2
+    mul-pack-item-2
+    shared-slice-read-pack-item-3
     pack-item-requires
     put-operand-requires
     word-of-requires
-    mul-put-opened
-    shared-slice-read-put-opened
+    mul-t20
+    shared-slice-read-t22
     put-opened-requires
     loop-less
     loop-again

@@ -1,4 +1,4 @@
--- `packing::entries::add_targets` meets its contract: the flags hold the targets of the items passed.
+-- `listing::entries::add_targets` meets its contract: the flags hold the targets of the items passed.
 -- Assumes nothing.
 use Rattle.layout.specs.Listing.{listed, entry}
 use Prim.Native.Nat.{_-_, _≤_}

@@ -1,4 +1,4 @@
--- `packing::entries::after_calls` meets its contract: the flags of the items passed are right.
+-- `listing::entries::after_calls` meets its contract: the flags of the items passed are right.
 -- Assumes nothing.
 use Rattle.layout.specs.Flags.{bit, Flags}
 use Prim.Native.Nat.{_-_, _≤_}

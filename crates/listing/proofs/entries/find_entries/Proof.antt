@@ -1,4 +1,4 @@
--- `packing::entries::find_entries` meets its contract.
+-- `listing::entries::find_entries` meets its contract.
 -- Assumes nothing.
 use mathlib.Core.Path.{_∙_}
 use Rattle.layout.specs.Listing.{listed}

@@ -1,4 +1,4 @@
--- `packing::entries::is_branch` meets its contract.
+-- `listing::entries::is_branch` meets its contract.
 -- Assumes nothing.
 use borrow.Author.Needs.{needs}
 use Rattle.listing.proofs.entries.is_branch.Statement.{statement}

@@ -1,4 +1,4 @@
--- `packing::entries::is_call` meets its contract.
+-- `listing::entries::is_call` meets its contract.
 -- Assumes nothing.
 use Rattle.listing.proofs.Flags.{call-below, call-from}
 use Rattle.listing.proofs.entries.is_call.Tie as tie

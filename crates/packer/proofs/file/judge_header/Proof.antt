@@ -2,11 +2,10 @@
 use borrow.Author.Needs.{needs}
 use Rattle.packer.proofs.file.judge_header.Statement.{statement}
 use Rattle.packer.proofs.file.judge_header.Tie as tie
-use mathlib.Core.Path.{sym, ap, _∙_}
+use mathlib.Core.Path.{sym, _∙_}
 use native.Mathlib.Omega.{arith}
 use borrow.Author.Tests.{lt-ltb, le-ltb}
 use Rattle.packer.specs.Judgement as judgement
-use Rattle.packer.proofs.Judging.{refused-none}
 use Rattle.packer.proofs.Filing.{length-of}
 
 judge-order-requires : tie.Need-judge-order-requires
@@ -18,11 +17,8 @@ enum-known-r c = search needs
 enum-told : tie.Need-enum-told
 enum-told c = search needs
 
-judged-length-requires : tie.Need-judged-length-requires
-judged-length-requires c κs = search needs
-
-refusal-of-requires : tie.Need-refusal-of-requires
-refusal-of-requires c κs = search needs
+judge-length-requires : tie.Need-judge-length-requires
+judge-length-requires c κs = search needs
 
 enum-known-r-2 : tie.Need-enum-known-r-2
 enum-known-r-2 c = search needs
@@ -32,21 +28,19 @@ enum-told-2 c = search needs
 
 cell-at-requires : tie.Need-cell-at-requires
 cell-at-requires c κs =
-    let args = c .before .before .before .before .before .before .before .before .args in
-    let judged-length = c .before .before .before .judged-length in
-    let refusal-of = c .before .before .refusal-of in
-    let w = length-of (args .file .now) (refused-none _ (sym (ap judgement.refusalOf (judged-length .ensures)) ∙ sym (refusal-of .ensures) ∙ c .enum-told2 .given .1)) in omega (arith, w)
+    let args = c .before .before .before .before .before .before .before .args in
+    let judge-length = c .before .before .judge-length in
+    let w = length-of (args .file .now) (sym (judge-length .ensures) ∙ c .enum-told2 .given .1) in omega (arith, w)
 
 returns : tie.Need-returns
 unfolding judgement.judgeHeader
 returns c =
-    let judge-order = c .before .before .before .before .before .before .before .before .judge-order in
-    let enum-told = c .before .before .before .before .before .before .enum-told in
-    let judged-length = c .before .before .before .before .before .judged-length in
-    let refusal-of = c .before .before .before .before .refusal-of in
+    let judge-order = c .before .before .before .before .before .before .before .judge-order in
+    let enum-told = c .before .before .before .before .before .enum-told in
+    let judge-length = c .before .before .before .before .judge-length in
     let enum-told2 = c .before .before .enum-told2 in
     let cell-at = c .before .cell-at in
-    rw (sym (judge-order .ensures) ∙ enum-told .given .1, sym (ap judgement.refusalOf (judged-length .ensures)) ∙ sym (refusal-of .ensures) ∙ enum-told2 .given .1, ← cell-at .ensures, lt-ltb _ _ (c .if1 .taken))
+    rw (sym (judge-order .ensures) ∙ enum-told .given .1, sym (judge-length .ensures) ∙ enum-told2 .given .1, ← cell-at .ensures, lt-ltb _ _ (c .if1 .taken))
 
 returns-2 : tie.Need-returns-2
 unfolding judgement.judgeHeader
@@ -55,23 +49,21 @@ returns-2 c = rw (sym (c .before .before .before .judge-order .ensures) ∙ c .b
 returns-3 : tie.Need-returns-3
 unfolding judgement.judgeHeader
 returns-3 c =
-    let judge-order = c .before .before .before .before .before .before .before .judge-order in
-    let enum-told = c .before .before .before .before .before .enum-told in
-    let judged-length = c .before .before .before .before .judged-length in
-    let refusal-of = c .before .before .before .refusal-of in
+    let judge-order = c .before .before .before .before .before .before .judge-order in
+    let enum-told = c .before .before .before .before .enum-told in
+    let judge-length = c .before .before .before .judge-length in
     let r2 = c .before .r2 in
-    rw (sym (judge-order .ensures) ∙ enum-told .given .1, sym (ap judgement.refusalOf (judged-length .ensures)) ∙ sym (refusal-of .ensures) ∙ r2 .given .1)
+    rw (sym (judge-order .ensures) ∙ enum-told .given .1, sym (judge-length .ensures) ∙ r2 .given .1)
 
 returns-4 : tie.Need-returns-4
 unfolding judgement.judgeHeader
 returns-4 c =
-    let judge-order = c .before .before .before .before .before .before .before .before .judge-order in
-    let enum-told = c .before .before .before .before .before .before .enum-told in
-    let judged-length = c .before .before .before .before .before .judged-length in
-    let refusal-of = c .before .before .before .before .refusal-of in
+    let judge-order = c .before .before .before .before .before .before .before .judge-order in
+    let enum-told = c .before .before .before .before .before .enum-told in
+    let judge-length = c .before .before .before .before .judge-length in
     let enum-told2 = c .before .before .enum-told2 in
     let cell-at = c .before .cell-at in
-    rw (sym (judge-order .ensures) ∙ enum-told .given .1, sym (ap judgement.refusalOf (judged-length .ensures)) ∙ sym (refusal-of .ensures) ∙ enum-told2 .given .1, ← cell-at .ensures, le-ltb _ _ (c .if1 .left))
+    rw (sym (judge-order .ensures) ∙ enum-told .given .1, sym (judge-length .ensures) ∙ enum-told2 .given .1, ← cell-at .ensures, le-ltb _ _ (c .if1 .left))
 
 pub judge-header-spec : {M : Type 1} → statement M
 judge-header-spec =
@@ -80,8 +72,7 @@ judge-header-spec =
     judge-order-requires
     enum-known-r
     enum-told
-    judged-length-requires
-    refusal-of-requires
+    judge-length-requires
     enum-known-r-2
     enum-told-2
     cell-at-requires

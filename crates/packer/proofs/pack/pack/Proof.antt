@@ -57,11 +57,11 @@ part-ats-end c =
 sub-pack-checked-4 : tie.Need-sub-pack-checked-4
 sub-pack-checked-4 c = search needs
 
-part-eps-start : tie.Need-part-eps-start
-part-eps-start c = search needs
+part-nexts-start : tie.Need-part-nexts-start
+part-nexts-start c = search needs
 
-part-eps-end : tie.Need-part-eps-end
-part-eps-end c =
+part-nexts-end : tie.Need-part-nexts-end
+part-nexts-end c =
     let args = c .before .before .before .before .before .before .before .before .before .args in
     let judge-input = c .before .before .before .before .before .judge-input in
     let enum-told = c .before .before .before .enum-told in
@@ -122,8 +122,8 @@ pack-spec =
     part-ats-start
     part-ats-end
     sub-pack-checked-4
-    part-eps-start
-    part-eps-end
+    part-nexts-start
+    part-nexts-end
     sub-pack-checked-5
     part-lefts-start
     part-lefts-end

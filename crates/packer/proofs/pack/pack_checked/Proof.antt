@@ -32,7 +32,7 @@ write-image-requires c κs =
     let enum-told = c .before .before .before .before .before .enum-told in (
       pre-here .0,
       (
-        (prepare .kept .1 .1 .1 .0 ∙ pre-here .1 .marks-length, prepare .kept .1 .1 .1 .1 .0 ∙ pre-here .1 .ats-length, prepare .kept .1 .1 .1 .1 .1 .0 ∙ pre-here .1 .eps-length, prepare .kept .1 .1 .1 .1 .1 .1 .0 ∙ pre-here .1 .lefts-length),
+        (prepare .kept .1 .1 .1 .0 ∙ pre-here .1 .marks-length, prepare .kept .1 .1 .1 .1 .0 ∙ pre-here .1 .ats-length, prepare .kept .1 .1 .1 .1 .1 .0 ∙ pre-here .1 .nexts-length, prepare .kept .1 .1 .1 .1 .1 .1 .0 ∙ pre-here .1 .lefts-length),
         (prepare .ensures .1 .settled, (prepare .ensures .1 .laid, counted-fits (args .base .0) (length (args .output .now)) (listed (args .kinds .now) (args .operands .now)) (prepare .result) (prepare .ensures .0) (sym (judge-image .ensures) ∙ enum-told .given .1))),
       ),
     )

@@ -38,11 +38,11 @@ part-ats-end c =
 sub-prepare-4 : tie.Need-sub-prepare-4
 sub-prepare-4 c = search needs
 
-part-eps-start : tie.Need-part-eps-start
-part-eps-start c = search needs
+part-nexts-start : tie.Need-part-nexts-start
+part-nexts-start c = search needs
 
-part-eps-end : tie.Need-part-eps-end
-part-eps-end c =
+part-nexts-end : tie.Need-part-nexts-end
+part-nexts-end c =
     let args = c .before .before .before .before .before .args in
     let pre-here = c .before .before .before .before .before .pre in
     omega (arith, items-most (args .kinds .now) (args .operands .now) (pre-here))
@@ -60,7 +60,7 @@ part-lefts-end c =
     omega (arith, items-most (args .kinds .now) (args .operands .now) (pre-here))
 
 prepare-requires : tie.Need-prepare-requires
-prepare-requires c κs = search needs
+prepare-requires c κs = (c .before .before .before .before .before .before .before .pre, search needs)
 
 returns : tie.Need-returns
 returns c = search needs
@@ -79,8 +79,8 @@ count-cells-spec =
     part-ats-start
     part-ats-end
     sub-prepare-4
-    part-eps-start
-    part-eps-end
+    part-nexts-start
+    part-nexts-end
     sub-prepare-5
     part-lefts-start
     part-lefts-end

@@ -2,8 +2,7 @@
 use borrow.Author.Needs.{needs}
 use Rattle.packer.proofs.prepare.prepare.Statement.{statement}
 use Rattle.packer.proofs.prepare.prepare.Tie as tie
-use mathlib.Core.Path.{ap, _∙_}
-use Rattle.cell.specs.Memory.{cellCount}
+use mathlib.Core.Path.{_∙_}
 
 find-entries-requires : tie.Need-find-entries-requires
 find-entries-requires c κs = search needs
@@ -12,7 +11,7 @@ settle-marks-requires : tie.Need-settle-marks-requires
 settle-marks-requires c κs =
     let pre-here = c .before .before .before .before .before .before .before .before .before .before .before .before .before .before .before .before .pre in
     let find-entries = c .before .before .before .before .before .before .before .find-entries in
-    (pre-here .0, ((find-entries .kept .1 .1 .0 ∙ pre-here .1 .entries-length, pre-here .1 .marks-length), ((pre-here .1 .ats-length, pre-here .1 .eps-length, pre-here .1 .lefts-length), find-entries .ensures)))
+    (pre-here .0, ((find-entries .kept .1 .1 .0 ∙ pre-here .1 .entries-length, pre-here .1 .marks-length), ((pre-here .1 .ats-length, pre-here .1 .nexts-length, pre-here .1 .lefts-length), find-entries .ensures)))
 
 same-length : tie.Need-same-length
 same-length c = search needs
@@ -33,7 +32,7 @@ returns : tie.Need-returns
 returns c =
     let settle-marks = c .before .before .before .before .before .before .before .before .settle-marks in
     let find-entries = c .before .before .before .before .before .before .before .before .before .before .before .before .before .before .before .before .find-entries in
-    (ap cellCount (settle-marks .ensures .0), record { flags = find-entries .ensures; settled = settle-marks .ensures .1 .0; laid = settle-marks .ensures .1 .1 })
+    (settle-marks .ensures .0, record { flags = find-entries .ensures; settled = settle-marks .ensures .1 .0; laid = settle-marks .ensures .1 .1 })
 
 pub prepare-spec : {M : Type 1} → statement M
 prepare-spec =

@@ -13,11 +13,11 @@ use Rattle.packing.proofs.mark.mark_branches.Tie as tie
 use Rattle.packing.proofs.mark.mark_branches.Statement.{statement}
 
 abbrev Inv-loop : tie.InvT-loop
-Inv-loop kinds operands ats eps lefts marks₀ n added₀ i₀ marks added i =
+Inv-loop kinds operands ats nexts lefts marks₀ n added₀ i₀ marks added i =
     MarkTurn (listed kinds operands) marks₀ n marks added i
 
 abbrev μ-loop : tie.MeasureT-loop
-μ-loop kinds operands ats eps lefts marks₀ n added₀ i₀ marks added i = n - i
+μ-loop kinds operands ats nexts lefts marks₀ n added₀ i₀ marks added i = n - i
 
 loop-holds : tie.Need-loop-holds Inv-loop μ-loop
 loop-holds c =
@@ -26,8 +26,8 @@ loop-holds c =
     mark-start (listed (args .kinds .now) (args .operands .now)) (args .marks .now) (length (args .kinds .now)) (pre-here .1 .1
     .0)
 
-add-next : tie.Need-add-next Inv-loop μ-loop
-add-next c = omega arith
+add-after : tie.Need-add-after Inv-loop μ-loop
+add-after c = omega arith
 
 shared-slice-read-newly : tie.Need-shared-slice-read-newly Inv-loop μ-loop
 shared-slice-read-newly c = omega arith
@@ -64,15 +64,15 @@ shared-slice-read-newly-3 c =
     let pre-here = c .before .before .before .before .before .before .before .before .before .before .before .before .pre in
     omega (arith, (loop-test .taken), pre-here .1 .0 .2)
 
-mul-newly-3 : tie.Need-mul-newly-3 Inv-loop μ-loop
-mul-newly-3 c =
+mul-t23 : tie.Need-mul-t23 Inv-loop μ-loop
+mul-t23 c =
     let loop-test = c .before .before .before .before .loop-test in
     let args = c .before .before .before .before .before .before .before .before .before .before .before .before .args in
     let pre-here = c .before .before .before .before .before .before .before .before .before .before .before .before .pre in
     omega (arith, (loop-test .taken), some-item (listed (args .kinds .now) (args .operands .now)) (pre-here .0 .input) .1)
 
-shared-slice-read-newly-4 : tie.Need-shared-slice-read-newly-4 Inv-loop μ-loop
-shared-slice-read-newly-4 c =
+shared-slice-read-t25 : tie.Need-shared-slice-read-t25 Inv-loop μ-loop
+shared-slice-read-t25 c =
     let loop-test = c .before .before .before .before .before .loop-test in
     let pre-here = c .before .before .before .before .before .before .before .before .before .before .before .before .before
     .pre in
@@ -83,12 +83,11 @@ unfolding flagged
 newly-requires c κs =
     let args = c .before .before .before .before .before .before .before .before .before .before .before .before .before .args
     in
-    let pre-here = c .before .before .before .before .before .before .before .before .before .before .before .before .before
-    .pre in
+    let pre-here = c .before .before .before .before .before .before .before .before .before .before .before .before .before .pre in
     let loop = c .before .before .before .before .before .before .loop in
     let loop-test = c .before .before .before .before .before .loop-test in (
       left-small (listed (args .kinds .now) (args .operands .now)) (pre-here .0 .input) (args .marks .now) (loop .marks) (args
-          .ats .now) (args .eps .now) (args .lefts .now) (pre-here .1 .1 .1) (loop .i) (loop-test .taken) (as-before (listed (args
+          .ats .now) (args .nexts .now) (args .lefts .now) (pre-here .1 .1 .1) (loop .i) (loop-test .taken) (as-before (listed (args
           .kinds .now) (args .operands .now)) (args .marks .now) (length (args .kinds .now)) (loop .marks) (loop .added) (loop .i)
           (loop .inv) (loop-test .taken)),
       λ q. rw (pre-here .1 .0 .0) (target-below (listed (args .kinds .now) (args .operands .now))
@@ -107,18 +106,15 @@ loop-less c = omega arith
 loop-again : tie.Need-loop-again Inv-loop μ-loop
 unfolding flagged
 loop-again c =
-    let args = c .before .before .before .before .before .before .before .before .before .before .before .before .before .before
-    .before .args in
+    let args = c .before .before .before .before .before .before .before .before .before .before .before .before .before .before .before .args in
     let loop = c .before .before .before .before .before .before .before .before .loop in
     let loop-test = c .before .before .before .before .before .before .before .loop-test in
-    let pre-here = c .before .before .before .before .before .before .before .before .before .before .before .before .before
-    .before .before .pre in
+    let pre-here = c .before .before .before .before .before .before .before .before .before .before .before .before .before .before .before .pre in
     mark-turn (listed (args .kinds .now) (args .operands .now)) (args .marks .now) (length (args .kinds .now)) (loop .marks)
     (loop .added) (loop .i) (loop .inv) (loop-test .taken) (sym (test-is (listed (args .kinds .now) (args .operands .now))
-    (pre-here .0 .input) (args .marks .now) (loop .marks) (args .ats .now) (args .eps .now) (args .lefts .now) (pre-here .1 .1
+    (pre-here .0 .input) (args .marks .now) (loop .marks) (args .ats .now) (args .nexts .now) (args .lefts .now) (pre-here .1 .1
     .1) (loop .i) (loop-test .taken) (as-before (listed (args .kinds .now) (args .operands .now)) (args .marks .now) (length
-    (args .kinds .now)) (loop .marks) (loop .added) (loop .i) (loop .inv) (loop-test .taken)) (c .before .newly .result) (c
-    .before .newly .ensures)) ∙ c .if1 .taken)
+    (args .kinds .now)) (loop .marks) (loop .added) (loop .i) (loop .inv) (loop-test .taken)) (c .before .newly .result) (c .before .newly .ensures)) ∙ c .if1 .taken)
 
 loop-less-2 : tie.Need-loop-less-2 Inv-loop μ-loop
 loop-less-2 c = omega arith
@@ -126,18 +122,15 @@ loop-less-2 c = omega arith
 loop-again-2 : tie.Need-loop-again-2 Inv-loop μ-loop
 unfolding flagged
 loop-again-2 c =
-    let args = c .before .before .before .before .before .before .before .before .before .before .before .before .before .before
-    .before .args in
+    let args = c .before .before .before .before .before .before .before .before .before .before .before .before .before .before .before .args in
     let loop = c .before .before .before .before .before .before .before .before .loop in
     let loop-test = c .before .before .before .before .before .before .before .loop-test in
-    let pre-here = c .before .before .before .before .before .before .before .before .before .before .before .before .before
-    .before .before .pre in
+    let pre-here = c .before .before .before .before .before .before .before .before .before .before .before .before .before .before .before .pre in
     pass-turn (listed (args .kinds .now) (args .operands .now)) (args .marks .now) (length (args .kinds .now)) (loop .marks)
     (loop .added) (loop .i) (loop .inv) (loop-test .taken) (sym (test-is (listed (args .kinds .now) (args .operands .now))
-    (pre-here .0 .input) (args .marks .now) (loop .marks) (args .ats .now) (args .eps .now) (args .lefts .now) (pre-here .1 .1
+    (pre-here .0 .input) (args .marks .now) (loop .marks) (args .ats .now) (args .nexts .now) (args .lefts .now) (pre-here .1 .1
     .1) (loop .i) (loop-test .taken) (as-before (listed (args .kinds .now) (args .operands .now)) (args .marks .now) (length
-    (args .kinds .now)) (loop .marks) (loop .added) (loop .i) (loop .inv) (loop-test .taken)) (c .before .newly .result) (c
-    .before .newly .ensures)) ∙ c .if1 .left)
+    (args .kinds .now)) (loop .marks) (loop .added) (loop .i) (loop .inv) (loop-test .taken)) (c .before .newly .result) (c .before .newly .ensures)) ∙ c .if1 .left)
 
 same-length : tie.Need-same-length Inv-loop μ-loop
 same-length c =
@@ -161,15 +154,15 @@ mark-branches-spec =
     Inv-loop
     μ-loop
     loop-holds
-    add-next
+    add-after
     shared-slice-read-newly
     slice-read-newly
     mul-newly
     shared-slice-read-newly-2
     mul-newly-2
     shared-slice-read-newly-3
-    mul-newly-3
-    shared-slice-read-newly-4
+    mul-t23
+    shared-slice-read-t25
     newly-requires
     slice-write-marks
     loop-less

@@ -2,6 +2,7 @@
 -- Assumes nothing.
 use mathlib.Core.Path.{sym, ap, _∙_}
 use mathlib.Core.Bool.{not}
+use Rattle.cell.specs.declared.CellCount.{CellCount}
 use Rattle.layout.specs.Kinds.{isBranch}
 use Rattle.layout.specs.Bytes.{fits}
 use Rattle.layout.specs.Packing.{distance}
@@ -75,8 +76,7 @@ returns-4 c =
     let args = c .before .before .before .before .before .before .before .before .before .before .args in
     let place-of = c .before .before .place-of in
     simp (sym (class-of .ensures) ∙ enum-told3 .given .1, sym (taken .ensures) ∙ enum-told5 .given .1)
-    (ap not (c .fits-in .ensures ∙ ap (fits (args .f)) (c .before .distance-of .ensures ∙ ap (distance (args .ep)) (place-of
-    .ensures))))
+    (ap not (c .fits-in .ensures ∙ ap (fits (args .f)) (c .before .distance-of .ensures ∙ ap (λ (to : CellCount). distance (args .next .0) (to .0)) (place-of .ensures))))
 
 returns-5 : tie.Need-returns-5
 returns-5 c =

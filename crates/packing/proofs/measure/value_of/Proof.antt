@@ -1,6 +1,8 @@
 -- `packing::measure::value_of` meets its contract: each class and form has its arm.
 -- Assumes nothing.
+use mathlib.Core.Path.{ap}
 use borrow.Author.Needs.{needs}
+use Rattle.cell.specs.declared.Address.{Address}
 use Rattle.packing.proofs.measure.value_of.Tie as tie
 use Rattle.packing.proofs.measure.value_of.Statement.{statement}
 
@@ -25,11 +27,8 @@ distance-of-requires c κs = search needs
 enum-told-6 : tie.Need-enum-told-6
 enum-told-6 c = search needs
 
-mul-result : tie.Need-mul-result
-mul-result c = search needs
-
-add-result : tie.Need-add-result
-add-result c = search needs
+address-at-requires : tie.Need-address-at-requires
+address-at-requires c κs = search needs
 
 enum-told-7 : tie.Need-enum-told-7
 enum-told-7 c = search needs
@@ -47,7 +46,9 @@ returns-4 : tie.Need-returns-4
 returns-4 c = simp (c .before .before .before .enum-told3 .given .1, c .before .enum-told5 .given .1) (c .distance-of .ensures)
 
 returns-5 : tie.Need-returns-5
-returns-5 c = simp (c .before .before .enum-told3 .given .1, c .enum-told6 .given .1)
+returns-5 c =
+    simp (c .before .before .before .enum-told3 .given .1, c .before .enum-told6 .given .1)
+    (ap (λ (a : Address). a .0) (c .address-at .ensures))
 
 returns-6 : tie.Need-returns-6
 returns-6 c = search needs
@@ -63,8 +64,7 @@ value-of-spec =
     enum-told-5
     distance-of-requires
     enum-told-6
-    mul-result
-    add-result
+    address-at-requires
     enum-told-7
     returns
     returns-2

@@ -7,8 +7,8 @@ use Rattle.packing.proofs.place.finished.Statement.{statement}
 enum-told : tie.Need-enum-told
 enum-told c = search needs
 
-sub-t4 : tie.Need-sub-t4
-sub-t4 c = search needs
+sub-t6 : tie.Need-sub-t6
+sub-t6 c = search needs
 
 enum-told-2 : tie.Need-enum-told-2
 enum-told-2 c = search needs
@@ -16,11 +16,11 @@ enum-told-2 c = search needs
 enum-told-3 : tie.Need-enum-told-3
 enum-told-3 c = search needs
 
-sub-t5 : tie.Need-sub-t5
-sub-t5 c = search needs
+sub-t7 : tie.Need-sub-t7
+sub-t7 c = search needs
 
-add-t6 : tie.Need-add-t6
-add-t6 c = search needs
+add-t8 : tie.Need-add-t8
+add-t8 c = search needs
 
 returns : tie.Need-returns
 returns c = simp (c .before .enum-told .given .1)
@@ -34,4 +34,13 @@ returns-3 c = simp (c .before .before .enum-told3 .given .1)
 pub finished-spec : {M : Type 1} → statement M
 finished-spec =
     tie.close
-    (tie.spec enum-told sub-t4 enum-told-2 enum-told-3 sub-t5 add-t6 returns returns-2 returns-3)
+    (tie.spec
+    enum-told
+    sub-t6
+    enum-told-2
+    enum-told-3
+    sub-t7
+    add-t8
+    returns
+    returns-2
+    returns-3)

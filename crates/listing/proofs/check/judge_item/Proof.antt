@@ -1,9 +1,9 @@
--- `packing::check::judged_item` meets its contract.
+-- `listing::check::judge_item` meets its contract.
 -- Assumes nothing.
-use borrow.Author.Tests.{lt-ltb, le-ltb, ne-eqb}
+use borrow.Author.Tests.{le-leb, lt-leb, ne-eqb}
 use borrow.Author.Needs.{needs}
-use Rattle.listing.proofs.check.judged_item.Tie as tie
-use Rattle.listing.proofs.check.judged_item.Statement.{statement}
+use Rattle.listing.proofs.check.judge_item.Tie as tie
+use Rattle.listing.proofs.check.judge_item.Statement.{statement}
 
 enum-told : tie.Need-enum-told
 enum-told c = search needs
@@ -18,7 +18,7 @@ enum-told-3 : tie.Need-enum-told-3
 enum-told-3 c = search needs
 
 returns-2 : tie.Need-returns-2
-returns-2 c = simp (c .before .enum-told3 .given .1, lt-ltb _ _ (c .if2 .taken))
+returns-2 c = simp (c .before .enum-told3 .given .1, lt-leb _ _ (c .if2 .taken))
 
 enum-told-4 : tie.Need-enum-told-4
 enum-told-4 c = search needs
@@ -30,13 +30,13 @@ returns-4 : tie.Need-returns-4
 returns-4 c = search needs
 
 returns-5 : tie.Need-returns-5
-returns-5 c = simp (c .before .enum-told3 .given .1, le-ltb _ _ (c .if2 .left))
+returns-5 c = simp (c .before .enum-told3 .given .1, le-leb _ _ (c .if2 .left))
 
 returns-6 : tie.Need-returns-6
-returns-6 c = search needs
+returns-6 c = simp (c .enum-told4 .given .1)
 
-pub judged-item-spec : {M : Type 1} → statement M
-judged-item-spec =
+pub judge-item-spec : {M : Type 1} → statement M
+judge-item-spec =
     tie.close
     (tie.spec
     enum-told

@@ -1,10 +1,10 @@
--- `packing::check::judged_arrays` meets its contract.
+-- `listing::check::judge_arrays` meets its contract.
 -- Assumes nothing.
 use borrow.Author.Tests.{eq-eqb, ne-eqb, lt-ltb, le-ltb}
 use Rattle.layout.specs.Listing.{judgedListing, judgedArrays}
 use borrow.Author.Needs.{needs}
-use Rattle.listing.proofs.check.judged_arrays.Tie as tie
-use Rattle.listing.proofs.check.judged_arrays.Statement.{statement}
+use Rattle.listing.proofs.check.judge_arrays.Tie as tie
+use Rattle.listing.proofs.check.judge_arrays.Statement.{statement}
 
 returns : tie.Need-returns
 unfolding judgedArrays judgedListing
@@ -20,16 +20,16 @@ returns-3 c =
     let if1 = c .before .before .if1 in
     simp (eq-eqb _ _ (if1 .left), ne-eqb _ _ (c .before .if2 .left), lt-ltb _ _ (c .if3 .taken))
 
-judged-items-requires : tie.Need-judged-items-requires
-judged-items-requires c κs = search needs
+judge-items-requires : tie.Need-judge-items-requires
+judge-items-requires c κs = search needs
 
 returns-4 : tie.Need-returns-4
 unfolding judgedArrays judgedListing
 returns-4 c =
     let if1 = c .before .before .before .if1 in
     let if2 = c .before .before .if2 in
-    simp (eq-eqb _ _ (if1 .left), ne-eqb _ _ (if2 .left), le-ltb _ _ (c .before .if3 .left)) (c .judged-items .ensures)
+    simp (eq-eqb _ _ (if1 .left), ne-eqb _ _ (if2 .left), le-ltb _ _ (c .before .if3 .left)) (c .judge-items .ensures)
 
-pub judged-arrays-spec : {M : Type 1} → statement M
-judged-arrays-spec =
-    tie.close (tie.spec returns returns-2 returns-3 judged-items-requires returns-4)
+pub judge-arrays-spec : {M : Type 1} → statement M
+judge-arrays-spec =
+    tie.close (tie.spec returns returns-2 returns-3 judge-items-requires returns-4)
