@@ -148,7 +148,7 @@ module _ (kinds operands entries marks ats nexts lefts : List ℕ) (checked : Ch
         rw (q, form-is)
         (omega (
           arith,
-          laid .ep i h,
+          laid .next i h,
           reach (layout (listed kinds operands)) i (length kinds) h,
           at-most (layout (listed kinds operands)) (length kinds),
           some-item (listed kinds operands) (checked .input) .1,
@@ -172,7 +172,7 @@ module _ (kinds operands entries marks ats nexts lefts : List ℕ) (checked : Ch
         → Rows (listed kinds operands) (withRow table i (getD ats i 0) (getD nexts i 0) (getD nexts i 0 + e) f) (i + 1)
     next-row table whole e f b q z w rs =
         one-more table i (getD ats i 0) (getD nexts i 0) (getD nexts i 0 + e) f (omega arith) (listed kinds operands)
-        (laid .at i h) (laid .ep i h) (rw (q, form-is, laid .ep i h)) (flags-are f b z w) rs
+        (laid .at i h) (laid .next i h) (rw (q, form-is, laid .next i h)) (flags-are f b z w) rs
 
 -- what a settled table gives for the run
 module _ (kinds operands table : List ℕ) (image : Image) (s : Settled kinds operands table image) where

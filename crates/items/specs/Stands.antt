@@ -42,7 +42,7 @@ pub record Left : Type 0 where
 abbrev pub left : List ℕ → Carried → Left
 left m c = record { memory = m; carried = carriedAs m c }
 
--- the memory that an item leaves; "in front of an item" the machine stops outside, and memory stays
+-- the memory that an item leaves; it stays where the machine stands outside
 abbrev pub memoryAfter : List ℕ → lists.Carried → List ℕ
 memoryAfter m (lists.on p) = p .memory
 memoryAfter m (lists.stopped x p) = p .memory
@@ -66,8 +66,7 @@ abbrev pub begun : ℕ → Stand → Ran
 begun n s =
     record { stand = s; items = 0; cycles = 0; ending = if (ltb (s .item .0) n) ending.GoesOn (ending.Outside PastEnd) }
 
--- the run with one item more, which counts so many cycles. "one that throws and one that stops it with a reason are among them, one it stops in
--- front of is not"
+-- the run with one item more, which counts so many cycles; an item in front of which the machine stands outside counts none
 abbrev pub counted : Ran → ℕ → Carried → Ran
 counted r k (On s) = record { stand = s; items = r .items + 1; cycles = r .cycles + k; ending = ending.GoesOn }
 counted r k (Stopped s x) = record { stand = s; items = r .items + 1; cycles = r .cycles + k; ending = ending.Stopped x }

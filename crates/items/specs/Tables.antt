@@ -5,7 +5,7 @@ use mathlib.Core.List.{List}
 use Prim.Native.Nat.{ℕ, zero, suc, _+_, _*_, _/_, _%_, _^_, _≤_, _<_}
 use lib.Dec.{eqb}
 use lib.ListN.{length, getD, set}
-use Rattle.layout.specs.Refusals.{accepted}
+use Rattle.cell.specs.declared.Judged.the-variants.{Passed}
 use Rattle.layout.specs.Flags.{bit}
 use Rattle.layout.specs.Listing.{Listing, listed, entry, Checked}
 use Rattle.layout.specs.Layout.{extra, opens, mid, formAt}
@@ -78,4 +78,4 @@ pub record Settled (kinds operands table : List ℕ) (image : Image) : Type 0 wh
   pub whole : length table ≡ 4 * length kinds
   pub rows : Rows (listed kinds operands) table (length kinds)
   pub size : image .cells .0 ≡ imageCells (listed kinds operands)
-  pub place : judgedPlace (image .base .0) (image .cells .0) ≡ accepted
+  pub place : judgedPlace (image .base .0) (image .cells .0) ≡ Passed

@@ -1,5 +1,5 @@
--- Where an item leads, found before anything is written. Document 01, Listings: the list machine "stops outside, in front of an item that would write
--- a byte of the image, transfer to no entry, throw to a valid 'THROW that is no entry, or run on past the end".
+-- Where an item leads, found before anything is written. Document 01, Listings: the four reasons for which the list machine stands outside, and the
+-- stops that it shares with the processor.
 use mathlib.Core.Bool.{Bool, false, not, _&&_}
 use mathlib.Core.List.{List}
 use Prim.Native.Nat.{ℕ, _+_, _%_}
@@ -40,7 +40,7 @@ abbrev pub toEntry : Outside → Entry → Way
 toEntry why (Item i) = way.To i false
 toEntry why Nothing = way.Outside why
 
--- "run on past the end": outside; n the number of items, and whether the item is in its immediate form
+-- the item after this one, or outside; n the number of items, and whether the item is in its immediate form
 abbrev pub nextWay : ℕ → ℕ → Bool → Way
 nextWay n item immediate = if (ltb (item + 1) n) (way.To (record { 0 = item + 1 }) (not immediate)) (way.Outside PastEnd)
 
@@ -57,7 +57,7 @@ module _ (machine : Machine) (m : List ℕ) (find : ℕ → Entry) where
   abbrev pub handlerAfter : ℕ → Fault → ℕ
   handlerAfter a f = if (eqb a handlerCell) (faultCode f) (cellAt (machine .order) m handlerCell)
 
-  -- a throw whose push was judged. "A throw's push of its code counts as a write of the item"
+  -- a throw whose push was judged; the push may meet the image
   abbrev pub pushWay : ℕ → ℕ → ℕ → Fault → Checked → Way
   pushWay lo hi a f (Bad g) = way.Halt badStack
   pushWay lo hi a f Good = if (ltb a hi && ltb lo (a + 4)) (way.Outside WritesImage) (handlerWay (handlerAfter a f))
@@ -78,7 +78,7 @@ module _ (machine : Machine) (m : List ℕ) (find : ℕ → Entry) where
   intentThen n item immediate sp (then.Raise f) = Act (way.Outside PastEnd)
 
   module _ (lo hi n item : ℕ) (immediate : Bool) (sp : ℕ) where
-    -- an item whose reading and places were judged. "an item that would write a byte of the image": outside
+    -- an item whose reading and places were judged; its writes may meet the image
     abbrev pub intentBy : List Store → Then → Checked → Intent
     intentBy ss t (Bad f) = End (cause.Raised f) (throwWay lo hi sp f)
     intentBy ss t Good = if (touches lo hi ss) (Act (way.Outside WritesImage)) (intentThen n item immediate sp t)

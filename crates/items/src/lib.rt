@@ -1,6 +1,5 @@
 // The list machine (document 01's own term) over a listing whose layout is settled: one item, and a number of them. What an item leads to is found by
 // reading alone, so that the machine stops in front of it with memory as it was.
-pub mod addressing;
 pub mod carrying;
 pub mod finding;
 pub mod judging;

@@ -10,11 +10,11 @@ ghost use Rattle.items.specs.Stands as stands;
 ghost use Rattle.items.specs.Tables as tables;
 use crate::Image;
 use crate::Stand;
-use crate::addressing::address_at;
 use crate::tables::behind_of;
 use crate::tables::next_of;
 use crate::tables::place_of;
 use cell::Address;
+use cell::place::address_at;
 use layout::Class;
 use layout::ItemNumber;
 use listing::kinds::class_of;
@@ -78,7 +78,7 @@ pub fn shape_of(
             propose_taking(machine, memory, r, opcode)
         }
         Class::Branch => {
-            let to = distance_of(behind.0, place_of(table, ItemNumber(x)).0);
+            let to = distance_of(behind, place_of(table, ItemNumber(x)));
             let r = registers_for(address_at(base, behind), to, s);
             propose_taking(machine, memory, r, opcode)
         }
