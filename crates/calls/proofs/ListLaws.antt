@@ -1,40 +1,64 @@
--- The call for the list machine from what its parts leave.
-use mathlib.Core.Path.{_≡_, refl, _∙_}
+-- The calls for the list machine from what their parts leave.
+use mathlib.Core.Path.{_≡_, refl, ap, _∙_}
+use mathlib.Core.Bool.{Bool}
 use mathlib.Core.List.{List, []}
+use Prim.{tt}
 use Prim.Native.Nat.{ℕ, _≤_}
-use lib.ListN.{length, getD}
-use Rattle.cell.specs.Refusals.{refusalNumber}
-use Rattle.cell.specs.declared.Refusal.{Refusal}
+use native.Mathlib.Omega.{arith}
+use lib.ListN.{length}
+use Rattle.cell.specs.Refusals.{after}
+use Rattle.cell.specs.declared.Judged.{Judged}
 use Rattle.cell.specs.declared.Judged.the-variants.{Passed, Refused}
-use Rattle.follow.specs.Follow.{judgeFollow, answerAs, followedTo, followOf}
+use Rattle.cell.proofs.JudgementLaws.{both-pass}
+use Rattle.processor.specs.Answers.{machineOf}
+use Rattle.layout.specs.Listing.{listed}
+use Rattle.layout.specs.Packing.{imageCells, judgedPlace}
+use Rattle.items.specs.declared.Stand.{Stand}
+use Rattle.items.specs.declared.Ran.{Ran}
+use Rattle.follow.specs.Follow.{judgeBegin, judgeImage, judgeFollow, FollowResult, followedTo, followIf, resumeIn}
 use Rattle.follow.specs.declared.Followed.{Followed}
 use Rattle.follow.specs.declared.Followed.the-variants as followed
 use Rattle.calls.specs.Lending.{withRoom}
 use Rattle.calls.specs.Machines.{told, called}
-use Rattle.calls.specs.Lists.{listTold, judgeList, listCall}
+use Rattle.calls.specs.Lists.{listTold, answerTold, judgeLent, Room, standGiven, resumeCall}
 use Rattle.calls.proofs.LendingLaws.{roomy}
 
-pub list-roomy : (len order : ℕ) (kinds operands : List ℕ) (base pointers out : ℕ) → judgeList len order kinds operands base pointers out ≡ Passed
-    → (2 ≤ pointers) × (5 ≤ out)
-unfolding judgeList
-list-roomy len order kinds operands base pointers out e =
-    let last = roomy (withRoom (judgeFollow len order kinds operands base) pointers 2) out 5 e in
-    (roomy (judgeFollow len order kinds operands base) pointers 2 (last .passed) .room, last .room)
+lent-roomy : (pointers out : ℕ) → judgeLent pointers out ≡ Passed → (2 ≤ pointers) × (5 ≤ out)
+unfolding judgeLent
+lent-roomy pointers out e =
+    let last = roomy (withRoom Passed pointers 2) out 5 e in
+    (roomy Passed pointers 2 (last .passed) .room, last .room)
 
--- what is noted of an answer does not depend on the memory
-told-alike : (m : List ℕ) (pointers out : List ℕ) (a : Followed) → listTold pointers out (answerAs [] a) ≡ listTold pointers out (answerAs m a)
-told-alike m pointers out (followed.Refused r) = refl
-told-alike m pointers out (followed.Ran x) = refl
+-- what is told of an answer does not depend on the memory, nor on the stand that was given
+told-alike : (m : List ℕ) (start : Stand) (pointers out : List ℕ) (a : Followed) → answerTold pointers out a ≡ listTold pointers out (followedTo m start a)
+told-alike m start pointers out (followed.Refused r) = refl
+told-alike m start pointers out (followed.Ran x) = refl
 
-module _ (order : ℕ) (kinds operands : List ℕ) (base : ℕ) (m pointers : List ℕ) (items : ℕ) (out : List ℕ) where
-  pub list-refused : (r : Refusal) (n : ℕ) → judgeList (length m) order kinds operands base (length pointers) (length out) ≡ Refused r
-      → n ≡ refusalNumber r → called m pointers out n ≡ listCall order kinds operands base m pointers items out
-  unfolding listCall
-  list-refused r n e q = rw (e, q)
+module _ (order : ℕ) (kinds operands : List ℕ) (base : ℕ) (m : List ℕ) (start : Stand) (items pointers out : ℕ) where
+  -- a run was made only where there is room for what is told of it
+  ran-room : (m2 : List ℕ) (x : Ran) (j : Judged) → judgeFollow (length m) order kinds operands base (judgeLent pointers out) ≡ j
+      → followedTo m2 start (followed.Ran x) ≡ followIf j (machineOf order) base (listed kinds operands) m start items
+      → (2 ≤ pointers) × (5 ≤ out)
+  unfolding judgeFollow judgeImage
+  ran-room m2 x (Refused r) q e =
+      absurd (let f : followed.Ran x ≡ followed.Refused r = ap (λ (s : FollowResult). s .answer) e in let z : _≡_ {A = ℕ} 0 1 = cc in omega arith)
+  ran-room m2 x Passed q e =
+      let place : Judged = judgedPlace base (imageCells (listed kinds operands)) in
+      let p = both-pass (judgeBegin (length m) order kinds operands) (after place (judgeLent pointers out)) q in
+      lent-roomy pointers out (both-pass place (judgeLent pointers out) (p .1) .1)
 
-  pub list-noted : (m2 p2 o2 : List ℕ) (n : ℕ) (a : Followed) → judgeList (length m) order kinds operands base (length pointers) (length out) ≡ Passed
-      → followedTo m2 a ≡ followOf order kinds operands base m (getD pointers 0 0) (getD pointers 1 0) items
-      → told p2 o2 n ≡ listTold pointers out (answerAs [] a)
-      → called m2 p2 o2 n ≡ listCall order kinds operands base m pointers items out
-  unfolding listCall
-  list-noted m2 p2 o2 n a e f t = rw (e, ← f, t ∙ told-alike m2 pointers out a)
+  pub has-room : (m2 : List ℕ) (a : Followed)
+      → followedTo m2 start a ≡ resumeIn (judgeLent pointers out) order kinds operands base m start items → Room pointers out a
+  unfolding resumeIn
+  has-room m2 (followed.Refused r) e = tt
+  has-room m2 (followed.Ran x) e = ran-room m2 x (judgeFollow (length m) order kinds operands base (judgeLent pointers out)) refl e
+
+pub list-noted : (order : ℕ) (kinds operands : List ℕ) (base : ℕ) (m : List ℕ) (item : ℕ) (ran : Bool) (pointers : List ℕ) (items : ℕ) (out : List ℕ)
+    → (m2 p2 o2 : List ℕ) (n : ℕ) (a : Followed)
+    → followedTo m2 (standGiven item ran pointers) a
+    ≡ resumeIn (judgeLent (length pointers) (length out)) order kinds operands base m (standGiven item ran pointers) items
+    → told p2 o2 n ≡ answerTold pointers out a
+    → called m2 p2 o2 n ≡ resumeCall order kinds operands base m item ran pointers items out
+unfolding resumeCall
+list-noted order kinds operands base m item ran pointers items out m2 p2 o2 n a e t =
+    rw (← e, t ∙ told-alike m2 (standGiven item ran pointers) pointers out a)

@@ -1,45 +1,55 @@
--- What `beetle_list_run` leaves and answers.
+-- What `beetle_list_run` and `beetle_list_resume` leave and answer.
+use mathlib.Core.Bool.{Bool, false}
 use mathlib.Core.List.{List, [], _∷_}
-use Prim.Native.Nat.{ℕ, _/_, _%_, _^_}
+use Prim.{Unit}
+use Prim.Native.Nat.{ℕ, _/_, _%_, _^_, _≤_}
 use lib.ListN.{length, getD}
-use Rattle.cell.specs.Refusals.{refusalNumber}
 use Rattle.cell.specs.declared.Judged.{Judged}
-use Rattle.cell.specs.declared.Judged.the-variants as judged
-use Rattle.list_machine.specs.Runs.{Course, goesOn, stoppedBy, stoodOutside, Run}
-use Rattle.follow.specs.Follow.{Answer, refused, ran, judgeFollow, courseNumber, followOf}
+use Rattle.cell.specs.declared.Judged.the-variants.{Passed}
+use Rattle.items.specs.declared.Stand.{Stand}
+use Rattle.follow.specs.Follow.{FollowResult, followedTo, standAt, resumeIn}
+use Rattle.follow.specs.declared.Followed.{Followed}
+use Rattle.follow.specs.declared.Followed.the-variants as followed
 use Rattle.calls.specs.Lending.{written, withRoom}
-use Rattle.calls.specs.Machines.{Told, told, Called, called}
+use Rattle.calls.specs.Machines.{Told, told, Called}
 
--- the reason of a stop, or 0
-abbrev pub reasonIn : Course → ℕ
-reasonIn goesOn = 0
-reasonIn (stoppedBy x) = x
-reasonIn stoodOutside = 0
+-- `pointers` takes SP, RP; `out` the reason, the item reached, the items done, and the low and high half of the cycles counted
+abbrev pub valuesTold : List ℕ → List ℕ → FollowResult → Told
+valuesTold pointers out s =
+    told (written (s .stand .sp ∷ s .stand .rp ∷ []) pointers)
+    (written (s .reason ∷ s .stand .item .0 ∷ s .items ∷ s .cycles % 2 ^ 32 ∷ s .cycles / 2 ^ 32 ∷ []) out)
+    (s .number)
 
--- the reason, the item reached, the items done, and the low and high half of the cycles counted
-abbrev pub runList : Run → List ℕ
-runList r = reasonIn (r .course) ∷ r .position .item ∷ r .items ∷ r .cycles % 2 ^ 32 ∷ r .cycles / 2 ^ 32 ∷ []
+-- a refusal leaves both as they were
+abbrev pub toldBy : Followed → List ℕ → List ℕ → FollowResult → Told
+toldBy (followed.Refused r) pointers out s = told pointers out (s .number)
+toldBy (followed.Ran x) pointers out s = valuesTold pointers out s
 
--- `pointers` holds SP, RP in this order
-abbrev pub runTold : List ℕ → List ℕ → Run → Told
-runTold pointers out r =
-    told (written (r .position .sp ∷ r .position .rp ∷ []) pointers) (written (runList r) out) (courseNumber (r .course))
+abbrev pub listTold : List ℕ → List ℕ → FollowResult → Told
+listTold pointers out s = toldBy (s .answer) pointers out s
 
-abbrev pub listTold : List ℕ → List ℕ → Answer → Told
-listTold pointers out (refused n) = told pointers out (refusalNumber n)
-listTold pointers out (ran r) = runTold pointers out r
+-- what is told of an answer, on which the memory and the stand that was given have no bearing
+abbrev pub answerTold : List ℕ → List ℕ → Followed → Told
+answerTold pointers out a = listTold pointers out (followedTo [] (standAt 0 false 0 0) a)
 
--- -4105 comes last, for `pointers` and `out`
-unfoldable pub judgeList : ℕ → ℕ → List ℕ → List ℕ → ℕ → ℕ → ℕ → Judged
-judgeList len order kinds operands base pointers out =
-    withRoom (withRoom (judgeFollow len order kinds operands base) pointers 2) out 5
+-- -4105, which comes last, for `pointers` and `out`
+unfoldable pub judgeLent : ℕ → ℕ → Judged
+judgeLent pointers out = withRoom (withRoom Passed pointers 2) out 5
 
-abbrev pub listIf : Judged → ℕ → List ℕ → List ℕ → ℕ → List ℕ → List ℕ → ℕ → List ℕ → Called
-listIf (judged.Refused n) order kinds operands base m pointers items out = called m pointers out (refusalNumber n)
-listIf judged.Passed order kinds operands base m pointers items out =
-    let s = followOf order kinds operands base m (getD pointers 0 0) (getD pointers 1 0) items in
-    record { memory = s .memory; told = listTold pointers out (s .answer) }
+-- a run that is told has room in both
+abbrev pub Room : ℕ → ℕ → Followed → Type 0
+Room pointers out (followed.Refused r) = Unit {0}
+Room pointers out (followed.Ran x) = (2 ≤ pointers) × (5 ≤ out)
 
-unfoldable pub listCall : ℕ → List ℕ → List ℕ → ℕ → List ℕ → List ℕ → ℕ → List ℕ → Called
-listCall order kinds operands base m pointers items out =
-    listIf (judgeList (length m) order kinds operands base (length pointers) (length out)) order kinds operands base m pointers items out
+-- SP and RP are the first two of `pointers`
+abbrev pub standGiven : ℕ → Bool → List ℕ → Stand
+standGiven item ran pointers = standAt item ran (getD pointers 0 0) (getD pointers 1 0)
+
+unfoldable pub resumeCall : ℕ → List ℕ → List ℕ → ℕ → List ℕ → ℕ → Bool → List ℕ → ℕ → List ℕ → Called
+resumeCall order kinds operands base m item ran pointers items out =
+    let s = resumeIn (judgeLent (length pointers) (length out)) order kinds operands base m (standGiven item ran pointers) items in
+    record { memory = s .memory; told = listTold pointers out s }
+
+-- from item 0 on
+abbrev pub listCall : ℕ → List ℕ → List ℕ → ℕ → List ℕ → List ℕ → ℕ → List ℕ → Called
+listCall order kinds operands base m pointers items out = resumeCall order kinds operands base m 0 false pointers items out

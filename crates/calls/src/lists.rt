@@ -1,10 +1,10 @@
-// What the call for the list machine judges, and what it tells.
+// What the calls for the list machine judge, make and tell.
 ghost use mathlib.Core.Path.{_≡_};
 ghost use mathlib.Core.List.{[], _∷_};
 ghost use Prim.Native.Nat.{_≤_};
-ghost use lib.ListN.{length};
-ghost use Rattle.items.specs.Stands as stands;
+ghost use lib.ListN.{length, getD};
 ghost use Rattle.follow.specs.Follow as follows;
+ghost use Rattle.follow.specs.declared.Followed.the-variants as followed;
 ghost use Rattle.calls.specs.Lending as lending;
 ghost use Rattle.calls.specs.Machines as machines;
 ghost use Rattle.calls.specs.Lists as lists;
@@ -15,18 +15,27 @@ use cell::Judged;
 use cell::judgement::refusal_number;
 use follow::Followed;
 use follow::answers::ending_number;
-use follow::judgement::judge_follow;
-use items::Ending;
+use follow::answers::ending_reason;
+use follow::follow::follow_within;
 use items::Ran;
+use items::Stand;
+use layout::ItemNumber;
 
-fn reason_in(ending: Ending) -> u32
-    ensures { λ n. ⌜ n ≡ lists.reasonIn (stands.courseOf ending) ⌝ }
+// The number at a place of a lent array, or 0 where it has no such place.
+fn number_at(lent: &[u32], at: usize) -> u32
+    ensures { λ n. ⌜ n ≡ getD (now (lent .entry)) at 0 ⌝ }
 {
-    match ending {
-        Ending::GoesOn => 0,
-        Ending::Stopped(x) => x,
-        Ending::Outside => 0,
+    if at < lent.len() {
+        return lent[at];
     }
+    0
+}
+
+// SP and RP want two places, what is told of a run five.
+fn judge_lent(pointers: usize, out: usize) -> Judged
+    ensures { λ r. ⌜ r ≡ lists.judgeLent pointers out ⌝ }
+{
+    with_room(with_room(Judged::Passed, pointers, 2), out, 5)
 }
 
 fn write_five(lent: &mut [u32], p: u32, q: u32, r: u32, s: u32, t: u32)
@@ -42,7 +51,7 @@ fn write_five(lent: &mut [u32], p: u32, q: u32, r: u32, s: u32, t: u32)
 
 fn note_run(ran: Ran, pointers: &mut [u32], out: &mut [u32]) -> u32
     requires { ⌜ (2 ≤ length (now pointers)) × (5 ≤ length (now out)) ⌝ }
-    ensures { λ n. ⌜ machines.told (now (pointers .exit)) (now (out .exit)) n ≡ lists.runTold (now (pointers .entry)) (now (out .entry)) (stands.runAs [] ran) ⌝ }
+    ensures { λ n. ⌜ machines.told (now (pointers .exit)) (now (out .exit)) n ≡ lists.answerTold (now (pointers .entry)) (now (out .entry)) (followed.Ran ran) ⌝ }
 {
     let ending = ran.ending;
     let stand = ran.stand;
@@ -51,13 +60,13 @@ fn note_run(ran: Ran, pointers: &mut [u32], out: &mut [u32]) -> u32
     let low = (cycles % 4294967296) as u32;
     let high = (cycles / 4294967296) as u32;
     write_two(pointers, stand.sp, stand.rp);
-    write_five(out, reason_in(ending), item.0, ran.items, low, high);
+    write_five(out, ending_reason(ending), item.0, ran.items, low, high);
     ending_number(ending)
 }
 
-pub fn note_followed(answer: Followed, pointers: &mut [u32], out: &mut [u32]) -> u32
-    requires { ⌜ (2 ≤ length (now pointers)) × (5 ≤ length (now out)) ⌝ }
-    ensures { λ n. ⌜ machines.told (now (pointers .exit)) (now (out .exit)) n ≡ lists.listTold (now (pointers .entry)) (now (out .entry)) (follows.answerAs [] answer) ⌝ }
+fn note_followed(answer: Followed, pointers: &mut [u32], out: &mut [u32]) -> u32
+    requires { ⌜ lists.Room (length (now pointers)) (length (now out)) answer ⌝ }
+    ensures { λ n. ⌜ machines.told (now (pointers .exit)) (now (out .exit)) n ≡ lists.answerTold (now (pointers .entry)) (now (out .entry)) answer ⌝ }
 {
     match answer {
         Followed::Refused(r) => refusal_number(r),
@@ -65,18 +74,30 @@ pub fn note_followed(answer: Followed, pointers: &mut [u32], out: &mut [u32]) ->
     }
 }
 
-// A listing and all that was lent with it.
-pub fn judge_list(
-    length: usize,
+// A run taken up at an item, with SP and RP lent in `pointers` and what is told of it in `out`.
+pub fn resume_list(
     order: u8,
     kinds: &[u8],
     operands: &[u32],
-    base: u32,
-    pointers: usize,
-    out: usize,
-) -> Judged
-    ensures { λ r. ⌜ r ≡ lists.judgeList length order (now (kinds .entry)) (now (operands .entry)) base pointers out ⌝ }
+    base: Address,
+    memory: &mut [u8],
+    item: ItemNumber,
+    ran: bool,
+    pointers: &mut [u32],
+    items: u32,
+    out: &mut [u32],
+) -> u32
+    ensures { λ n. ⌜ machines.called (now (memory .exit)) (now (pointers .exit)) (now (out .exit)) n ≡ lists.resumeCall order (now (kinds .entry)) (now (operands .entry)) (base .0) (now (memory .entry)) (item .0) ran (now (pointers .entry)) items (now (out .entry)) ⌝ }
 {
-    let judged = judge_follow(length, order, kinds, operands, Address(base));
-    with_room(with_room(judged, pointers, 2), out, 5)
+    let sp = number_at(pointers, 0);
+    let rp = number_at(pointers, 1);
+    let start = Stand {
+        item: item,
+        ran: ran,
+        sp: sp,
+        rp: rp,
+    };
+    let room = judge_lent(pointers.len(), out.len());
+    let answer = follow_within(order, kinds, operands, base, memory, start, items, room);
+    note_followed(answer, pointers, out)
 }

@@ -1,13 +1,12 @@
-// The call for the list machine. It judges first, and writes nothing that was lent where it refuses.
+// The calls for the list machine. They judge first, and write nothing that was lent where they refuse.
 ghost use mathlib.Core.Path.{_≡_};
+ghost use mathlib.Core.Bool.{not};
+ghost use lib.Dec.{eqb};
 ghost use Rattle.calls.specs.Machines as machines;
 ghost use Rattle.calls.specs.Lists as lists;
-use calls::lists::judge_list;
-use calls::lists::note_followed;
+use calls::lists::resume_list;
 use cell::Address;
-use cell::Judged;
-use cell::judgement::refusal_number;
-use follow::follow::list_run;
+use layout::ItemNumber;
 
 #[no_mangle]
 pub extern "C" fn beetle_list_run(
@@ -22,21 +21,46 @@ pub extern "C" fn beetle_list_run(
 ) -> u32
     ensures { λ n. ⌜ machines.called (now (memory .exit)) (now (pointers .exit)) (now (out .exit)) n ≡ lists.listCall order (now (kinds .entry)) (now (operands .entry)) base (now (memory .entry)) (now (pointers .entry)) items (now (out .entry)) ⌝ }
 {
-    match judge_list(
-        memory.len(),
+    resume_list(
         order,
         kinds,
         operands,
-        base,
-        pointers.len(),
-        out.len(),
-    ) {
-        Judged::Refused(n) => refusal_number(n),
-        Judged::Passed => {
-            let sp = pointers[0];
-            let rp = pointers[1];
-            let answer = list_run(order, kinds, operands, Address(base), memory, sp, rp, items);
-            note_followed(answer, pointers, out)
-        }
-    }
+        Address(base),
+        memory,
+        ItemNumber(0),
+        false,
+        pointers,
+        items,
+        out,
+    )
+}
+
+// ran is 0 where the item was not run on into from an item not in its immediate form.
+#[no_mangle]
+pub extern "C" fn beetle_list_resume(
+    order: u8,
+    kinds: &[u8],
+    operands: &[u32],
+    base: u32,
+    memory: &mut [u8],
+    item: u32,
+    ran: u8,
+    pointers: &mut [u32],
+    items: u32,
+    out: &mut [u32],
+) -> u32
+    ensures { λ n. ⌜ machines.called (now (memory .exit)) (now (pointers .exit)) (now (out .exit)) n ≡ lists.resumeCall order (now (kinds .entry)) (now (operands .entry)) base (now (memory .entry)) item (not (eqb ran 0)) (now (pointers .entry)) items (now (out .entry)) ⌝ }
+{
+    resume_list(
+        order,
+        kinds,
+        operands,
+        Address(base),
+        memory,
+        ItemNumber(item),
+        ran != 0,
+        pointers,
+        items,
+        out,
+    )
 }

@@ -1,71 +1,134 @@
--- What a run of the list machine rests on once it passed, and that it runs as its packed cells do.
-use mathlib.Core.Path.{_≡_, refl}
-use mathlib.Core.List.{List, [], _∷_}
-use Prim.Native.Nat.{ℕ, _^_, _≤_, _<_}
+-- What a run of the list machine rests on once it passed, what it answers, and that it runs as its packed cells do.
+use mathlib.Core.Path.{_≡_, refl, sym, ap, _∙_}
+use mathlib.Core.Bool.{false}
+use mathlib.Core.List.{List}
+use Prim.{tt}
+use Prim.Native.Nat.{ℕ, _*_, _^_, _≤_, _<_}
+use native.Mathlib.Omega.{arith}
 use lib.ListN.{length, getD}
-use Rattle.cell.specs.Refusals.{after, inOrder, judgeMachine, Lent}
+use Rattle.cell.specs.Memory.{cellCount}
+use Rattle.cell.specs.Refusals.{after, judgeMachine, Lent}
+use Rattle.cell.specs.declared.CellCount.{CellCount}
 use Rattle.cell.specs.declared.Refusal.{Refusal}
 use Rattle.cell.specs.declared.Judged.{Judged}
 use Rattle.cell.specs.declared.Judged.the-variants.{Passed, Refused}
 use Rattle.cell.proofs.JudgementLaws.{both-pass}
+use Rattle.machine.specs.declared.Machine.{Machine}
 use Rattle.processor.specs.Answers.{machineOf}
 use Rattle.processor.proofs.EntryLaws.{passed}
-use Rattle.layout.specs.Refusals.{accepted}
-use Rattle.layout.specs.Listing.{listed, Checked}
+use Rattle.layout.specs.Listing.{Listing, listed, judgedArrays, Checked}
 use Rattle.layout.specs.Packing.{imageCells, judgedPlace}
-use Rattle.packer.specs.Judgement.{judgeArrays, judgePlace, judgeListing}
-use Rattle.packer.proofs.Judging.{refused-none, arrays-checked, items-most}
-use Rattle.list_machine.specs.Runs.{runOf, beginning}
+use Rattle.packer.proofs.Judging.{arrays-checked}
+use Rattle.list_machine.specs.ListMachine.{Position}
+use Rattle.list_machine.specs.Runs.{Course, goesOn, stoppedBy, stoodOutside, Run, runOf, resuming}
 use Rattle.list_machine.proofs.Simulation.{demand3}
-use Rattle.items.specs.Stands.{runAs}
+use Rattle.items.specs.Stands.{positionOf, courseOf, runAs}
+use Rattle.items.specs.Tables.{Rows, Settled}
+use Rattle.items.specs.declared.Image.{Image}
+use Rattle.items.specs.declared.Stand.{Stand}
+use Rattle.items.specs.declared.Ending.{Ending}
+use Rattle.items.specs.declared.Ending.the-variants as ending
 use Rattle.items.specs.declared.Ran.{Ran}
-use Rattle.follow.specs.Follow.{judgeFollow, followedTo, followOf, AsPacked}
+use Rattle.follow.specs.Follow.{judgeBegin, judgeImage, judgeFollow, FollowResult, followedTo, standAt, endingOf, standOf, ranOf, followIf, resumeIn, followOf, AsPacked}
+use Rattle.follow.specs.declared.Followed.{Followed}
 use Rattle.follow.specs.declared.Followed.the-variants as followed
 
--- a judgement is that of the machine, then that of the listing and its base
-pub in-turn : (len order : ℕ) (kinds operands : List ℕ) (base : ℕ)
-    → judgeFollow len order kinds operands base ≡ after (judgeMachine len order) (judgeListing kinds operands base)
-unfolding judgeFollow judgeListing
-in-turn len order kinds operands base = refl
+-- what passed before the layout: the memory and the arrays
+pub begin-lent : (len order : ℕ) (kinds operands : List ℕ) → judgeBegin len order kinds operands ≡ Passed → Lent len
+unfolding judgeBegin
+begin-lent len order kinds operands e = passed len order (both-pass (judgeMachine len order) (judgedArrays kinds operands) e .0)
 
--- what passed: the memory, the arrays, the base
-pub record Passes (m kinds operands : List ℕ) (base : ℕ) : Type 0 where
-  pub lent : Lent (length m)
-  pub checked : Checked kinds operands
-  pub place : judgedPlace base (imageCells (listed kinds operands)) ≡ accepted
-  pub most : length kinds ≤ 4096
+pub begin-checked : (len order : ℕ) (kinds operands : List ℕ) → judgeBegin len order kinds operands ≡ Passed → Checked kinds operands
+unfolding judgeBegin
+begin-checked len order kinds operands e =
+    arrays-checked kinds operands (both-pass (judgeMachine len order) (judgedArrays kinds operands) e .1)
 
-pub passes : (m : List ℕ) (order : ℕ) (kinds operands : List ℕ) (base : ℕ) → judgeFollow (length m) order kinds operands base ≡ Passed
-    → Passes m kinds operands base
-unfolding judgeFollow
-passes m order kinds operands base e =
-    let place : Judged = judgePlace base (imageCells (listed kinds operands)) in
-    let s = both-pass (judgeMachine (length m) order) (inOrder (judgeArrays kinds operands ∷ place ∷ [])) e in
-    let t = both-pass (judgeArrays kinds operands) (inOrder (place ∷ [])) (s .1) in
-    let k = arrays-checked kinds operands (t .0) in
+-- the table of a listing whose image passed
+pub image-settled : (kinds operands table : List ℕ) (base : ℕ) (cells : CellCount) (room : Judged) (image : Image) → Checked kinds operands
+    → length table ≡ 4 * length kinds → Rows (listed kinds operands) table (length kinds) → cells ≡ cellCount (imageCells (listed kinds operands))
+    → image .base .0 ≡ base → image .cells ≡ cells → judgeImage base (cells .0) room ≡ Passed → Settled kinds operands table image
+unfolding judgeImage
+image-settled kinds operands table base cells room image ok whole rs e b c j =
     record {
-      lent = passed (length m) order (s .0);
-      checked = k;
-      place = refused-none (judgedPlace base (imageCells (listed kinds operands))) (both-pass place Passed (t .1) .0);
-      most = items-most kinds operands k;
+      checked = ok;
+      whole = whole;
+      rows = rs;
+      size = ap (λ (x : CellCount). x .0) (c ∙ e);
+      place = rw (b, c) (both-pass (judgedPlace base (cells .0)) room j .0);
     }
 
-module _ (m : List ℕ) (order : ℕ) (kinds operands : List ℕ) (base sp rp items : ℕ) where
-  pub refused-is : (r : Refusal) → judgeFollow (length m) order kinds operands base ≡ Refused r
-      → followedTo m (followed.Refused r) ≡ followOf order kinds operands base m sp rp items
-  unfolding followOf
-  refused-is r e = rw e
+-- the code's value of a run, and back
+ending-back : (e : Ending) → endingOf (courseOf e) ≡ e
+ending-back ending.GoesOn = refl
+ending-back (ending.Stopped x) = refl
+ending-back (ending.Outside why) = refl
 
-  module _ (ok : judgeFollow (length m) order kinds operands base ≡ Passed) (m2 : List ℕ) (x : Ran)
-      (ran : runAs m2 x ≡ runOf (machineOf order) base (listed kinds operands) items (beginning m sp rp)) where
-    pub ran-is : followedTo m2 (followed.Ran x) ≡ followOf order kinds operands base m sp rp items
-    unfolding followOf
-    ran-is = rw (ok, ← ran)
+course-back : (c : Course) → courseOf (endingOf c) ≡ c
+course-back goesOn = refl
+course-back (stoppedBy x) = refl
+course-back (stoodOutside why) = refl
 
-    -- demand 3 of the answer; an operand is a cell
-    pub as-packed : ((i : ℕ) → getD operands i 0 < 2 ^ 32) → AsPacked order base (listed kinds operands) m sp rp m2 (followed.Ran x)
-    as-packed cells holds =
-        let p = passes m order kinds operands base ok in
-        rw ran
-        (demand3 (machineOf order) base (listed kinds operands) m sp rp items
-        (record { input = p .checked .input; state = p .place; cell = λ i h. cells i }) holds)
+run-back : (m : List ℕ) (x : Ran) → ranOf (runAs m x) ≡ x
+run-back m x = ap (λ (e : Ending). record { stand = x .stand; items = x .items; cycles = x .cycles; ending = e }) (ending-back (x .ending))
+
+pub run-there : (r : Run) → runAs (r .position .memory) (ranOf r) ≡ r
+run-there r = ap (λ (c : Course). record { position = r .position; items = r .items; cycles = r .cycles; course = c }) (course-back (r .course))
+
+-- an answer after the layout: turned back, or the run
+module _ (machine : Machine) (base : ℕ) (l : Listing) (m : List ℕ) (start : Stand) (items : ℕ) (cells : CellCount) (size : cells ≡ cellCount (imageCells l))
+    (room : Judged) where
+  pub image-refused : (r : Refusal) → judgeImage base (cells .0) room ≡ Refused r
+      → followedTo m start (followed.Refused r) ≡ followIf (judgeImage base (imageCells l) room) machine base l m start items
+  image-refused r e = rw (← ap (λ (x : CellCount). x .0) size, e)
+
+  pub image-ran : judgeImage base (cells .0) room ≡ Passed → (m2 : List ℕ) (x : Ran)
+      → runAs m2 x ≡ runOf machine base l items (resuming l (positionOf m start))
+      → followedTo m2 start (followed.Ran x) ≡ followIf (judgeImage base (imageCells l) room) machine base l m start items
+  image-ran e m2 x ran =
+      rw (← ap (λ (x : CellCount). x .0) size, e, ← ran)
+      (ap (λ (y : Ran). followedTo m2 start (followed.Ran y)) (sym (run-back m2 x)))
+
+-- an answer from the judgement before the layout on
+module _ (room : Judged) (order : ℕ) (kinds operands : List ℕ) (base : ℕ) (m : List ℕ) (start : Stand) (items : ℕ) where
+  pub begin-refused : (r : Refusal) → judgeBegin (length m) order kinds operands ≡ Refused r
+      → followedTo m start (followed.Refused r) ≡ resumeIn room order kinds operands base m start items
+  unfolding resumeIn judgeFollow
+  begin-refused r e = rw e
+
+  pub begin-passed : (s : FollowResult) → judgeBegin (length m) order kinds operands ≡ Passed
+      → s ≡ followIf (judgeImage base (imageCells (listed kinds operands)) room) (machineOf order) base (listed kinds operands) m start items
+      → s ≡ resumeIn room order kinds operands base m start items
+  unfolding resumeIn judgeFollow
+  begin-passed s e q = q ∙ rw e
+
+-- demand 3 of the answer; an operand is a cell
+module _ (order : ℕ) (kinds operands : List ℕ) (base : ℕ) (m : List ℕ) (sp rp items : ℕ) (cells : (i : ℕ) → getD operands i 0 < 2 ^ 32) where
+  abbrev run : Run
+  run = runOf (machineOf order) base (listed kinds operands) items (resuming (listed kinds operands) (positionOf m (standAt 0 false sp rp)))
+
+  ran-packed : (m2 : List ℕ) (x : Ran) (j : Judged) → judgeFollow (length m) order kinds operands base Passed ≡ j
+      → followedTo m2 (standAt 0 false sp rp) (followed.Ran x)
+      ≡ followIf j (machineOf order) base (listed kinds operands) m (standAt 0 false sp rp) items
+      → AsPacked order base (listed kinds operands) m sp rp m2 (followed.Ran x)
+  unfolding judgeFollow judgeImage
+  ran-packed m2 x (Refused r) q e holds =
+      absurd (let f : followed.Ran x ≡ followed.Refused r = ap (λ (s : FollowResult). s .answer) e in let z : _≡_ {A = ℕ} 0 1 = cc in omega arith)
+  ran-packed m2 x Passed q e holds =
+      let p = both-pass (judgeBegin (length m) order kinds operands) (after (judgedPlace base (imageCells (listed kinds operands))) Passed) q in
+      let f : followed.Ran x ≡ followed.Ran (ranOf run) = ap (λ (s : FollowResult). s .answer) e in
+      let g : x ≡ ranOf run = cc in
+      let h : m2 ≡ run .position .memory = ap (λ (s : FollowResult). s .memory) e in
+      rw (h, g, run-there run)
+      (demand3 (machineOf order) base (listed kinds operands) m sp rp items
+      (record {
+        input = begin-checked (length m) order kinds operands (p .0) .input;
+        state = both-pass (judgedPlace base (imageCells (listed kinds operands))) Passed (p .1) .0;
+        cell = λ i h. cells i;
+      })
+      holds)
+
+  pub as-packed : (m2 : List ℕ) (a : Followed) → followedTo m2 (standAt 0 false sp rp) a ≡ followOf order kinds operands base m sp rp items
+      → AsPacked order base (listed kinds operands) m sp rp m2 a
+  unfolding resumeIn
+  as-packed m2 (followed.Refused r) e = tt
+  as-packed m2 (followed.Ran x) e = ran-packed m2 x (judgeFollow (length m) order kinds operands base Passed) refl e

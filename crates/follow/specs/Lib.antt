@@ -1,2 +1,3 @@
--- What crate `follow` means: what turns a run of the list machine back, and what it leaves and answers.
+-- What crate `follow` means: what turns a run of the list machine back, what it leaves and answers, and that it may be cut at any item.
 pub mod Follow
+pub mod Cutting

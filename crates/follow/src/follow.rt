@@ -1,64 +1,121 @@
-// list_run: a number of items of a listing.
+// list_run and list_resume: a number of items of a listing.
 ghost use mathlib.Core.Path.{_≡_};
+ghost use mathlib.Core.Bool.{false};
+ghost use Prim.Native.Nat.{_*_};
 ghost use lib.ListN.{length};
 ghost use Rattle.cell.specs.Refusals.{Lent};
 ghost use Rattle.layout.specs.Listing.{listed, Checked};
-ghost use Rattle.layout.specs.Packing.{imageCells, judgedPlace};
-ghost use Rattle.layout.specs.Refusals.{accepted};
-ghost use Rattle.packer.specs.Prepared.{Places};
-ghost use Rattle.list_machine.specs.Runs as runs;
-ghost use Rattle.items.specs.Stands as stands;
+ghost use Rattle.layout.specs.Packing.{imageCells};
 ghost use Rattle.follow.specs.Follow as follows;
 use crate::Followed;
-use crate::judgement::judge_follow;
+use crate::judgement::judge_begin;
+use crate::judgement::judge_image;
+use crate::settle::settle_table;
 use cell::Address;
 use cell::Judged;
-use items::Ran;
+use items::Image;
+use items::Stand;
 use items::running::run_items;
+use layout::ItemNumber;
 use machine::Machine;
-use packer::prepare::prepare;
 
-// A listing and a base that passed, with the working arrays lent.
+// A listing that the input list passed, with a table lent: it is laid out once, its image judged, and the run made.
 fn follow_checked(
     machine: Machine,
     memory: &mut [u8],
     kinds: &[u8],
     operands: &[u32],
+    table: &mut [u32],
     base: Address,
-    entries: &mut [u8],
-    marks: &mut [u8],
-    ats: &mut [u32],
-    eps: &mut [u32],
-    lefts: &mut [u32],
+    start: Stand,
+    items: u32,
+    room: Judged,
+) -> Followed
+    requires { ⌜ Lent (length (now memory)) ⌝ }
+    requires { ⌜ Checked (now kinds) (now operands) ⌝ }
+    requires { ⌜ length (now table) ≡ 4 * length (now kinds) ⌝ }
+    ensures { λ r. ⌜ follows.followedTo (now (memory .exit)) start r ≡ follows.followIf (follows.judgeImage (base .0) (imageCells (listed (now (kinds .entry)) (now (operands .entry)))) room) machine (base .0) (listed (now (kinds .entry)) (now (operands .entry))) (now (memory .entry)) start items ⌝ }
+{
+    let cells = settle_table(kinds, operands, table);
+    match judge_image(base, cells, room) {
+        Judged::Refused(r) => Followed::Refused(r),
+        Judged::Passed => {
+            let image = Image {
+                base: base,
+                cells: cells,
+            };
+            Followed::Ran(run_items(machine, memory, kinds, operands, table, image, start, items))
+        }
+    }
+}
+
+// A run from where the machine is told to stand; room is the caller's judgement of what else was lent.
+pub fn follow_within(
+    order: u8,
+    kinds: &[u8],
+    operands: &[u32],
+    base: Address,
+    memory: &mut [u8],
+    start: Stand,
+    items: u32,
+    room: Judged,
+) -> Followed
+    ensures { λ r. ⌜ follows.followedTo (now (memory .exit)) start r ≡ follows.resumeIn room order (now (kinds .entry)) (now (operands .entry)) (base .0) (now (memory .entry)) start items ⌝ }
+{
+    match judge_begin(memory.len(), order, kinds, operands) {
+        Judged::Refused(r) => Followed::Refused(r),
+        Judged::Passed => {
+            let size = 4 * kinds.len();
+            let mut table = [0u32; 16384];
+            follow_checked(
+                Machine { order: order },
+                memory,
+                kinds,
+                operands,
+                &mut table[0..size],
+                base,
+                start,
+                items,
+                room,
+            )
+        }
+    }
+}
+
+// A run taken up at an item, which was run on into from an item not in its immediate form or not.
+pub fn list_resume(
+    order: u8,
+    kinds: &[u8],
+    operands: &[u32],
+    base: Address,
+    memory: &mut [u8],
+    item: ItemNumber,
+    ran: bool,
     sp: u32,
     rp: u32,
     items: u32,
-) -> Ran
-    requires { ⌜ Lent (length (now memory)) ⌝ }
-    requires { ⌜ Checked (now kinds) (now operands) ⌝ }
-    requires { ⌜ judgedPlace (base .0) (imageCells (listed (now kinds) (now operands))) ≡ accepted ⌝ }
-    requires { ⌜ Places (length (now kinds)) (now entries) (now marks) (now ats) (now eps) (now lefts) ⌝ }
-    ensures { λ r. ⌜ stands.runAs (now (memory .exit)) r ≡ runs.runOf machine (base .0) (listed (now (kinds .entry)) (now (operands .entry))) items (runs.beginning (now (memory .entry)) sp rp) ⌝ }
+) -> Followed
+    ensures { λ r. ⌜ follows.followedTo (now (memory .exit)) (follows.standAt (item .0) ran sp rp) r ≡ follows.resumeOf order (now (kinds .entry)) (now (operands .entry)) (base .0) (now (memory .entry)) (follows.standAt (item .0) ran sp rp) items ⌝ }
 {
-    let cells = prepare(kinds, operands, entries, marks, ats, eps, lefts);
-    run_items(
-        machine,
-        memory,
+    let start = Stand {
+        item: item,
+        ran: ran,
+        sp: sp,
+        rp: rp,
+    };
+    follow_within(
+        order,
         kinds,
         operands,
-        entries,
-        marks,
-        ats,
-        eps,
-        lefts,
-        base.0,
-        cells.0,
-        sp,
-        rp,
+        base,
+        memory,
+        start,
         items,
+        Judged::Passed,
     )
 }
 
+// A run from item 0 on.
 pub fn list_run(
     order: u8,
     kinds: &[u8],
@@ -69,34 +126,19 @@ pub fn list_run(
     rp: u32,
     items: u32,
 ) -> Followed
-    ensures { λ r. ⌜ follows.followedTo (now (memory .exit)) r ≡ follows.followOf order (now (kinds .entry)) (now (operands .entry)) (base .0) (now (memory .entry)) sp rp items ⌝ }
+    ensures { λ r. ⌜ follows.followedTo (now (memory .exit)) (follows.standAt 0 false sp rp) r ≡ follows.followOf order (now (kinds .entry)) (now (operands .entry)) (base .0) (now (memory .entry)) sp rp items ⌝ }
     ensures { λ r. ⌜ follows.AsPacked order (base .0) (listed (now (kinds .entry)) (now (operands .entry))) (now (memory .entry)) sp rp (now (memory .exit)) r ⌝ }
 {
-    match judge_follow(memory.len(), order, kinds, operands, base) {
-        Judged::Refused(r) => Followed::Refused(r),
-        Judged::Passed => {
-            let n = kinds.len();
-            let mut entries = [0u8; 4096];
-            let mut marks = [0u8; 4096];
-            let mut ats = [0u32; 4096];
-            let mut eps = [0u32; 4096];
-            let mut lefts = [0u32; 4096];
-            let ran = follow_checked(
-                Machine { order: order },
-                memory,
-                kinds,
-                operands,
-                base,
-                &mut entries[0..n],
-                &mut marks[0..n],
-                &mut ats[0..n],
-                &mut eps[0..n],
-                &mut lefts[0..n],
-                sp,
-                rp,
-                items,
-            );
-            Followed::Ran(ran)
-        }
-    }
+    list_resume(
+        order,
+        kinds,
+        operands,
+        base,
+        memory,
+        ItemNumber(0),
+        false,
+        sp,
+        rp,
+        items,
+    )
 }

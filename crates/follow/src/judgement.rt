@@ -1,22 +1,31 @@
 // What turns a run of the list machine back, in document 01's order.
 ghost use mathlib.Core.Path.{_≡_};
+ghost use Prim.Native.Nat.{_≤_};
 ghost use Rattle.follow.specs.Follow as follows;
 use cell::Address;
+use cell::CellCount;
 use cell::Judged;
 use cell::judgement::judge_machine;
-use packer::judgement::judge_listing;
+use listing::check::judge_arrays;
+use listing::check::judge_place;
 
-pub fn judge_follow(
-    length: usize,
-    order: u8,
-    kinds: &[u8],
-    operands: &[u32],
-    base: Address,
-) -> Judged
-    ensures { λ r. ⌜ r ≡ follows.judgeFollow length order (now (kinds .entry)) (now (operands .entry)) (base .0) ⌝ }
+// What is judged before the layout.
+pub fn judge_begin(length: usize, order: u8, kinds: &[u8], operands: &[u32]) -> Judged
+    ensures { λ r. ⌜ r ≡ follows.judgeBegin length order (now (kinds .entry)) (now (operands .entry)) ⌝ }
 {
     match judge_machine(length, order) {
         Judged::Refused(r) => Judged::Refused(r),
-        Judged::Passed => judge_listing(kinds, operands, base),
+        Judged::Passed => judge_arrays(kinds, operands),
+    }
+}
+
+// What is judged once the size of the image is known; room is the caller's judgement of what else was lent.
+pub fn judge_image(base: Address, cells: CellCount, room: Judged) -> Judged
+    requires { ⌜ cells .0 ≤ 8192 ⌝ }
+    ensures { λ r. ⌜ r ≡ follows.judgeImage (base .0) (cells .0) room ⌝ }
+{
+    match judge_place(base, cells) {
+        Judged::Refused(r) => Judged::Refused(r),
+        Judged::Passed => room,
     }
 }

@@ -2,11 +2,12 @@
 pub mod answers;
 pub mod follow;
 pub mod judgement;
+pub mod settle;
 
 use cell::Refusal;
 use items::Ran;
 
-// What a run of the list machine answers. specs/Follow.antt has what each case stands for.
+// What a run of the list machine answers. specs/Follow.antt has the number and the values of each case.
 pub enum Followed {
     Refused(Refusal),
     Ran(Ran),

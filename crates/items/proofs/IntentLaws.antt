@@ -20,6 +20,7 @@ use Rattle.layout.specs.Listing.{Listing}
 use Rattle.layout.specs.Layout.{formAt}
 use Rattle.layout.specs.Packing.{layout, imageCells, entryAt}
 use Rattle.layout.specs.declared.Entry.{Entry}
+use Rattle.list_machine.specs.declared.Outside.the-variants.{WritesImage, NoEntry, PastEnd}
 use Rattle.list_machine.specs.ListMachine.{Position, Carried, on, outside, isImmediate, actedTo, movedTo, registersAt, handled, ranOn, carriedBy}
 use Rattle.shapes.proofs.Alone.{Alone, bare}
 use Rattle.items.specs.Ways.{toEntry, nextWay, intentBy, along, steppedTo, performed}
@@ -29,7 +30,7 @@ use Rattle.items.specs.declared.Intent.the-variants.{Act}
 use Rattle.items.proofs.ThrowingLaws.{transferred-is, throw-is, given-is}
 
 next-of : (b : Bool) (i : ℕ) (ran : Bool) (q : Position)
-    → along (if b (way.To (record { 0 = i }) ran) way.Outside) q ≡ if b (on (movedTo i ran q)) outside
+    → along (if b (way.To (record { 0 = i }) ran) (way.Outside PastEnd)) q ≡ if b (on (movedTo i ran q)) (outside PastEnd)
 next-of true i ran q = refl
 next-of false i ran q = refl
 
@@ -50,7 +51,7 @@ module _ (machine : Machine) (base : ℕ) (l : Listing) (find : ℕ → Entry) (
     -- a choice that was made of what is meant
     chosen : (b : Bool) (t : Then) (i : Intent) (k : Carried)
         → performed machine p (registersAt machine base l p) (effectOf sp rp ss t) i ≡ k
-        → performed machine p (registersAt machine base l p) (effectOf sp rp ss t) (if b (Act way.Outside) i) ≡ if b outside k
+        → performed machine p (registersAt machine base l p) (effectOf sp rp ss t) (if b (Act (way.Outside WritesImage)) i) ≡ if b (outside WritesImage) k
     chosen true t i k h = refl
     chosen false t i k h = h
 
@@ -82,8 +83,8 @@ module _ (machine : Machine) (base : ℕ) (l : Listing) (find : ℕ → Entry) (
     intent-is (Jump a) Good e o =
         rw e
         (chosen (touches base (base + 4 * imageCells l) ss) (Jump a) _ _
-        (ap (along (toEntry (find (a .0)))) (went (Jump a) (jump (a .0)) refl e)
-        ∙ transferred-is machine base l find finds (a .0) (actedTo machine p (after (jump (a .0))))))
+        (ap (along (toEntry NoEntry (find (a .0)))) (went (Jump a) (jump (a .0)) refl e)
+        ∙ transferred-is machine base l find finds NoEntry (a .0) (actedTo machine p (after (jump (a .0))))))
     intent-is (Halt x) Good e o =
         rw e (chosen (touches base (base + 4 * imageCells l) ss) (Halt x) _ _ (ap (along (way.Halt x)) (went (Halt x) (halt x) refl e)))
     intent-is Throw Good e o =

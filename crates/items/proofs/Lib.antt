@@ -3,6 +3,6 @@ mod EntryLaws
 mod KindLaws
 mod ThrowingLaws
 mod IntentLaws
-mod ItemLaws
+mod TableLaws
 mod CarryLaws
 mod RunLaws

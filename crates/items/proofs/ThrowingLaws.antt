@@ -32,10 +32,12 @@ use Rattle.layout.specs.Listing.{Listing}
 use Rattle.layout.specs.Packing.{imageCells, epValue, entryAt}
 use Rattle.layout.specs.declared.Entry.{Entry}
 use Rattle.layout.specs.declared.Entry.the-variants.{Item, Nothing}
+use Rattle.list_machine.specs.declared.Outside.{Outside}
+use Rattle.list_machine.specs.declared.Outside.the-variants.{WritesImage, NoHandler}
 use Rattle.list_machine.specs.ListMachine.{Position, Carried, outside, enteredAt, thrownTo, pushOf, registersAt, transferred, handledBy, handled, thrown, writesImage}
 use Rattle.items.specs.Ways.{toEntry, handlerBy, handlerWay, handlerAfter, pushWay, throwWay, givenWay, along}
 use Rattle.items.specs.declared.Way.{Way}
-use Rattle.items.specs.declared.Way.the-variants.{Halt, Outside}
+use Rattle.items.specs.declared.Way.the-variants as way
 
 code-below : (f : Fault) → faultCode f < 2 ^ 32
 code-below (Range a) = omega arith
@@ -78,32 +80,32 @@ place-of : (machine : Machine) (len a : ℕ) → placeOf machine oneCell Push le
 unfolding placeOf
 place-of machine len a e = good-place len a e
 
-entered-is : (e : Entry) (q : Position) → along (toEntry e) q ≡ enteredAt e q
-entered-is (Item i) q = refl
-entered-is Nothing q = refl
+entered-is : (why : Outside) (e : Entry) (q : Position) → along (toEntry why e) q ≡ enteredAt why e q
+entered-is why (Item i) q = refl
+entered-is why Nothing q = refl
 
-choose : (b : Bool) (w : Way) (q : Position) (k : Carried) → along w q ≡ k → along (if b Outside w) q ≡ if (b || false) outside k
+choose : (b : Bool) (w : Way) (q : Position) (k : Carried) → along w q ≡ k → along (if b (way.Outside WritesImage) w) q ≡ if (b || false) (outside WritesImage) k
 choose true w q k h = refl
 choose false w q k h = h
 
 module _ (machine : Machine) (base : ℕ) (l : Listing) (find : ℕ → Entry) (finds : (a : ℕ) → find a ≡ entryAt base l a) where
-  pub transferred-is : (a : ℕ) (q : Position) → along (toEntry (find a)) q ≡ transferred machine base l a q
-  transferred-is a q = entered-is (find a) q ∙ ap (λ (e : Entry). enteredAt e q) (finds a)
+  pub transferred-is : (why : Outside) (a : ℕ) (q : Position) → along (toEntry why (find a)) q ≡ transferred machine base l why a q
+  transferred-is why a q = entered-is why (find a) q ∙ ap (λ (e : Entry). enteredAt why e q) (finds a)
 
   module _ (p : Position) where
     -- a handler whose address is h and whose place was judged
     handed-is : (m : List ℕ) (r : Registers) (e : Ended) (h x : ℕ) (c : Checked)
-        → ((t : Turned) → handledBy machine base l p t e ≡ transferred machine base l (cellAt (machine .order) (t .memory) handlerCell) (thrownTo p t))
+        → ((t : Turned) → handledBy machine base l p t e ≡ transferred machine base l NoHandler (cellAt (machine .order) (t .memory) handlerCell) (thrownTo p t))
         → cellAt (machine .order) m handlerCell ≡ h
         → along (handlerBy (find h) c) (thrownTo p (handed m r e h (read c x))) ≡ handled machine base l p (handed m r e h (read c x))
     handed-is m r e h x Good g q =
-        transferred-is h (thrownTo p (handed m r e h (read Good x)))
-        ∙ ap (λ (a : ℕ). transferred machine base l a (thrownTo p (handed m r e h (read Good x)))) (sym q)
+        transferred-is NoHandler h (thrownTo p (handed m r e h (read Good x)))
+        ∙ ap (λ (a : ℕ). transferred machine base l NoHandler a (thrownTo p (handed m r e h (read Good x)))) (sym q)
         ∙ sym (g (handed m r e h (read Good x)))
     handed-is m r e h x (Bad f) g q = refl
 
     handler-is : (m : List ℕ) (r : Registers) (e : Ended) (h : ℕ)
-        → ((t : Turned) → handledBy machine base l p t e ≡ transferred machine base l (cellAt (machine .order) (t .memory) handlerCell) (thrownTo p t))
+        → ((t : Turned) → handledBy machine base l p t e ≡ transferred machine base l NoHandler (cellAt (machine .order) (t .memory) handlerCell) (thrownTo p t))
         → length m ≡ length (p .memory)
         → cellAt (machine .order) (storeCell (machine .order) m badCell (r .ep)) handlerCell ≡ h
         → along (handlerWay machine (p .memory) find h) (thrownTo p (handlerOf machine m r e)) ≡ handled machine base l p (handlerOf machine m r e)
@@ -126,7 +128,7 @@ module _ (machine : Machine) (base : ℕ) (l : Listing) (find : ℕ → Entry) (
         go : (c : Checked) → placeOf machine oneCell Push (length (p .memory)) (difference (p .sp) 4) ≡ c
             → along (pushWay machine (p .memory) find base (base + 4 * imageCells l) (difference (p .sp) 4) f c)
             (thrownTo p (pushed machine (p .memory) (registersAt machine base l p) f (difference (p .sp) 4) c))
-            ≡ if (writesImage machine base l (pushOf (difference (p .sp) 4) f c)) outside
+            ≡ if (writesImage machine base l (pushOf (difference (p .sp) 4) f c)) (outside WritesImage)
             (handled machine base l p (pushed machine (p .memory) (registersAt machine base l p) f (difference (p .sp) 4) c))
         go (Bad g) e = refl
         go Good e =
@@ -147,7 +149,7 @@ module _ (machine : Machine) (base : ℕ) (l : Listing) (find : ℕ → Entry) (
     given-is = go (eqb (p .sp % 4) 0)
       where
         go : (b : Bool)
-            → along (if b (handlerWay machine (p .memory) find (cellAt (machine .order) (p .memory) handlerCell)) (Halt badStack))
+            → along (if b (handlerWay machine (p .memory) find (cellAt (machine .order) (p .memory) handlerCell)) (way.Halt badStack))
             (thrownTo p (if b (handlerOf machine (p .memory) (registersAt machine base l p) Went) (turned (p .memory) (registersAt machine base l p) (Stopped badStack))))
             ≡ handled machine base l p (if b (handlerOf machine (p .memory) (registersAt machine base l p) Went) (turned (p .memory) (registersAt machine base l p) (Stopped badStack)))
         go true =

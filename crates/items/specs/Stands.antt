@@ -2,8 +2,11 @@
 use mathlib.Core.Bool.{Bool, true, false}
 use mathlib.Core.List.{List}
 use Prim.Native.Nat.{ℕ, _+_}
+use lib.Dec.{ltb}
+use Rattle.cell.specs.Choice.{if}
 use Rattle.machine.specs.declared.Registers.{Registers}
 use Rattle.layout.specs.declared.ItemNumber.{ItemNumber}
+use Rattle.list_machine.specs.declared.Outside.the-variants.{PastEnd}
 use Rattle.list_machine.specs.ListMachine as lists
 use Rattle.list_machine.specs.Runs as runs
 use Rattle.items.specs.declared.Stand.{Stand}
@@ -17,6 +20,10 @@ use Rattle.items.specs.declared.Ran.{Ran}
 abbrev pub positionOf : List ℕ → Stand → lists.Position
 positionOf m s = record { item = s .item .0; ran = s .ran; memory = m; sp = s .sp; rp = s .rp }
 
+-- the registers at an address, with the stack pointers of s
+abbrev pub registersFor : ℕ → ℕ → Stand → Registers
+registersFor ep a s = record { ep = ep; a = a; sp = s .sp; rp = s .rp }
+
 -- in front of an item, with the stack pointers of r
 abbrev pub arrived : ItemNumber → Bool → Registers → Stand
 arrived item ran r = record { item = item; ran = ran; sp = r .sp; rp = r .rp }
@@ -25,7 +32,7 @@ arrived item ran r = record { item = item; ran = ran; sp = r .sp; rp = r .rp }
 abbrev pub carriedAs : List ℕ → Carried → lists.Carried
 carriedAs m (On s) = lists.on (positionOf m s)
 carriedAs m (Stopped s x) = lists.stopped x (positionOf m s)
-carriedAs m Outside = lists.outside
+carriedAs m (Outside why) = lists.outside why
 
 -- memory, and what the item came to
 pub record Left : Type 0 where
@@ -35,11 +42,11 @@ pub record Left : Type 0 where
 abbrev pub left : List ℕ → Carried → Left
 left m c = record { memory = m; carried = carriedAs m c }
 
--- the memory that an item leaves; "in front of an item" the machine stops outside, and memory stays
+-- the memory that an item leaves; it stays where the machine stands outside
 abbrev pub memoryAfter : List ℕ → lists.Carried → List ℕ
 memoryAfter m (lists.on p) = p .memory
 memoryAfter m (lists.stopped x p) = p .memory
-memoryAfter m lists.outside = m
+memoryAfter m (lists.outside why) = m
 
 -- what the code has to leave, from the memory m
 abbrev pub leaves : List ℕ → lists.Carried → Left
@@ -48,25 +55,24 @@ leaves m c = record { memory = memoryAfter m c; carried = c }
 abbrev pub courseOf : Ending → runs.Course
 courseOf ending.GoesOn = runs.goesOn
 courseOf (ending.Stopped x) = runs.stoppedBy x
-courseOf ending.Outside = runs.stoodOutside
+courseOf (ending.Outside why) = runs.stoodOutside why
 
 -- a run, with the memory m
 abbrev pub runAs : List ℕ → Ran → runs.Run
 runAs m r = record { position = positionOf m (r .stand); items = r .items; cycles = r .cycles; course = courseOf (r .ending) }
 
--- "it at item 0": nothing is done yet
-abbrev pub begun : ℕ → ℕ → Ran
-begun sp rp =
-    record { stand = record { item = record { 0 = 0 }; ran = false; sp = sp; rp = rp }; items = 0; cycles = 0; ending = ending.GoesOn }
+-- nothing is done yet, in a listing of n items
+abbrev pub begun : ℕ → Stand → Ran
+begun n s =
+    record { stand = s; items = 0; cycles = 0; ending = if (ltb (s .item .0) n) ending.GoesOn (ending.Outside PastEnd) }
 
--- the run with one item more, which counts so many cycles. "one that throws and one that stops it with a reason are among them, one it stops in
--- front of is not"
+-- the run with one item more, which counts so many cycles; an item in front of which the machine stands outside counts none
 abbrev pub counted : Ran → ℕ → Carried → Ran
 counted r k (On s) = record { stand = s; items = r .items + 1; cycles = r .cycles + k; ending = ending.GoesOn }
 counted r k (Stopped s x) = record { stand = s; items = r .items + 1; cycles = r .cycles + k; ending = ending.Stopped x }
-counted r k Outside = record { stand = r .stand; items = r .items; cycles = r .cycles; ending = ending.Outside }
+counted r k (Outside why) = record { stand = r .stand; items = r .items; cycles = r .cycles; ending = ending.Outside why }
 
 abbrev pub isOver : Ending → Bool
 isOver ending.GoesOn = false
 isOver (ending.Stopped x) = true
-isOver ending.Outside = true
+isOver (ending.Outside why) = true

@@ -9,27 +9,25 @@ ghost use Rattle.machine.specs.Throws as throws;
 ghost use Rattle.layout.specs.Listing.{listed};
 ghost use Rattle.list_machine.specs.ListMachine as lists;
 ghost use Rattle.shapes.specs.Shapes as shapes;
-ghost use Rattle.items.specs.Arrays as arrays;
 ghost use Rattle.items.specs.Stands as stands;
+ghost use Rattle.items.specs.Tables as tables;
 ghost use Rattle.items.specs.Ways as ways;
 use crate::Carried;
 use crate::Cause;
+use crate::Image;
 use crate::Intent;
 use crate::Stand;
 use crate::Way;
 use crate::judging::intent_of;
-use crate::proposing::extra_of;
-use crate::proposing::is_immediate;
+use crate::proposing::registers_at;
 use crate::proposing::shape_of;
 use layout::ItemNumber;
-use listing::kinds::class_of;
 use machine::Ended;
 use machine::Machine;
 use machine::Registers;
 use machine::Turn;
 use machine::ending::handle;
 use machine::ending::throw;
-use packing::place::form_of;
 use shapes::Shape;
 use shapes::carrying::commit_shape;
 
@@ -70,7 +68,7 @@ fn act_along(
             let item = s.item;
             Carried::Stopped(arrive(item, s.ran, after), x)
         }
-        Way::Outside => Carried::Outside,
+        Way::Outside(why) => Carried::Outside(why),
     }
 }
 
@@ -119,7 +117,7 @@ fn end_along(
             let item = s.item;
             Carried::Stopped(arrive(item, s.ran, after), x)
         }
-        Way::Outside => Carried::Outside,
+        Way::Outside(why) => Carried::Outside(why),
     }
 }
 
@@ -148,44 +146,18 @@ pub fn carry_out(
     memory: &mut [u8],
     kinds: &[u8],
     operands: &[u32],
-    entries: &[u8],
-    marks: &[u8],
-    ats: &[u32],
-    eps: &[u32],
-    lefts: &[u32],
-    base: u32,
-    cells: u32,
+    table: &[u32],
+    image: Image,
     s: Stand,
 ) -> Carried
     requires { ⌜ Lent (length (now memory)) ⌝ }
-    requires { ⌜ arrays.Settled (now kinds) (now operands) (now entries) (now marks) (now ats) (now eps) (now lefts) base cells ⌝ }
+    requires { ⌜ tables.Settled (now kinds) (now operands) (now table) image ⌝ }
     requires { ⌜ s .item .0 < length (now kinds) ⌝ }
-    ensures { λ c. ⌜ stands.left (now (memory .exit)) c ≡ stands.leaves (now (memory .entry)) (lists.carryOut machine base (listed (now (kinds .entry)) (now (operands .entry))) (stands.positionOf (now (memory .entry)) s)) ⌝ }
+    ensures { λ c. ⌜ stands.left (now (memory .exit)) c ≡ stands.leaves (now (memory .entry)) (lists.carryOut machine (image .base .0) (listed (now (kinds .entry)) (now (operands .entry))) (stands.positionOf (now (memory .entry)) s)) ⌝ }
 {
-    let item = s.item;
-    let i = item.0 as usize;
-    let kind = kinds[i];
-    let x = operands[i];
-    let ep = eps[i];
-    let form = form_of(class_of(kind), marks[i] == 1, x, lefts[i]);
-    let r = Registers {
-        ep: base + 4 * ep,
-        a: 0,
-        sp: s.sp,
-        rp: s.rp,
-    };
-    let shape = shape_of(machine, memory, r, kind, x, ep + extra_of(form), ats, base);
-    let intent = intent_of(
-        machine,
-        memory,
-        entries,
-        ats,
-        base,
-        base + 4 * cells,
-        item,
-        is_immediate(form),
-        s.sp,
-        shape,
-    );
+    let base = image.base;
+    let shape = shape_of(machine, memory, kinds, operands, table, image, s);
+    let intent = intent_of(machine, memory, table, image, s, shape);
+    let r = registers_at(table, base, s);
     perform(machine, memory, s, r, shape, intent)
 }

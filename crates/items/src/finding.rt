@@ -1,42 +1,54 @@
 // The entry that an address leads to.
 ghost use mathlib.Core.Path.{_≡_};
 ghost use mathlib.Core.Bool.{_&&_};
-ghost use Prim.Native.Nat.{_+_, _*_, _≤_};
+ghost use Prim.Native.Nat.{_+_, _*_, _<_};
 ghost use lib.Dec.{eqb};
 ghost use lib.ListN.{length};
+ghost use Rattle.items.specs.Tables as tables;
 ghost use Rattle.items.specs.Ways as ways;
 use crate::Way;
+use crate::tables::is_entry;
+use crate::tables::place_of;
+use cell::Address;
+use cell::place::address_at;
 use layout::Entry;
 use layout::ItemNumber;
+use list_machine::Outside;
 
-fn is_placed(entry: u8, base: u32, at: u32, a: u32) -> bool
-    ensures { λ r. ⌜ r ≡ (eqb entry 1 && eqb (base + 4 * at) a) ⌝ }
+// An item is an entry whose cell is at this address.
+fn is_placed(table: &[u32], base: Address, item: ItemNumber, a: Address) -> bool
+    requires { ⌜ tables.Near (now table) (base .0) ⌝ }
+    requires { ⌜ item .0 < tables.rows (now table) ⌝ }
+    ensures { λ r. ⌜ r ≡ (tables.entryIn (now (table .entry)) (item .0) && eqb (base .0 + 4 * tables.placeIn (now (table .entry)) (item .0)) (a .0)) ⌝ }
 {
-    if entry == 1 {
-        return base as u64 + 4 * (at as u64) == a as u64;
+    if is_entry(table, item) {
+        let there = address_at(base, place_of(table, item));
+        return there.0 == a.0;
     }
     false
 }
 
-pub fn entry_at(entries: &[u8], ats: &[u32], base: u32, a: u32) -> Entry
-    requires { ⌜ (length (now ats) ≡ length (now entries)) × (length (now entries) ≤ 4096) ⌝ }
-    ensures { λ r. ⌜ r ≡ ways.entryIn (now (entries .entry)) (now (ats .entry)) base (length (now (entries .entry))) a ⌝ }
+pub fn entry_at(table: &[u32], base: Address, a: Address) -> Entry
+    requires { ⌜ tables.Near (now table) (base .0) ⌝ }
+    ensures { λ r. ⌜ r ≡ tables.entryBelow (now (table .entry)) (base .0) (tables.rows (now (table .entry))) (a .0) ⌝ }
 {
-    let mut i = entries.len();
+    let mut i = table.len() / 4;
     while 0 < i {
         i -= 1;
-        if is_placed(entries[i], base, ats[i], a) {
-            return Entry::Item(ItemNumber(i as u32));
+        let item = ItemNumber(i as u32);
+        if is_placed(table, base, item, a) {
+            return Entry::Item(item);
         }
     }
     Entry::Nothing
 }
 
-pub fn to_entry(e: Entry) -> Way
-    ensures { λ r. ⌜ r ≡ ways.toEntry e ⌝ }
+// In front of the entry that was found, or outside.
+pub fn to_entry(why: Outside, e: Entry) -> Way
+    ensures { λ r. ⌜ r ≡ ways.toEntry why e ⌝ }
 {
     match e {
         Entry::Item(i) => Way::To(i, false),
-        Entry::Nothing => Way::Outside,
+        Entry::Nothing => Way::Outside(why),
     }
 }

@@ -1,21 +1,27 @@
-// Where an item leads, before anything is written. `end` is the address behind the image.
+// Where an item leads, before anything is written.
 ghost use mathlib.Core.Path.{_≡_};
-ghost use Prim.Native.Nat.{_≤_, _<_};
+ghost use Prim.Native.Nat.{_+_, _*_, _≤_, _<_, _^_};
 ghost use lib.ListN.{length};
 ghost use Rattle.shapes.specs.Shapes as shapes;
+ghost use Rattle.items.specs.Tables as tables;
 ghost use Rattle.items.specs.Ways as ways;
 use crate::Cause;
+use crate::Image;
 use crate::Intent;
+use crate::Stand;
 use crate::Way;
 use crate::finding::entry_at;
 use crate::finding::to_entry;
+use crate::tables::is_immediate;
 use cell::Address;
 use cell::Checked;
 use cell::Fault;
 use cell::memory::load;
 use cell::number::subtract;
+use cell::place::address_at;
 use cell::place::fault_code;
 use layout::ItemNumber;
+use list_machine::Outside;
 use machine::Access;
 use machine::Machine;
 use machine::Then;
@@ -27,123 +33,89 @@ use shapes::judging::then_of;
 use shapes::judging::writes;
 
 // 'THROW is h: an entry, -259, or outside.
-fn handler_way(
-    machine: Machine,
-    memory: &[u8],
-    entries: &[u8],
-    ats: &[u32],
-    base: u32,
-    h: u32,
-) -> Way
-    requires { ⌜ (length (now ats) ≡ length (now entries)) × (length (now entries) ≤ 4096) ⌝ }
-    ensures { λ w. ⌜ w ≡ ways.handlerWay machine (now (memory .entry)) (ways.entryIn (now (entries .entry)) (now (ats .entry)) base (length (now (entries .entry)))) h ⌝ }
+fn handler_way(machine: Machine, memory: &[u8], table: &[u32], base: Address, h: Address) -> Way
+    requires { ⌜ tables.Near (now table) (base .0) ⌝ }
+    ensures { λ w. ⌜ w ≡ ways.handlerWay machine (now (memory .entry)) (tables.entryBelow (now (table .entry)) (base .0) (tables.rows (now (table .entry)))) (h .0) ⌝ }
 {
-    let place = check_place(machine, Access::Stream, memory.len(), Address(h));
+    let place = check_place(machine, Access::Stream, memory.len(), h);
     let Checked::Good = place else {
         return Way::Halt(0xFFFFFEFD);
     };
-    to_entry(entry_at(entries, ats, base, h))
+    to_entry(Outside::NoHandler, entry_at(table, base, h))
 }
 
 // A throw: its push may be -258, or a write of the image.
-fn throw_way(
-    machine: Machine,
-    memory: &[u8],
-    entries: &[u8],
-    ats: &[u32],
-    base: u32,
-    end: u32,
-    sp: u32,
-    f: Fault,
-) -> Way
+fn throw_way(machine: Machine, memory: &[u8], table: &[u32], image: Image, sp: u32, f: Fault) -> Way
     requires { ⌜ 4 ≤ length (now memory) ⌝ }
-    requires { ⌜ (length (now ats) ≡ length (now entries)) × (length (now entries) ≤ 4096) ⌝ }
-    ensures { λ w. ⌜ w ≡ ways.throwWay machine (now (memory .entry)) (ways.entryIn (now (entries .entry)) (now (ats .entry)) base (length (now (entries .entry)))) base end sp f ⌝ }
+    requires { ⌜ (tables.Near (now table) (image .base .0)) × (image .base .0 + 4 * image .cells .0 < 2 ^ 32) ⌝ }
+    ensures { λ w. ⌜ w ≡ ways.throwWay machine (now (memory .entry)) (tables.entryBelow (now (table .entry)) (image .base .0) (tables.rows (now (table .entry)))) (image .base .0) (image .base .0 + 4 * image .cells .0) sp f ⌝ }
 {
-    let a = subtract(sp, 4);
-    let place = check_place(machine, Access::Push, memory.len(), Address(a));
+    let base = image.base;
+    let cells = image.cells;
+    let a = Address(subtract(sp, 4));
+    let place = check_place(machine, Access::Push, memory.len(), a);
     let Checked::Good = place else {
         return Way::Halt(0xFFFFFEFE);
     };
-    if meets(a, 4, base, end) {
-        return Way::Outside;
+    if meets(a.0, 4, base.0, address_at(base, cells).0) {
+        return Way::Outside(Outside::WritesImage);
     }
-    if a == 0 {
-        return handler_way(machine, memory, entries, ats, base, fault_code(f));
+    if a.0 == 0 {
+        return handler_way(machine, memory, table, base, Address(fault_code(f)));
     }
-    handler_way(
-        machine,
-        memory,
-        entries,
-        ats,
-        base,
-        load(machine.order, memory, 0),
-    )
+    let handler = load(machine.order, memory, 0);
+    handler_way(machine, memory, table, base, Address(handler))
 }
 
 // THROW, which pushes nothing.
-fn given_way(
-    machine: Machine,
-    memory: &[u8],
-    entries: &[u8],
-    ats: &[u32],
-    base: u32,
-    sp: u32,
-) -> Way
+fn given_way(machine: Machine, memory: &[u8], table: &[u32], base: Address, sp: u32) -> Way
     requires { ⌜ 4 ≤ length (now memory) ⌝ }
-    requires { ⌜ (length (now ats) ≡ length (now entries)) × (length (now entries) ≤ 4096) ⌝ }
-    ensures { λ w. ⌜ w ≡ ways.givenWay machine (now (memory .entry)) (ways.entryIn (now (entries .entry)) (now (ats .entry)) base (length (now (entries .entry)))) sp ⌝ }
+    requires { ⌜ tables.Near (now table) (base .0) ⌝ }
+    ensures { λ w. ⌜ w ≡ ways.givenWay machine (now (memory .entry)) (tables.entryBelow (now (table .entry)) (base .0) (tables.rows (now (table .entry)))) sp ⌝ }
 {
     if sp % 4 == 0 {
-        return handler_way(
-            machine,
-            memory,
-            entries,
-            ats,
-            base,
-            load(machine.order, memory, 0),
-        );
+        let handler = load(machine.order, memory, 0);
+        return handler_way(machine, memory, table, base, Address(handler));
     }
     Way::Halt(0xFFFFFEFE)
 }
 
 // The item after this one.
-fn next_way(n: usize, item: ItemNumber, immediate: bool) -> Way
-    requires { ⌜ item .0 < 4096 ⌝ }
-    ensures { λ w. ⌜ w ≡ ways.nextWay n (item .0) immediate ⌝ }
+fn next_way(table: &[u32], item: ItemNumber) -> Way
+    requires { ⌜ (item .0 < tables.rows (now table)) × (tables.rows (now table) ≤ 4096) ⌝ }
+    ensures { λ w. ⌜ w ≡ ways.nextWay (tables.rows (now (table .entry))) (item .0) (tables.immediateIn (now (table .entry)) (item .0)) ⌝ }
 {
     let next = item.0 + 1;
-    if (next as usize) < n {
-        return Way::To(ItemNumber(next), !immediate);
+    if (next as usize) < table.len() / 4 {
+        return Way::To(ItemNumber(next), !is_immediate(table, item));
     }
-    Way::Outside
+    Way::Outside(Outside::PastEnd)
 }
 
+// What follows the writes of an item in front of which the machine stands. A shape that raises was judged bad before, so its arm is never reached.
 fn intent_then(
     machine: Machine,
     memory: &[u8],
-    entries: &[u8],
-    ats: &[u32],
-    base: u32,
-    item: ItemNumber,
-    immediate: bool,
-    sp: u32,
+    table: &[u32],
+    base: Address,
+    s: Stand,
     then: Then,
 ) -> Intent
     requires { ⌜ 4 ≤ length (now memory) ⌝ }
-    requires { ⌜ (length (now ats) ≡ length (now entries)) × (length (now entries) ≤ 4096) ⌝ }
-    requires { ⌜ item .0 < 4096 ⌝ }
-    ensures { λ i. ⌜ i ≡ ways.intentThen machine (now (memory .entry)) (ways.entryIn (now (entries .entry)) (now (ats .entry)) base (length (now (entries .entry)))) (length (now (entries .entry))) (item .0) immediate sp then ⌝ }
+    requires { ⌜ tables.Near (now table) (base .0) ⌝ }
+    requires { ⌜ s .item .0 < tables.rows (now table) ⌝ }
+    ensures { λ i. ⌜ i ≡ ways.intentThen machine (now (memory .entry)) (tables.entryBelow (now (table .entry)) (base .0) (tables.rows (now (table .entry)))) (tables.rows (now (table .entry))) (s .item .0) (tables.immediateIn (now (table .entry)) (s .item .0)) (s .sp) then ⌝ }
 {
+    let item = s.item;
     match then {
-        Then::GoOn => Intent::Act(next_way(entries.len(), item, immediate)),
-        Then::Jump(a) => Intent::Act(to_entry(entry_at(entries, ats, base, a.0))),
+        Then::GoOn => Intent::Act(next_way(table, item)),
+        Then::Jump(a) => Intent::Act(to_entry(Outside::NoEntry, entry_at(table, base, a))),
         Then::Halt(x) => Intent::Act(Way::Halt(x)),
         Then::Throw => {
-            let way = given_way(machine, memory, entries, ats, base, sp);
+            let way = given_way(machine, memory, table, base, s.sp);
             Intent::End(Cause::Given, way)
         }
-        Then::Raise(_) => Intent::Act(Way::Outside),
+        Then::Raise(_) => Intent::Act(Way::Outside(Outside::PastEnd)),
     }
 }
 
@@ -151,42 +123,31 @@ fn intent_then(
 pub fn intent_of(
     machine: Machine,
     memory: &[u8],
-    entries: &[u8],
-    ats: &[u32],
-    base: u32,
-    end: u32,
-    item: ItemNumber,
-    immediate: bool,
-    sp: u32,
+    table: &[u32],
+    image: Image,
+    s: Stand,
     shape: Shape,
 ) -> Intent
     requires { ⌜ 4 ≤ length (now memory) ⌝ }
     requires { ⌜ shapes.Fits (length (now memory)) shape ⌝ }
-    requires { ⌜ (length (now ats) ≡ length (now entries)) × (length (now entries) ≤ 4096) ⌝ }
-    requires { ⌜ (item .0 < 4096) × (base < end) ⌝ }
-    ensures { λ i. ⌜ i ≡ ways.intentOf machine (now (memory .entry)) (ways.entryIn (now (entries .entry)) (now (ats .entry)) base (length (now (entries .entry)))) base end (length (now (entries .entry))) (item .0) immediate sp shape ⌝ }
+    requires { ⌜ tables.Near (now table) (image .base .0) ⌝ }
+    requires { ⌜ (0 < image .cells .0) × (image .base .0 + 4 * image .cells .0 < 2 ^ 32) ⌝ }
+    requires { ⌜ s .item .0 < tables.rows (now table) ⌝ }
+    ensures { λ i. ⌜ i ≡ ways.intentOf machine (now (memory .entry)) (tables.entryBelow (now (table .entry)) (image .base .0) (tables.rows (now (table .entry)))) (image .base .0) (image .base .0 + 4 * image .cells .0) (tables.rows (now (table .entry))) (s .item .0) (tables.immediateIn (now (table .entry)) (s .item .0)) (s .sp) shape ⌝ }
 {
+    let base = image.base;
+    let cells = image.cells;
     let checked = check_shape(machine, memory, shape);
     match checked {
         Checked::Bad(f) => {
-            let way = throw_way(machine, memory, entries, ats, base, end, sp, f);
+            let way = throw_way(machine, memory, table, image, s.sp, f);
             Intent::End(Cause::Raised(f), way)
         }
         Checked::Good => {
-            if writes(machine, memory, shape, base, end) {
-                return Intent::Act(Way::Outside);
+            if writes(machine, memory, shape, base.0, address_at(base, cells).0) {
+                return Intent::Act(Way::Outside(Outside::WritesImage));
             }
-            intent_then(
-                machine,
-                memory,
-                entries,
-                ats,
-                base,
-                item,
-                immediate,
-                sp,
-                then_of(shape),
-            )
+            intent_then(machine, memory, table, base, s, then_of(shape))
         }
     }
 }

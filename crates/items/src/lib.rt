@@ -5,9 +5,20 @@ pub mod finding;
 pub mod judging;
 pub mod proposing;
 pub mod running;
+pub mod tables;
+pub mod tabling;
 
+use cell::Address;
+use cell::CellCount;
 use cell::Fault;
 use layout::ItemNumber;
+use list_machine::Outside;
+
+// Where the image of a listing is to stand.
+pub struct Image {
+    pub base: Address,
+    pub cells: CellCount,
+}
 
 // In front of an item: whether it was run on into from an item not in its immediate form, and the stack pointers.
 pub struct Stand {
@@ -21,14 +32,14 @@ pub struct Stand {
 pub enum Carried {
     On(Stand),
     Stopped(Stand, u32),
-    Outside,
+    Outside(Outside),
 }
 
 // Where an item leads: to an item, with whether it is run on into; to a stop; or outside.
 pub enum Way {
     To(ItemNumber, bool),
     Halt(u32),
-    Outside,
+    Outside(Outside),
 }
 
 // What a throw comes from: a fault, or THROW itself.
@@ -47,7 +58,7 @@ pub enum Intent {
 pub enum Ending {
     GoesOn,
     Stopped(u32),
-    Outside,
+    Outside(Outside),
 }
 
 // A run: where it stands, the items carried out, the cycles counted.

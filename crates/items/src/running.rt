@@ -2,31 +2,31 @@
 ghost use mathlib.Core.Path.{_≡_};
 ghost use mathlib.Core.Bool.{_&&_};
 ghost use Prim.Native.Nat.{_<_, _≤_};
-ghost use lib.Dec.{eqb};
-ghost use lib.ListN.{length, getD};
+ghost use lib.ListN.{length};
 ghost use Rattle.cell.specs.Choice.{if};
 ghost use Rattle.cell.specs.Refusals.{Lent};
 ghost use Rattle.layout.specs.Listing.{listed};
 ghost use Rattle.list_machine.specs.Runs as runs;
-ghost use Rattle.items.specs.Arrays as arrays;
 ghost use Rattle.items.specs.Stands as stands;
+ghost use Rattle.items.specs.Tables as tables;
 use crate::Carried;
 use crate::Ending;
+use crate::Image;
 use crate::Ran;
 use crate::Stand;
 use crate::carrying::carry_out;
-use layout::ItemNumber;
+use crate::tables::opens_cell;
+use list_machine::Outside;
 use machine::Machine;
 
-// The cycles that an item counts: three bytes are left exactly behind an item that opens a cell.
-fn cycles_at(lefts: &[u32], s: Stand) -> u64
-    requires { ⌜ (s .item .0 < length (now lefts)) × (length (now lefts) ≤ 4096) ⌝ }
-    ensures { λ r. ⌜ r ≡ if (s .ran && eqb (getD (now (lefts .entry)) (s .item .0) 0) 3) 2 1 ⌝ }
+// The cycles that an item counts.
+fn cycles_at(table: &[u32], s: Stand) -> u64
+    requires { ⌜ (s .item .0 < tables.rows (now table)) × (tables.rows (now table) ≤ 4096) ⌝ }
+    ensures { λ r. ⌜ r ≡ if (s .ran && tables.opensIn (now (table .entry)) (s .item .0)) 2 1 ⌝ }
 {
     let item = s.item;
-    let i = item.0 as usize;
     if s.ran {
-        if lefts[i] == 3 {
+        if opens_cell(table, item) {
             return 2;
         }
     }
@@ -51,13 +51,13 @@ fn count_item(ran: Ran, cycles: u64, c: Carried) -> Ran
             cycles: ran.cycles + cycles,
             ending: Ending::Stopped(x),
         },
-        Carried::Outside => {
+        Carried::Outside(why) => {
             let s = ran.stand;
             Ran {
                 stand: s,
                 items: ran.items,
                 cycles: ran.cycles,
-                ending: Ending::Outside,
+                ending: Ending::Outside(why),
             }
         }
     }
@@ -69,68 +69,57 @@ fn is_over(ending: Ending) -> bool
     match ending {
         Ending::GoesOn => false,
         Ending::Stopped(_) => true,
-        Ending::Outside => true,
+        Ending::Outside(_) => true,
     }
 }
 
-// In front of item 0.
-fn begin_run(sp: u32, rp: u32) -> Ran
-    ensures { λ r. ⌜ r ≡ stands.begun sp rp ⌝ }
+// In front of an item of a listing of n, with nothing done. An item that the listing does not have stands past the end.
+fn begin_run(n: usize, start: Stand) -> Ran
+    requires { ⌜ n ≤ 4096 ⌝ }
+    ensures { λ r. ⌜ r ≡ stands.begun n start ⌝ }
 {
-    let first = Stand {
-        item: ItemNumber(0),
-        ran: false,
-        sp: sp,
-        rp: rp,
-    };
+    let item = start.item;
+    if item.0 < n as u32 {
+        return Ran {
+            stand: start,
+            items: 0,
+            cycles: 0,
+            ending: Ending::GoesOn,
+        };
+    }
     Ran {
-        stand: first,
+        stand: start,
         items: 0,
         cycles: 0,
-        ending: Ending::GoesOn,
+        ending: Ending::Outside(Outside::PastEnd),
     }
 }
 
-// Items from the first on, until the machine stops or as many as are asked for are done.
+// Items from where the machine stands, until it stops or as many as are asked for are done.
 pub fn run_items(
     machine: Machine,
     memory: &mut [u8],
     kinds: &[u8],
     operands: &[u32],
-    entries: &[u8],
-    marks: &[u8],
-    ats: &[u32],
-    eps: &[u32],
-    lefts: &[u32],
-    base: u32,
-    cells: u32,
-    sp: u32,
-    rp: u32,
+    table: &[u32],
+    image: Image,
+    start: Stand,
     items: u32,
 ) -> Ran
     requires { ⌜ Lent (length (now memory)) ⌝ }
-    requires { ⌜ arrays.Settled (now kinds) (now operands) (now entries) (now marks) (now ats) (now eps) (now lefts) base cells ⌝ }
-    ensures { λ r. ⌜ stands.runAs (now (memory .exit)) r ≡ runs.runOf machine base (listed (now (kinds .entry)) (now (operands .entry))) items (runs.beginning (now (memory .entry)) sp rp) ⌝ }
+    requires { ⌜ tables.Settled (now kinds) (now operands) (now table) image ⌝ }
+    ensures { λ r. ⌜ stands.runAs (now (memory .exit)) r ≡ runs.runOf machine (image .base .0) (listed (now (kinds .entry)) (now (operands .entry))) items (runs.resuming (listed (now (kinds .entry)) (now (operands .entry))) (stands.positionOf (now (memory .entry)) start)) ⌝ }
 {
-    let mut ran = begin_run(sp, rp);
+    let mut ran = begin_run(kinds.len(), start);
+    let first = ran.ending;
+    if is_over(first) {
+        return ran;
+    }
     let mut rest = items;
     while 0 < rest {
         let s = ran.stand;
-        let cycles = cycles_at(lefts, s);
-        let c = carry_out(
-            machine,
-            memory,
-            kinds,
-            operands,
-            entries,
-            marks,
-            ats,
-            eps,
-            lefts,
-            base,
-            cells,
-            s,
-        );
+        let cycles = cycles_at(table, s);
+        let c = carry_out(machine, memory, kinds, operands, table, image, s);
         ran = count_item(ran, cycles, c);
         let ending = ran.ending;
         if is_over(ending) {

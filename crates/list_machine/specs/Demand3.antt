@@ -1,12 +1,12 @@
 -- Demand 3 (document 01's own term): a packed rule runs as its listing reads. One claim about whole runs of any length.
 --
 -- Document 01, Listings, clause by clause:
--- "a listing is accepted if the input list below does not turn it back, a base is legal if neither -4104 nor -4110 does": `Legal`.
--- "the packed cells are the image, whole inside MEMORY, in the machine's byte order": `Holds`.
--- "Both begin with the same SP and RP, of any value: it at item 0, the processor after NEXT with EP at the base": `beginning`, `firstRegisters`;
+-- The listing passes the input list, and the base neither -4104 nor -4110: `Legal`.
+-- The image lies whole in memory, in the order of its bytes: `Holds`.
+-- The beginnings, with SP and RP shared: item 0 here, and there the cell at the base just fetched: `beginning`, `firstRegisters`;
 -- nothing is asked of SP, RP or of the other bytes of memory.
--- "Its run is the items it carries out, in turn": `runOf k`, for every k.
--- "An item counts two cycles if ..; any other counts one": the run's `cycles`, and so many cycles of the processor are made: `cyclesOf`.
+-- A run of the list machine: `runOf k`, for every k.
+-- The cycles that its items count: the run's `cycles`, and so many cycles of the processor are made: `cyclesOf`.
 -- The same memory, SP and RP, and stopped exactly if the list machine is, with the same reason: `Agree`. Its `exact` says that the processor had not
 -- stopped before the last of the counted cycles.
 use mathlib.Core.Path.{_≡_}
@@ -35,7 +35,7 @@ pub record Holds (machine : Machine) (base : ℕ) (l : Listing) (m : List ℕ) :
   pub inside : base + 4 * imageCells l ≤ length m
   pub cells : (j : ℕ) → j < imageCells l → cellAt (machine .order) m (base + 4 * j) ≡ getD (image base l) j 0
 
--- "after NEXT with EP at the base"
+-- the registers once NEXT has fetched the cell at the base
 abbrev pub firstRegisters : Machine → ℕ → List ℕ → ℕ → ℕ → Registers
 firstRegisters machine base m sp rp = record { ep = base + 4; a = cellAt (machine .order) m base; sp = sp; rp = rp }
 

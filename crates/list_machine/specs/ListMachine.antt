@@ -1,4 +1,4 @@
--- The list machine (document 01's own term): one item. Document 01, Listings: it "has the same memory, SP and RP and fetches from the listing". Its
+-- The list machine (document 01's own term): one item, over the memory and the stack pointers of the processor. Document 01, Listings. Its
 -- instructions are the processor's own: `plainOf` and `takingOf`, committed and thrown by the processor's definitions.
 use mathlib.Core.Bool.{Bool, true, false, not, _&&_}
 use mathlib.Core.List.{List, [], _∷_}
@@ -36,8 +36,8 @@ use Rattle.layout.specs.declared.Form.the-variants.{Alone, Immediate, InCell}
 use Rattle.list_machine.specs.declared.Outside.{Outside}
 use Rattle.list_machine.specs.declared.Outside.the-variants.{WritesImage, NoEntry, NoHandler, PastEnd}
 
--- where the machine stands: in front of an item, with memory, SP and RP; ran says that the item was run on into "(by no taken branch, call, return or
--- throw) from an item not in its immediate form"
+-- where the machine stands: in front of an item, with memory, SP and RP; ran says that the item was run on into, with no
+-- transfer of any kind, from an item that is not immediate
 pub record Position : Type 0 where
   pub item : ℕ
   pub ran : Bool
@@ -46,7 +46,7 @@ pub record Position : Type 0 where
   pub rp : ℕ
 
 -- what an item comes to: carried out, with the machine in front of the next; carried out, and the machine stopped by a reason; or not carried
--- out, since the machine "stops outside, in front of" it, and why
+-- out, since the machine stands outside, in front of it, and why
 pub data Carried : Type 0 where
   on : Position → Carried
   stopped : ℕ → Position → Carried
@@ -57,7 +57,7 @@ isImmediate Alone = false
 isImmediate Immediate = true
 isImmediate InCell = false
 
--- the stores of a throw: "A throw's push of its code counts as a write of the item". A bad place is -258, and nothing is written
+-- the stores of a throw: its push is judged as the writes of an item are. A bad place is -258, and nothing is written
 abbrev pub pushOf : ℕ → Fault → Checked → List Store
 pushOf a f (Bad g) = []
 pushOf a f Good = cellStore Push a (faultCode f) ∷ []
@@ -97,7 +97,7 @@ module _ (machine : Machine) (base : ℕ) (l : Listing) where
   operandAt i loop = addressOf base l (l .operand i)
   operandAt i plusLoop = addressOf base l (l .operand i)
 
-  -- "Where the processor would use EP it uses the item's EP value; a call leaves the address of the following cell". NEXT is no kind
+  -- EP stands for the item's EP value, and a call leaves the address behind it. NEXT is no kind
   abbrev pub effectAs : Class → Position → Effect
   effectAs next p = raise Illegal
   effectAs plain p = plainOf machine (decodeOf (l .kind (p .item))) (p .memory) (epValue base l (p .item)) (p .sp) (p .rp)
@@ -107,11 +107,11 @@ module _ (machine : Machine) (base : ℕ) (l : Listing) where
   abbrev pub effectAt : Position → Effect
   effectAt p = effectAs (classOf (decodeOf (l .kind (p .item)))) p
 
-  -- "an item that would write a byte of the image"
+  -- some store meets the image
   abbrev pub writesImage : List Store → Bool
   writesImage stores = touches base (base + 4 * imageCells l) stores
 
-  -- "An address leads to the entry placed there"
+  -- on to the entry whose cell is at an address
   abbrev pub transferred : Outside → ℕ → Position → Carried
   transferred why a p = enteredAt why (entryAt base l a) p
 
@@ -119,7 +119,7 @@ module _ (machine : Machine) (base : ℕ) (l : Listing) where
   abbrev pub registersAt : Position → Registers
   registersAt p = record { ep = epValue base l (p .item); a = 0; sp = p .sp; rp = p .rp }
 
-  -- a throw as the processor makes it: stopped with -258 or -259, or on to 'THROW, "a valid 'THROW that is no entry" being outside
+  -- a throw as the processor makes it: stopped with -258 or -259, or on to 'THROW, and outside where no entry is there
   abbrev pub handledBy : Position → Turned → Ended → Carried
   handledBy p t (Stopped x) = stopped x (thrownTo p t)
   handledBy p t Went = transferred NoHandler (cellAt (machine .order) (t .memory) handlerCell) (thrownTo p t)
@@ -135,14 +135,14 @@ module _ (machine : Machine) (base : ℕ) (l : Listing) where
       (outside WritesImage)
       (handled p (throwOf machine (p .memory) (registersAt p) f))
 
-  -- "run on past the end": outside
+  -- behind the last item: outside
   abbrev pub ranOn : Position → Carried
   ranOn p =
       if (ltb (suc (p .item)) (l .count))
       (on (movedTo (suc (p .item)) (not (isImmediate (formAt (layout l) (p .item)))) p))
       (outside PastEnd)
 
-  -- what follows the stores, p the position after them. "transfer to no entry": outside
+  -- what follows the stores, p the position after them
   abbrev pub followed : Control → Position → Carried
   followed goOn p = ranOn p
   followed (jump a) p = transferred NoEntry a p
@@ -162,6 +162,6 @@ module _ (machine : Machine) (base : ℕ) (l : Listing) where
   unfoldable pub carryOut : Position → Carried
   carryOut p = carriedBy p (effectAt p)
 
-  -- "An item counts two cycles if it opens a cell and was run on into .. from an item not in its immediate form; any other counts one"
+  -- the cycles that an item counts: a second one for the NEXT before it, where it opens a cell and was run on into
   abbrev pub cyclesAt : Position → ℕ
   cyclesAt p = if (p .ran && opens (layout l) (p .item)) 2 1

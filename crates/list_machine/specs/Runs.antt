@@ -1,5 +1,5 @@
--- Runs of the list machine. Document 01, Listings: "Its run is the items it carries out, in turn: one that throws and one that stops it with a reason
--- are among them, one it stops in front of is not."
+-- Runs of the list machine. Document 01, Listings: an item that throws or stops the machine by a reason is part of its run, one in front of which it
+-- stands outside is not.
 use mathlib.Core.Bool.{Bool, true, false}
 use mathlib.Core.List.{List}
 use Prim.Native.Nat.{ℕ, zero, suc, _+_}
@@ -57,6 +57,6 @@ abbrev pub resuming : Listing → Position → Run
 resuming l p =
     record { position = p; items = 0; cycles = 0; course = if (ltb (p .item) (l .count)) goesOn (stoodOutside PastEnd) }
 
--- "it at item 0": with the memory, SP and RP that it is given
+-- a run from item 0 on, with the memory, SP and RP that it is given
 abbrev pub beginning : Listing → List ℕ → ℕ → ℕ → Run
 beginning l m sp rp = resuming l (record { item = 0; ran = false; memory = m; sp = sp; rp = rp })

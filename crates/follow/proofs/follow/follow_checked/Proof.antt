@@ -1,36 +1,33 @@
--- `follow_checked` meets its contract: the working arrays are what the run asks for.
+-- `follow_checked` meets its contract: turned back by the image, or the run over the table.
+use mathlib.Core.Path.{refl, sym, _∙_}
+use denote.Ref.{now}
+use Rattle.layout.specs.Listing.{listed}
+use Rattle.packer.proofs.Judging.{cells-most}
+use Rattle.follow.proofs.Following.{image-settled, image-refused, image-ran}
 use borrow.Author.Needs.{needs}
 use Rattle.follow.proofs.follow.follow_checked.Statement.{statement}
 use Rattle.follow.proofs.follow.follow_checked.Tie as tie
-use mathlib.Core.Path.{_∙_, ap}
-use mathlib.Core.Path.{sym}
-use Rattle.cell.specs.declared.CellCount.{CellCount}
-use Rattle.layout.specs.Packing.{judgedPlace}
 
-prepare-requires : tie.Need-prepare-requires
-prepare-requires c κs = search needs
+settle-table-requires : tie.Need-settle-table-requires
+settle-table-requires c κs = search needs
+
+judge-image-requires : tie.Need-judge-image-requires
+judge-image-requires c κs = rw (c .before .before .settle-table .ensures .0) (cells-most _ _ (c .before .before .before .before .before .before .before .before .pre .1 .0))
+
+enum-known-r : tie.Need-enum-known-r
+enum-known-r c = search needs
+
+enum-told : tie.Need-enum-told
+enum-told c = search needs
 
 run-items-requires : tie.Need-run-items-requires
-run-items-requires c κs = let pre = c .before .before .before .before .before .before .before .before .before .before .before .before .before .before .before .before .before .before .before .before .before .before .before .before .before .before .before .before .before .before .pre in let prepare = c .before .before .before .before .before .before .before .before .before .before .before .before .before .before .before .before .prepare in let args = c .before .before .before .before .before .before .before .before .before .before .before .before .before .before .before .before .before .before .before .before .before .before .before .before .before .before .before .before .before .before .args in
-    let size = ap (λ (x : CellCount). x .0) (prepare .ensures .0) in (
-      pre .0,
-      record {
-        checked = pre .1 .0;
-        entries-length = prepare .kept .1 .1 .0 ∙ pre .1 .1 .1 .entries-length;
-        marks-length = prepare .kept .1 .1 .1 .0 ∙ pre .1 .1 .1 .marks-length;
-        ats-length = prepare .kept .1 .1 .1 .1 .0 ∙ pre .1 .1 .1 .ats-length;
-        eps-length = prepare .kept .1 .1 .1 .1 .1 .0 ∙ pre .1 .1 .1 .eps-length;
-        lefts-length = prepare .kept .1 .1 .1 .1 .1 .1 .0 ∙ pre .1 .1 .1 .lefts-length;
-        entered = prepare .ensures .1 .flags;
-        marked = prepare .ensures .1 .settled;
-        laid = prepare .ensures .1 .laid;
-        size = size;
-        place = ap (judgedPlace (args .base .0)) size ∙ pre .1 .1 .0;
-      },
-    )
+run-items-requires c κs = let args = c .before .before .before .before .before .before .before .before .before .before .before .before .before .args in let pre = c .before .before .before .before .before .before .before .before .before .before .before .before .before .pre in (pre .0, image-settled (args .kinds .now) (args .operands .now) _ (args .base .0) (c .before .before .before .before .before .before .before .settle-table .result) (args .room) _ (pre .1 .0) (c .before .before .before .before .before .before .before .settle-table .kept .1 .1 .0 ∙ pre .1 .1) (c .before .before .before .before .before .before .before .settle-table .ensures .1) (c .before .before .before .before .before .before .before .settle-table .ensures .0) refl refl (sym (c .before .before .before .before .judge-image .ensures) ∙ c .before .before .enum-told .given .1))
 
 same-length : tie.Need-same-length
 same-length c = search needs
+
+returns : tie.Need-returns
+returns c = let args = c .before .before .before .before .before .before .before .before .before .before .before .before .args in image-refused (args .machine) (args .base .0) (listed (args .kinds .now) (args .operands .now)) (now (args .memory)) (args .start) (args .items) (c .before .before .before .before .before .before .settle-table .result) (c .before .before .before .before .before .before .settle-table .ensures .0) (args .room) _ (sym (c .before .before .before .judge-image .ensures) ∙ c .before .r .given .1)
 
 same-length-2 : tie.Need-same-length-2
 same-length-2 c = search needs
@@ -38,28 +35,20 @@ same-length-2 c = search needs
 same-length-3 : tie.Need-same-length-3
 same-length-3 c = search needs
 
-same-length-4 : tie.Need-same-length-4
-same-length-4 c = search needs
-
-same-length-5 : tie.Need-same-length-5
-same-length-5 c = search needs
-
-same-length-6 : tie.Need-same-length-6
-same-length-6 c = search needs
-
-returns : tie.Need-returns
-returns c = search needs
+returns-2 : tie.Need-returns-2
+returns-2 c = let args = c .before .before .before .before .before .before .before .before .before .before .before .before .before .before .before .before .args in image-ran (args .machine) (args .base .0) (listed (args .kinds .now) (args .operands .now)) (now (args .memory)) (args .start) (args .items) (c .before .before .before .before .before .before .before .before .before .before .settle-table .result) (c .before .before .before .before .before .before .before .before .before .before .settle-table .ensures .0) (args .room) (sym (c .before .before .before .before .before .before .before .judge-image .ensures) ∙ c .before .before .before .before .before .enum-told .given .1) _ (c .before .before .run-items .result) (c .before .before .run-items .ensures)
 
 pub follow-checked-spec : {M : Type 1} → statement M
 follow-checked-spec =
     tie.close
     (tie.spec
-    prepare-requires
+    settle-table-requires
+    judge-image-requires
+    enum-known-r
+    enum-told
     run-items-requires
     same-length
+    returns
     same-length-2
     same-length-3
-    same-length-4
-    same-length-5
-    same-length-6
-    returns)
+    returns-2)

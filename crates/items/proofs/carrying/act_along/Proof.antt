@@ -21,35 +21,23 @@ commit-shape-requires-2 c κs = search needs
 arrive-requires-2 : tie.Need-arrive-requires-2
 arrive-requires-2 c κs = search needs
 
-enum-told : tie.Need-enum-told
-enum-told c = search needs
+enum-known-way-3 : tie.Need-enum-known-way-3
+enum-known-way-3 c = search needs
 
 same-length : tie.Need-same-length
 same-length c = search needs
 
 returns : tie.Need-returns
-returns c =
-    rw (
-      c .before .before .before .before .before .before .before .way .given .1,
-      ← c .before .before .before .before
-          .commit-shape .ensures,
-      c .arrive .ensures,
-    )
+returns c = rw (c .before .before .before .before .before .before .before .way .given .1, ← c .before .before .before .before .commit-shape .ensures, c .arrive .ensures)
 
 same-length-2 : tie.Need-same-length-2
 same-length-2 c = search needs
 
 returns-2 : tie.Need-returns-2
-returns-2 c =
-    rw (
-      c .before .before .before .before .before .before .before .before .way2 .given .1,
-      ← c .before .before .before .before
-          .before .commit-shape2 .ensures,
-      c .arrive2 .ensures,
-    )
+returns-2 c = rw (c .before .before .before .before .before .before .before .before .way2 .given .1, ← c .before .before .before .before .before .commit-shape2 .ensures, c .arrive2 .ensures)
 
 returns-3 : tie.Need-returns-3
-returns-3 c = rw (c .enum-told .given .1)
+returns-3 c = rw (c .before .way3 .given .1)
 
 pub act-along-spec : {M : Type 1} → statement M
 act-along-spec =
@@ -61,7 +49,7 @@ act-along-spec =
     enum-known-way-2
     commit-shape-requires-2
     arrive-requires-2
-    enum-told
+    enum-known-way-3
     same-length
     returns
     same-length-2

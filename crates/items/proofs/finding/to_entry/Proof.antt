@@ -13,7 +13,7 @@ returns : tie.Need-returns
 returns c = rw (c .before .e .given .1)
 
 returns-2 : tie.Need-returns-2
-returns-2 c = search needs
+returns-2 c = rw (c .enum-told .given .1)
 
 pub to-entry-spec : {M : Type 1} → statement M
 to-entry-spec = tie.close (tie.spec enum-known-e enum-told returns returns-2)

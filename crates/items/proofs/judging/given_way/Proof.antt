@@ -1,9 +1,9 @@
 -- `given_way` meets its contract.
+use mathlib.Core.Path.{_∙_}
+use borrow.Author.Tests.{eq-eqb, ne-eqb}
 use borrow.Author.Needs.{needs}
 use Rattle.items.proofs.judging.given_way.Statement.{statement}
 use Rattle.items.proofs.judging.given_way.Tie as tie
-use mathlib.Core.Path.{_∙_}
-use borrow.Author.Tests.{eq-eqb, ne-eqb}
 
 load-requires : tie.Need-load-requires
 load-requires c κs = search needs

@@ -1,9 +1,10 @@
 -- `handler_way` meets its contract.
+use mathlib.Core.Path.{sym, _∙_, ap}
+use Rattle.list_machine.specs.declared.Outside.the-variants.{NoHandler}
+use Rattle.items.specs.Ways as ways
 use borrow.Author.Needs.{needs}
 use Rattle.items.proofs.judging.handler_way.Statement.{statement}
 use Rattle.items.proofs.judging.handler_way.Tie as tie
-use mathlib.Core.Path.{sym, _∙_, ap}
-use Rattle.items.specs.Ways as ways
 
 check-place-requires : tie.Need-check-place-requires
 check-place-requires c κs = search needs
@@ -24,9 +25,7 @@ to-entry-requires : tie.Need-to-entry-requires
 to-entry-requires c κs = search needs
 
 returns-2 : tie.Need-returns-2
-returns-2 c =
-    simp (sym (c .before .before .before .before .check-place .ensures) ∙ c .before .before .enum-told .given .1) (c .to-entry
-    .ensures ∙ ap ways.toEntry (c .before .entry-at .ensures))
+returns-2 c = simp (sym (c .before .before .before .before .check-place .ensures) ∙ c .before .before .enum-told .given .1) (c .to-entry .ensures ∙ ap (ways.toEntry NoHandler) (c .before .entry-at .ensures))
 
 pub handler-way-spec : {M : Type 1} → statement M
 handler-way-spec =

@@ -1,16 +1,41 @@
 -- `shape_of` meets its contract: by the class of the kind.
+use mathlib.Core.Path.{sym, _∙_, ap}
+use Prim.Native.Nat.{_+_, _*_}
+use native.Mathlib.Omega.{arith}
+use denote.Ref.{now}
+use lib.ListN.{getD}
+use Rattle.cell.specs.declared.Address.{Address}
+use Rattle.cell.specs.declared.CellCount.{CellCount}
+use Rattle.machine.specs.declared.Registers.{Registers}
+use Rattle.layout.specs.Listing.{listed}
+use Rattle.layout.specs.Packing.{distance}
+use Rattle.layout.proofs.Listing.{is-kind}
+use Rattle.items.specs.Stands.{positionOf}
+use Rattle.items.specs.Tables.{placeIn, behindIn}
+use Rattle.items.proofs.KindLaws.{plain-some, plain-effect, literal-effect, branch-effect}
+use Rattle.items.proofs.TableLaws.{in-rows, next-near, behind-near, behind-is, target-in}
+use Rattle.items.proofs.CarryLaws.{regs-is, branch-reaches}
 use borrow.Author.Needs.{needs}
 use Rattle.items.proofs.proposing.shape_of.Statement.{statement}
 use Rattle.items.proofs.proposing.shape_of.Tie as tie
-use mathlib.Core.Path.{sym, _∙_, ap}
-use denote.Ref.{now}
-use lib.ListN.{getD}
-use Rattle.items.proofs.KindLaws.{plain-some, literal-effect, branch-effect, lands}
-use mathlib.Core.Path.{refl}
-use Prim.Native.Nat.{ℕ, _+_, _*_, _%_, _^_}
-use Rattle.layout.specs.Packing.{distance}
-use Rattle.machine.specs.declared.Registers.{Registers}
-use Rattle.items.proofs.KindLaws.{plain-effect}
+
+cast-i : tie.Need-cast-i
+cast-i c = search needs
+
+shared-slice-read-kind : tie.Need-shared-slice-read-kind
+shared-slice-read-kind c = search needs
+
+cast-opcode : tie.Need-cast-opcode
+cast-opcode c = omega (arith, c .shared-slice-known5 .given (c .before .before .before .before .before .before .before .args .s .item .0))
+
+mul-x : tie.Need-mul-x
+mul-x c = search needs
+
+shared-slice-read-x : tie.Need-shared-slice-read-x
+shared-slice-read-x c = search needs
+
+behind-of-requires : tie.Need-behind-of-requires
+behind-of-requires c κs = let args = c .before .before .before .before .before .before .before .before .before .args in let pre = c .before .before .before .before .before .before .before .before .before .pre in in-rows (args .kinds .now) (args .operands .now) (args .table .now) (args .image) (pre .1 .0) (args .s .item .0) (pre .1 .1)
 
 class-of-requires : tie.Need-class-of-requires
 class-of-requires c κs = search needs
@@ -18,25 +43,20 @@ class-of-requires c κs = search needs
 enum-told : tie.Need-enum-told
 enum-told c = search needs
 
+registers-at-requires : tie.Need-registers-at-requires
+registers-at-requires c κs = let args = c .before .before .before .before .before .before .before .before .before .before .before .before .before .args in let pre = c .before .before .before .before .before .before .before .before .before .before .before .before .before .pre in (in-rows (args .kinds .now) (args .operands .now) (args .table .now) (args .image) (pre .1 .0) (args .s .item .0) (pre .1 .1), next-near (args .kinds .now) (args .operands .now) (args .table .now) (args .image) (pre .1 .0) (args .s .item .0) (pre .1 .1))
+
 propose-plain-requires : tie.Need-propose-plain-requires
-propose-plain-requires c κs =
-    let pre-here = c .before .before .before .before .before .pre in (
-      pre-here .0 .0,
-      (
-        pre-here .0 .1,
-        plain-some (c .before .before .before .before .before .args .kind) (sym (c .before
-            .before .class-of .ensures) ∙ c .enum-told .given .1),
-      ),
-    )
+propose-plain-requires c κs = let args = c .before .before .before .before .before .before .before .before .before .before .before .before .before .before .args in let pre = c .before .before .before .before .before .before .before .before .before .before .before .before .before .before .pre in (pre .0 .whole, (pre .0 .most, plain-some (getD (args .kinds .now) (args .s .item .0) 0) (sym (c .before .before .before .class-of .ensures) ∙ c .before .enum-told .given .1)))
 
 enum-told-2 : tie.Need-enum-told-2
 enum-told-2 c = search needs
 
-mul-t12 : tie.Need-mul-t12
-mul-t12 c = search needs
+address-at-requires : tie.Need-address-at-requires
+address-at-requires c κs = let args = c .before .before .before .before .before .before .before .before .before .before .before .before .before .args in let pre = c .before .before .before .before .before .before .before .before .before .before .before .before .before .pre in rw (c .before .before .before .behind-of .ensures) (behind-near (args .kinds .now) (args .operands .now) (args .table .now) (args .image) (pre .1 .0) (args .s .item .0) (pre .1 .1))
 
-add-t13 : tie.Need-add-t13
-add-t13 c = search needs
+registers-for-requires : tie.Need-registers-for-requires
+registers-for-requires c κs = search needs
 
 propose-taking-requires : tie.Need-propose-taking-requires
 propose-taking-requires c κs = search needs
@@ -44,19 +64,17 @@ propose-taking-requires c κs = search needs
 enum-told-3 : tie.Need-enum-told-3
 enum-told-3 c = search needs
 
-mul-t16 : tie.Need-mul-t16
-mul-t16 c = search needs
-
-add-t17 : tie.Need-add-t17
-add-t17 c = search needs
-
 place-of-requires : tie.Need-place-of-requires
-place-of-requires c κs =
-    c .before .before .before .before .before .pre .1 .1 .0 (sym (c .before .before .class-of .ensures) ∙ c .enum-told3 .given
-    .1) .0
+place-of-requires c κs = let args = c .before .before .before .before .before .before .before .before .before .before .before .before .before .args in let pre = c .before .before .before .before .before .before .before .before .before .before .before .before .before .pre in in-rows (args .kinds .now) (args .operands .now) (args .table .now) (args .image) (pre .1 .0) (getD (args .operands .now) (args .s .item .0) 0) (target-in (args .kinds .now) (args .operands .now) (args .table .now) (args .image) (pre .1 .0) (args .s .item .0) (pre .1 .1) (sym (c .before .before .class-of .ensures) ∙ c .enum-told3 .given .1))
 
 distance-of-requires : tie.Need-distance-of-requires
 distance-of-requires c κs = search needs
+
+address-at-requires-2 : tie.Need-address-at-requires-2
+address-at-requires-2 c κs = let args = c .before .before .before .before .before .before .before .before .before .before .before .before .before .before .before .args in let pre = c .before .before .before .before .before .before .before .before .before .before .before .before .before .before .before .pre in rw (c .before .before .before .before .before .behind-of .ensures) (behind-near (args .kinds .now) (args .operands .now) (args .table .now) (args .image) (pre .1 .0) (args .s .item .0) (pre .1 .1))
+
+registers-for-requires-2 : tie.Need-registers-for-requires-2
+registers-for-requires-2 c κs = search needs
 
 propose-taking-requires-2 : tie.Need-propose-taking-requires-2
 propose-taking-requires-2 c κs = search needs
@@ -64,73 +82,50 @@ propose-taking-requires-2 c κs = search needs
 enum-told-4 : tie.Need-enum-told-4
 enum-told-4 c = search needs
 
+registers-at-requires-2 : tie.Need-registers-at-requires-2
+registers-at-requires-2 c κs = let args = c .before .before .before .before .before .before .before .before .before .before .before .before .before .args in let pre = c .before .before .before .before .before .before .before .before .before .before .before .before .before .pre in (in-rows (args .kinds .now) (args .operands .now) (args .table .now) (args .image) (pre .1 .0) (args .s .item .0) (pre .1 .1), next-near (args .kinds .now) (args .operands .now) (args .table .now) (args .image) (pre .1 .0) (args .s .item .0) (pre .1 .1))
+
 propose-plain-requires-2 : tie.Need-propose-plain-requires-2
 propose-plain-requires-2 c κs = search needs
 
 returns : tie.Need-returns
-returns c =
-    let args = c .before .before .before .before .before .before .args in
-    record {
-      effect = c .propose-plain .ensures .effect ∙ plain-effect (args .machine) (now (args .memory)) (args .r) (args
-          .kind) (args .x) _ _ (sym (c .before .before .before .class-of .ensures) ∙ c .before .enum-told .given .1);
-      fits = c
-          .propose-plain .ensures .fits;
-    }
+returns c = let args = c .before .before .before .before .before .before .before .before .before .before .before .before .before .before .before .args in let pre = c .before .before .before .before .before .before .before .before .before .before .before .before .before .before .before .pre in record { effect = c .propose-plain .ensures .effect ∙ plain-effect (args .machine) (args .image .base .0) (listed (args .kinds .now) (args .operands .now)) (positionOf (now (args .memory)) (args .s)) (c .before .registers-at .result) (c .before .registers-at .ensures ∙ regs-is (args .kinds .now) (args .operands .now) (args .table .now) (args .image) (pre .1 .0) (args .machine) (now (args .memory)) (args .s) (pre .1 .1)) (sym (c .before .before .before .before .class-of .ensures) ∙ c .before .before .enum-told .given .1); fits = c .propose-plain .ensures .fits }
 
 returns-2 : tie.Need-returns-2
-returns-2 c =
-    let args = c .before .before .before .before .before .before .args in
-    let s : Registers = record { ep = args .base + 4 * args .next; a = args .x; sp = args .r .sp; rp = args .r .rp } in record {
-      effect = c .propose-taking .ensures .effect ∙ literal-effect (args .machine) (now (args .memory)) (args .r) s (args .x)
-          _ (args .base + 4 * args .next) refl refl refl (args .kind) (sym (c .before .before .before .class-of .ensures) ∙ c
-          .before .enum-told2 .given .1) refl;
-      fits = c .propose-taking .ensures .fits;
-    }
+returns-2 c = let args = c .before .before .before .before .before .before .before .before .before .before .before .before .before .before .before .before .args in let pre = c .before .before .before .before .before .before .before .before .before .before .before .before .before .before .before .before .pre in record { effect = c .propose-taking .ensures .effect ∙ literal-effect (args .machine) (args .image .base .0) (listed (args .kinds .now) (args .operands .now)) (positionOf (now (args .memory)) (args .s)) (c .before .registers-for .result) (ap (λ (r : Registers). r .sp) (c .before .registers-for .ensures)) (ap (λ (r : Registers). r .rp) (c .before .registers-for .ensures)) (ap (λ (r : Registers). r .ep) (c .before .registers-for .ensures) ∙ ap (λ (x : Address). x .0) (c .before .before .address-at .ensures) ∙ ap (λ (x : CellCount). args .image .base .0 + 4 * x .0) (c .before .before .before .before .before .before .behind-of .ensures) ∙ behind-is (args .kinds .now) (args .operands .now) (args .table .now) (args .image) (pre .1 .0) (args .s .item .0) (pre .1 .1)) (getD (args .kinds .now) (args .s .item .0) 0) (sym (c .before .before .before .before .before .class-of .ensures) ∙ c .before .before .before .enum-told2 .given .1) (ap (λ (r : Registers). r .a) (c .before .registers-for .ensures)); fits = c .propose-taking .ensures .fits }
 
 returns-3 : tie.Need-returns-3
-returns-3 c =
-    let args = c .before .before .before .before .before .before .before .before .args in
-    let pre-here = c .before .before .before .before .before .before .before .before .pre in
-    let s : Registers = record {
-      ep = args .base + 4 * args .next;
-      a = c .before .distance-of .result;
-      sp = args .r .sp;
-      rp =
-          args .r .rp;
-    } in let q = sym (c .before .before .before .before .before .class-of .ensures) ∙ c .before .before .before
-    .enum-told3 .given .1 in record {
-      effect = c .propose-taking2 .ensures .effect ∙ branch-effect (args .machine) (now (args
-          .memory)) (args .r) s (args .x) (args .base + 4 * getD (now (args .ats)) (args .x) 0) (args .base + 4 * args .next) refl
-          refl refl (args .kind) q (ap (λ (a : ℕ). (args .base + 4 * args .next + 4 * a) % 2 ^ 32) (c .before .distance-of .ensures
-          ∙ ap (distance (args .next)) (c .before .before .place-of .ensures)) ∙ lands (args .base) (args .next) (getD (now (args
-          .ats)) (args .x) 0) (pre-here .1 .1 .1 .0) (pre-here .1 .1 .1 .1) (pre-here .1 .1 .0 q .1));
-      fits = c .propose-taking2
-          .ensures .fits;
-    }
+returns-3 c = let args = c .before .before .before .before .before .before .before .before .before .before .before .before .before .before .before .before .before .before .args in let pre = c .before .before .before .before .before .before .before .before .before .before .before .before .before .before .before .before .before .before .pre in record { effect = c .propose-taking2 .ensures .effect ∙ branch-effect (args .machine) (args .image .base .0) (listed (args .kinds .now) (args .operands .now)) (positionOf (now (args .memory)) (args .s)) (c .before .registers-for2 .result) (ap (λ (r : Registers). r .sp) (c .before .registers-for2 .ensures)) (ap (λ (r : Registers). r .rp) (c .before .registers-for2 .ensures)) (ap (λ (r : Registers). r .ep) (c .before .registers-for2 .ensures) ∙ ap (λ (x : Address). x .0) (c .before .before .address-at2 .ensures) ∙ ap (λ (x : CellCount). args .image .base .0 + 4 * x .0) (c .before .before .before .before .before .before .before .before .behind-of .ensures) ∙ behind-is (args .kinds .now) (args .operands .now) (args .table .now) (args .image) (pre .1 .0) (args .s .item .0) (pre .1 .1)) (getD (args .kinds .now) (args .s .item .0) 0) (sym (c .before .before .before .before .before .before .before .class-of .ensures) ∙ c .before .before .before .before .before .enum-told3 .given .1) (branch-reaches (args .kinds .now) (args .operands .now) (args .table .now) (args .image) (pre .1 .0) (args .machine) (now (args .memory)) (args .s) (pre .1 .1) (sym (c .before .before .before .before .before .before .before .class-of .ensures) ∙ c .before .before .before .before .before .enum-told3 .given .1) (c .before .registers-for2 .result .ep) (c .before .registers-for2 .result .a) (ap (λ (r : Registers). r .ep) (c .before .registers-for2 .ensures) ∙ ap (λ (x : Address). x .0) (c .before .before .address-at2 .ensures) ∙ ap (λ (x : CellCount). args .image .base .0 + 4 * x .0) (c .before .before .before .before .before .before .before .before .behind-of .ensures)) (ap (λ (r : Registers). r .a) (c .before .registers-for2 .ensures) ∙ c .before .before .before .distance-of .ensures ∙ rw (c .before .before .before .before .before .before .before .before .behind-of .ensures, c .before .before .before .before .place-of .ensures))); fits = c .propose-taking2 .ensures .fits }
 
 returns-4 : tie.Need-returns-4
-returns-4 c =
-    absurd (c .before .before .before .before .before .before .pre .1 .0 (sym (c .before .before .before .class-of .ensures) ∙
-    c .before .enum-told4 .given .1))
+returns-4 c = let args = c .before .before .before .before .before .before .before .before .before .before .before .before .before .before .before .args in let pre = c .before .before .before .before .before .before .before .before .before .before .before .before .before .before .before .pre in absurd (is-kind (listed (args .kinds .now) (args .operands .now)) (pre .1 .0 .checked .input) (args .s .item .0) (pre .1 .1) (sym (c .before .before .before .before .class-of .ensures) ∙ c .before .before .enum-told4 .given .1))
 
 pub shape-of-spec : {M : Type 1} → statement M
 shape-of-spec =
     tie.close
     (tie.spec
+    cast-i
+    shared-slice-read-kind
+    cast-opcode
+    mul-x
+    shared-slice-read-x
+    behind-of-requires
     class-of-requires
     enum-told
+    registers-at-requires
     propose-plain-requires
     enum-told-2
-    mul-t12
-    add-t13
+    address-at-requires
+    registers-for-requires
     propose-taking-requires
     enum-told-3
-    mul-t16
-    add-t17
     place-of-requires
     distance-of-requires
+    address-at-requires-2
+    registers-for-requires-2
     propose-taking-requires-2
     enum-told-4
+    registers-at-requires-2
     propose-plain-requires-2
     returns
     returns-2
