@@ -7,23 +7,11 @@ use native.Mathlib.Decide.{decLt}
 use native.Mathlib.Omega.{arith}
 use borrow.Author.Tests.{lt-ltb, le-ltb}
 use lib.Dec.{ltb}
-use lib.ListN.{length}
 use Rattle.cell.specs.Memory.{cellAt}
-use Rattle.cell.specs.declared.Checked.{Checked}
-use Rattle.cell.specs.declared.Checked.the-variants.{Good, Bad}
 use Rattle.machine.specs.Effects.{Store, rollStores, rolled}
-use Rattle.machine.specs.Commits.{firstBad, placesOf, storedOf, stepped, commitOf, touches}
+use Rattle.machine.specs.Commits.{firstBad, placesOf, touches}
 use Rattle.machine.specs.declared.Machine.{Machine}
-use Rattle.machine.specs.declared.Registers.{Registers}
-use Rattle.machine.specs.declared.Outcome.the-variants.{Went}
-use Rattle.storage.proofs.RollingLaws.{rolled-places}
-use Rattle.shapes.specs.Shapes.{Fits, shapeEffect}
-use Rattle.shapes.specs.declared.Rolling.{Rolling}
-use Rattle.shapes.specs.declared.Shape.the-variants.{Roll}
-
-pub first-good : (c : Checked) → firstBad c Good ≡ c
-first-good Good = refl
-first-good (Bad f) = refl
+use Rattle.machine.proofs.CommitLaws.{first-good}
 
 -- the test of one range of bytes against another
 pub test-true : (a w lo hi : ℕ) → a < hi → lo < a + w → (ltb a hi && ltb lo (a + w)) ≡ true
@@ -90,11 +78,3 @@ pub touches-more : (lo hi : ℕ) (s : Store) (ss : List Store)
     → (touches lo hi (s ∷ []) || touches lo hi ss) ≡ touches lo hi (s ∷ ss)
 unfolding touches
 touches-more lo hi s ss = rw or-false
-
--- ROLL that fits is carried out
-pub roll-committed : (machine : Machine) (m : List ℕ) (r : Registers) (e : Rolling) → Fits (length m) (Roll e)
-    → commitOf machine m r (shapeEffect machine m (Roll e))
-    ≡ stepped (storedOf machine m (rolled (machine .order) m (e .top) (e .depth)))
-    (record { registers = record { ep = r .ep; a = r .a; sp = e .sp; rp = e .rp }; outcome = Went })
-unfolding commitOf
-roll-committed machine m r e f = rw (rolled-places machine (length m) (machine .order) m (e .top) (e .depth) (f .0) (omega (arith, f .1)))

@@ -3,16 +3,15 @@
 use mathlib.Core.Path.{_≡_}
 use mathlib.Core.List.{List, [], _∷_}
 use Prim.{Unit}
-use Prim.Native.Nat.{ℕ, _+_, _*_, _%_, _≤_}
+use Prim.Native.Nat.{ℕ}
 use lib.Dec.{eqb}
 use lib.ListN.{length}
 use Rattle.cell.specs.Choice.{if}
 use Rattle.cell.specs.declared.Checked.{Checked}
-use Rattle.machine.specs.Effects.{Store, Effect, effectOf, storeOf, byteStores, rolled}
+use Rattle.machine.specs.Effects.{Store, Effect, effectOf, storeOf, byteStores, rolled, Reached}
 use Rattle.machine.specs.Commits.{firstBad, faultOf, placesOf}
 use Rattle.machine.specs.declared.Machine.{Machine}
 use Rattle.machine.specs.declared.Then.{Then}
-use Rattle.machine.specs.declared.Then.the-variants.{GoOn}
 use Rattle.instruction.specs.Taking.{Taking, branch, questionBranch, call, loop, plusLoop, literal}
 use Rattle.shapes.specs.declared.Shape.{Shape}
 use Rattle.shapes.specs.declared.Shape.the-variants.{None, One, Maybe, Two, Three, Byte, Roll}
@@ -42,7 +41,7 @@ shapeThen (Maybe e) = e .then
 shapeThen (Two e) = e .then
 shapeThen (Three e) = e .then
 shapeThen (Byte e) = e .then
-shapeThen (Roll e) = GoOn
+shapeThen (Roll e) = e .then
 
 -- the stores, in order; ROLL's values are those of the memory m
 abbrev pub shapeStores : Machine → List ℕ → Shape → List Store
@@ -52,25 +51,25 @@ shapeStores machine m (Maybe e) = if (e .writes) (storeOf (e .write) ∷ []) []
 shapeStores machine m (Two e) = storeOf (e .first) ∷ storeOf (e .second) ∷ []
 shapeStores machine m (Three e) = storeOf (e .first) ∷ storeOf (e .second) ∷ storeOf (e .third) ∷ []
 shapeStores machine m (Byte e) = byteStores e
-shapeStores machine m (Roll e) = rolled (machine .order) m (e .top) (e .depth)
+shapeStores machine m (Roll e) = rolled (machine .order) m (e .top .0) (e .depth .0)
 
 abbrev pub shapeEffect : Machine → List ℕ → Shape → Effect
 shapeEffect machine m s = effectOf (shapeSp s) (shapeRp s) (shapeStores machine m s) (shapeThen s)
 
--- the cells that ROLL moves lie in memory: it has read the deepest of them
-abbrev pub Fits : ℕ → Shape → Type 0
-Fits len (None e) = Unit
-Fits len (One e) = Unit
-Fits len (Maybe e) = Unit
-Fits len (Two e) = Unit
-Fits len (Three e) = Unit
-Fits len (Byte e) = Unit
-Fits len (Roll e) = (e .top % 4 ≡ 0) × (e .top + 4 * e .depth + 4 ≤ len)
+-- every place is an address: ROLL has read its deepest item
+abbrev pub Fits : Shape → Type 0
+Fits (None e) = Unit
+Fits (One e) = Unit
+Fits (Maybe e) = Unit
+Fits (Two e) = Unit
+Fits (Three e) = Unit
+Fits (Byte e) = Unit
+Fits (Roll e) = Reached e
 
 -- a shape that stands for an effect
 pub record Proposed (machine : Machine) (m : List ℕ) (s : Shape) (e : Effect) : Type 0 where
   pub effect : shapeEffect machine m s ≡ e
-  pub fits : Fits (length m) s
+  pub fits : Fits s
 
 -- the fault of the reading, or the first bad place
 abbrev pub shapeFault : Machine → List ℕ → Shape → Checked

@@ -1,13 +1,10 @@
 // A shape carried out.
 ghost use mathlib.Core.Path.{_≡_};
-ghost use lib.ListN.{length};
 ghost use Rattle.machine.specs.Places as places;
 ghost use Rattle.machine.specs.Commits as commits;
 ghost use Rattle.shapes.specs.Shapes as shapes;
-use crate::Rolling;
 use crate::Shape;
 use machine::Machine;
-use machine::Outcome;
 use machine::Registers;
 use machine::Step;
 use machine::commit::commit_byte;
@@ -16,27 +13,11 @@ use machine::commit::commit_none;
 use machine::commit::commit_one;
 use machine::commit::commit_three;
 use machine::commit::commit_two;
-use machine::roll::roll_cells;
-
-fn commit_roll(machine: Machine, memory: &mut [u8], r: Registers, e: Rolling) -> Step
-    requires { ⌜ shapes.Fits (length (now memory)) (Shape.Roll e) ⌝ }
-    ensures { λ s. ⌜ commits.stepped (now (memory .exit)) s ≡ commits.commitOf machine (now (memory .entry)) r (shapes.shapeEffect machine (now (memory .entry)) (Shape.Roll e)) ⌝ }
-{
-    roll_cells(machine, memory, e.top as usize, e.depth as usize);
-    Step {
-        registers: Registers {
-            ep: r.ep,
-            a: r.a,
-            sp: e.sp,
-            rp: e.rp,
-        },
-        outcome: Outcome::Went,
-    }
-}
+use machine::roll::commit_roll;
 
 pub fn commit_shape(machine: Machine, memory: &mut [u8], r: Registers, shape: Shape) -> Step
     requires { ⌜ places.Whole (now memory) ⌝ }
-    requires { ⌜ shapes.Fits (length (now memory)) shape ⌝ }
+    requires { ⌜ shapes.Fits shape ⌝ }
     ensures { λ s. ⌜ commits.stepped (now (memory .exit)) s ≡ commits.commitOf machine (now (memory .entry)) r (shapes.shapeEffect machine (now (memory .entry)) shape) ⌝ }
 {
     match shape {

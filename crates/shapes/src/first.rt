@@ -1,12 +1,10 @@
 // Opcodes 01h to 15h: the data stack, comparison.
 ghost use Prim.Native.Nat.{_≤_};
-ghost use lib.ListN.{length};
 ghost use Rattle.machine.specs.Places as places;
 ghost use Rattle.instruction.specs.Plain as plain;
 ghost use Rattle.instruction.specs.Dispatch as dispatch;
 ghost use Rattle.shapes.specs.Shapes as shapes;
 use crate::Shape;
-use crate::roll::propose_roll;
 use crate::second::propose_second;
 use machine::Machine;
 use machine::Registers;
@@ -17,6 +15,7 @@ use operators::comparison::not_equal;
 use operators::comparison::zero_equal;
 use operators::comparison::zero_greater;
 use operators::comparison::zero_less;
+use storage::rolling::roll;
 use storage::stack::drop;
 use storage::stack::dup;
 use storage::stack::minus_rot;
@@ -34,7 +33,6 @@ use storage::stack::tuck;
 // What an instruction without an operand would do, by its opcode.
 pub fn propose_plain(machine: Machine, memory: &[u8], r: Registers, opcode: u32) -> Shape
     requires { ⌜ places.Whole (now memory) ⌝ }
-    requires { ⌜ length (now memory) ≤ 16777216 ⌝ }
     requires { ⌜ 1 ≤ opcode ⌝ }
     ensures { λ s. ⌜ shapes.Proposed machine (now (memory .entry)) s (plain.plainAt machine (dispatch.decodeOf opcode) (now (memory .entry)) r) ⌝ }
 {
@@ -58,7 +56,7 @@ pub fn propose_plain(machine: Machine, memory: &[u8], r: Registers, opcode: u32)
         // PICK
         0x09 => Shape::One(pick(machine, memory, r)),
         // ROLL
-        0x0A => propose_roll(machine, memory, r),
+        0x0A => Shape::Roll(roll(machine, memory, r)),
         // ?DUP
         0x0B => Shape::Maybe(question_dup(machine, memory, r)),
         // >R

@@ -1,6 +1,5 @@
 // Opcodes 46h to 57h that take no operand: control, exceptions.
 ghost use Prim.Native.Nat.{_≤_};
-ghost use lib.ListN.{length};
 ghost use Rattle.machine.specs.Places as places;
 ghost use Rattle.instruction.specs.Plain as plain;
 ghost use Rattle.instruction.specs.Dispatch as dispatch;
@@ -22,7 +21,6 @@ use machine::Then;
 
 pub fn propose_fourth(machine: Machine, memory: &[u8], r: Registers, opcode: u32) -> Shape
     requires { ⌜ places.Whole (now memory) ⌝ }
-    requires { ⌜ length (now memory) ≤ 16777216 ⌝ }
     requires { ⌜ 66 ≤ opcode ⌝ }
     ensures { λ s. ⌜ shapes.Proposed machine (now (memory .entry)) s (plain.plainAt machine (dispatch.decodeOf opcode) (now (memory .entry)) r) ⌝ }
 {
@@ -49,6 +47,7 @@ pub fn propose_fourth(machine: Machine, memory: &[u8], r: Registers, opcode: u32
         0x55 => Shape::None(halt(machine, memory, r)),
         // LIB
         0x57 => Shape::None(lib(machine, memory, r)),
+        // the other opcodes raise -256, and the pointers are never read
         _ => Shape::None(NoStore {
             sp: r.sp,
             rp: r.rp,

@@ -9,6 +9,8 @@ ghost use Rattle.machine.specs.Effects as effects;
 ghost use Rattle.machine.specs.Commits as commits;
 ghost use Rattle.shapes.specs.Shapes as shapes;
 use crate::Shape;
+use cell::Address;
+use cell::CellCount;
 use cell::Checked;
 use machine::Access;
 use machine::Machine;
@@ -17,6 +19,7 @@ use machine::Write;
 use machine::commit::fault_of;
 use machine::places::check_byte_place;
 use machine::places::check_place;
+use machine::roll::check_roll;
 
 // What follows the writes.
 pub fn then_of(shape: Shape) -> Then
@@ -29,7 +32,7 @@ pub fn then_of(shape: Shape) -> Then
         Shape::Two(e) => e.then,
         Shape::Three(e) => e.then,
         Shape::Byte(e) => e.then,
-        Shape::Roll(_) => Then::GoOn,
+        Shape::Roll(e) => e.then,
     }
 }
 
@@ -53,7 +56,7 @@ fn check_write(machine: Machine, length: usize, w: Write) -> Checked
 
 // Every place that a shape would write.
 fn check_places(machine: Machine, memory: &[u8], shape: Shape) -> Checked
-    requires { ⌜ shapes.Fits (length (now memory)) shape ⌝ }
+    requires { ⌜ shapes.Fits shape ⌝ }
     ensures { λ r. ⌜ r ≡ commits.placesOf machine (length (now (memory .entry))) (shapes.shapeStores machine (now (memory .entry)) shape) ⌝ }
 {
     let n = memory.len();
@@ -88,13 +91,17 @@ fn check_places(machine: Machine, memory: &[u8], shape: Shape) -> Checked
             let at = e.at;
             check_byte_place(machine, Access::NamedWrite, n, at)
         }
-        Shape::Roll(_) => Checked::Good,
+        Shape::Roll(e) => {
+            let top = e.top;
+            let depth = e.depth;
+            check_roll(machine, memory, top, depth)
+        }
     }
 }
 
 // The fault of the reading, or the first bad place.
 pub fn check_shape(machine: Machine, memory: &[u8], shape: Shape) -> Checked
-    requires { ⌜ shapes.Fits (length (now memory)) shape ⌝ }
+    requires { ⌜ shapes.Fits shape ⌝ }
     ensures { λ r. ⌜ r ≡ shapes.shapeFault machine (now (memory .entry)) shape ⌝ }
 {
     first_bad(
@@ -110,36 +117,36 @@ fn either(a: bool, b: bool) -> bool
 }
 
 // Whether `width` bytes from `at` on have one from lo up to, and without, hi.
-pub fn meets(at: u32, width: u64, lo: u32, hi: u32) -> bool
+pub fn meets(at: Address, width: u64, lo: Address, hi: Address) -> bool
     requires { ⌜ width < 0x800000000 ⌝ }
-    ensures { λ r. ⌜ r ≡ (ltb at hi && ltb lo (at + width)) ⌝ }
+    ensures { λ r. ⌜ r ≡ (ltb (at .0) (hi .0) && ltb (lo .0) (at .0 + width)) ⌝ }
 {
-    if at < hi {
-        return (lo as u64) < at as u64 + width;
+    if at.0 < hi.0 {
+        return (lo.0 as u64) < at.0 as u64 + width;
     }
     false
 }
 
-fn meets_write(w: Write, lo: u32, hi: u32) -> bool
-    ensures { λ r. ⌜ r ≡ commits.touches lo hi (effects.storeOf w ∷ []) ⌝ }
+fn meets_write(w: Write, lo: Address, hi: Address) -> bool
+    ensures { λ r. ⌜ r ≡ commits.touches (lo .0) (hi .0) (effects.storeOf w ∷ []) ⌝ }
 {
     let at = w.at;
-    meets(at.0, 4, lo, hi)
+    meets(at, 4, lo, hi)
 }
 
-fn meets_roll(top: u32, depth: u32, lo: u32, hi: u32) -> bool
-    ensures { λ r. ⌜ r ≡ (ltb 0 depth && (ltb top hi && ltb lo (top + (4 * depth + 4)))) ⌝ }
+fn meets_roll(top: Address, depth: CellCount, lo: Address, hi: Address) -> bool
+    ensures { λ r. ⌜ r ≡ (ltb 0 (depth .0) && (ltb (top .0) (hi .0) && ltb (lo .0) (top .0 + (4 * depth .0 + 4)))) ⌝ }
 {
-    if 0 < depth {
-        return meets(top, 4 * (depth as u64) + 4, lo, hi);
+    if 0 < depth.0 {
+        return meets(top, 4 * (depth.0 as u64) + 4, lo, hi);
     }
     false
 }
 
 // Whether a shape would write a byte from lo up to, and without, hi.
-pub fn writes(machine: Machine, memory: &[u8], shape: Shape, lo: u32, hi: u32) -> bool
-    requires { ⌜ lo < hi ⌝ }
-    ensures { λ r. ⌜ r ≡ commits.touches lo hi (shapes.shapeStores machine (now (memory .entry)) shape) ⌝ }
+pub fn writes(machine: Machine, memory: &[u8], shape: Shape, lo: Address, hi: Address) -> bool
+    requires { ⌜ lo .0 < hi .0 ⌝ }
+    ensures { λ r. ⌜ r ≡ commits.touches (lo .0) (hi .0) (shapes.shapeStores machine (now (memory .entry)) shape) ⌝ }
 {
     match shape {
         Shape::None(_) => false,
@@ -170,8 +177,12 @@ pub fn writes(machine: Machine, memory: &[u8], shape: Shape, lo: u32, hi: u32) -
         }
         Shape::Byte(e) => {
             let at = e.at;
-            meets(at.0, 1, lo, hi)
+            meets(at, 1, lo, hi)
         }
-        Shape::Roll(e) => meets_roll(e.top, e.depth, lo, hi),
+        Shape::Roll(e) => {
+            let top = e.top;
+            let depth = e.depth;
+            meets_roll(top, depth, lo, hi)
+        }
     }
 }

@@ -4,7 +4,6 @@ pub mod first;
 pub mod fourth;
 pub mod judging;
 pub mod looping;
-pub mod roll;
 pub mod second;
 pub mod taking;
 pub mod third;
@@ -13,16 +12,9 @@ use machine::ByteStore;
 use machine::MaybeStore;
 use machine::NoStore;
 use machine::OneStore;
+use machine::RollStores;
 use machine::ThreeStores;
 use machine::TwoStores;
-
-// ROLL: `depth` items below the top one, which lies at the address `top`.
-pub struct Rolling {
-    pub sp: u32,
-    pub rp: u32,
-    pub top: u32,
-    pub depth: u32,
-}
 
 // What an instruction asks for, by the places that it writes.
 pub enum Shape {
@@ -32,5 +24,5 @@ pub enum Shape {
     Two(TwoStores),
     Three(ThreeStores),
     Byte(ByteStore),
-    Roll(Rolling),
+    Roll(RollStores),
 }

@@ -43,7 +43,7 @@ enum-known-shape-7 : tie.Need-enum-known-shape-7
 enum-known-shape-7 c = search needs
 
 commit-roll-requires : tie.Need-commit-roll-requires
-commit-roll-requires c κs = rw (c .before .before .shape7 .given .1) at (c .before .before .before .before .before .pre .1)
+commit-roll-requires c κs = (c .before .before .before .before .before .pre .0, rw (c .before .before .shape7 .given .1) at (c .before .before .before .before .before .pre .1))
 
 same-length : tie.Need-same-length
 same-length c = search needs

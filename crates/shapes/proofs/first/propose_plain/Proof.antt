@@ -33,8 +33,8 @@ nip-requires c κs = search needs
 pick-requires : tie.Need-pick-requires
 pick-requires c κs = search needs
 
-propose-roll-requires : tie.Need-propose-roll-requires
-propose-roll-requires c κs = search needs
+roll-requires : tie.Need-roll-requires
+roll-requires c κs = search needs
 
 question-dup-requires : tie.Need-question-dup-requires
 question-dup-requires c κs = search needs
@@ -73,21 +73,18 @@ propose-second-requires : tie.Need-propose-second-requires
 propose-second-requires c κs =
     let pre-here = c .before .before .pre in (
       pre-here .0,
-      (
-        pre-here .1 .0,
-        past 0x15 (past 0x14 (past 0x13 (past 0x12 (past 0x11 (past 0x10 (past 0x0F (past 0x0E
-            (past 0x0D (past 0x0C (past 0x0B (past 0x0A (past 0x09 (past 0x08 (past 0x07 (past 0x06 (past 0x05 (past 0x04 (past 0x03
-            (past 0x02 (past 0x01 (pre-here .1 .1) (c .match .rest .0 .0 .0 .0 .0 .0 .0 .0 .0 .0 .0 .0 .0 .0 .0 .0 .0 .0 .0 .0 .1)) (c
-            .match .rest .0 .0 .0 .0 .0 .0 .0 .0 .0 .0 .0 .0 .0 .0 .0 .0 .0 .0 .0 .1)) (c .match .rest .0 .0 .0 .0 .0 .0 .0 .0 .0 .0
-            .0 .0 .0 .0 .0 .0 .0 .0 .1)) (c .match .rest .0 .0 .0 .0 .0 .0 .0 .0 .0 .0 .0 .0 .0 .0 .0 .0 .0 .1)) (c .match .rest .0 .0
-            .0 .0 .0 .0 .0 .0 .0 .0 .0 .0 .0 .0 .0 .0 .1)) (c .match .rest .0 .0 .0 .0 .0 .0 .0 .0 .0 .0 .0 .0 .0 .0 .0 .1)) (c .match
-            .rest .0 .0 .0 .0 .0 .0 .0 .0 .0 .0 .0 .0 .0 .0 .1)) (c .match .rest .0 .0 .0 .0 .0 .0 .0 .0 .0 .0 .0 .0 .0 .1)) (c .match
-            .rest .0 .0 .0 .0 .0 .0 .0 .0 .0 .0 .0 .0 .1)) (c .match .rest .0 .0 .0 .0 .0 .0 .0 .0 .0 .0 .0 .1)) (c .match .rest .0 .0
-            .0 .0 .0 .0 .0 .0 .0 .0 .1)) (c .match .rest .0 .0 .0 .0 .0 .0 .0 .0 .0 .1)) (c .match .rest .0 .0 .0 .0 .0 .0 .0 .0 .1))
-            (c .match .rest .0 .0 .0 .0 .0 .0 .0 .1)) (c .match .rest .0 .0 .0 .0 .0 .0 .1)) (c .match .rest .0 .0 .0 .0 .0 .1)) (c
-            .match .rest .0 .0 .0 .0 .1)) (c .match .rest .0 .0 .0 .1)) (c .match .rest .0 .0 .1)) (c .match .rest .0 .1)) (c .match
-            .rest .1),
-      ),
+      past 0x15 (past 0x14 (past 0x13 (past 0x12 (past 0x11 (past 0x10 (past 0x0F (past 0x0E
+          (past 0x0D (past 0x0C (past 0x0B (past 0x0A (past 0x09 (past 0x08 (past 0x07 (past 0x06 (past 0x05 (past 0x04 (past 0x03
+          (past 0x02 (past 0x01 (pre-here .1) (c .match .rest .0 .0 .0 .0 .0 .0 .0 .0 .0 .0 .0 .0 .0 .0 .0 .0 .0 .0 .0 .0 .1)) (c
+          .match .rest .0 .0 .0 .0 .0 .0 .0 .0 .0 .0 .0 .0 .0 .0 .0 .0 .0 .0 .0 .1)) (c .match .rest .0 .0 .0 .0 .0 .0 .0 .0 .0 .0
+          .0 .0 .0 .0 .0 .0 .0 .0 .1)) (c .match .rest .0 .0 .0 .0 .0 .0 .0 .0 .0 .0 .0 .0 .0 .0 .0 .0 .0 .1)) (c .match .rest .0 .0
+          .0 .0 .0 .0 .0 .0 .0 .0 .0 .0 .0 .0 .0 .0 .1)) (c .match .rest .0 .0 .0 .0 .0 .0 .0 .0 .0 .0 .0 .0 .0 .0 .0 .1)) (c .match
+          .rest .0 .0 .0 .0 .0 .0 .0 .0 .0 .0 .0 .0 .0 .0 .1)) (c .match .rest .0 .0 .0 .0 .0 .0 .0 .0 .0 .0 .0 .0 .0 .1)) (c .match
+          .rest .0 .0 .0 .0 .0 .0 .0 .0 .0 .0 .0 .0 .1)) (c .match .rest .0 .0 .0 .0 .0 .0 .0 .0 .0 .0 .0 .1)) (c .match .rest .0 .0
+          .0 .0 .0 .0 .0 .0 .0 .0 .1)) (c .match .rest .0 .0 .0 .0 .0 .0 .0 .0 .0 .1)) (c .match .rest .0 .0 .0 .0 .0 .0 .0 .0 .1))
+          (c .match .rest .0 .0 .0 .0 .0 .0 .0 .1)) (c .match .rest .0 .0 .0 .0 .0 .0 .1)) (c .match .rest .0 .0 .0 .0 .0 .1)) (c
+          .match .rest .0 .0 .0 .0 .1)) (c .match .rest .0 .0 .0 .1)) (c .match .rest .0 .0 .1)) (c .match .rest .0 .1)) (c .match
+          .rest .1),
     )
 
 returns : tie.Need-returns
@@ -130,8 +127,8 @@ returns-10 : tie.Need-returns-10
 unfolding dispatch.decodeOf
 returns-10 c =
     record {
-      effect = rw (c .before .match .keys10) (c .propose-roll .ensures .effect);
-      fits = c .propose-roll .ensures .fits;
+      effect = rw (c .before .match .keys10) (c .roll .ensures .0);
+      fits = c .roll .ensures .1;
     }
 
 returns-11 : tie.Need-returns-11
@@ -194,7 +191,7 @@ propose-plain-spec =
     tuck-requires
     nip-requires
     pick-requires
-    propose-roll-requires
+    roll-requires
     question-dup-requires
     to-r-requires
     r-from-requires

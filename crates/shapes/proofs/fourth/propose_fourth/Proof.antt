@@ -75,7 +75,7 @@ returns-10 c =
     record {
       effect = sym (rest-raises (args .machine) (now (args .memory)) (args .r .ep) (args .r .sp) (args .r .rp) (args
           .opcode) (record {
-            from = c .before .before .pre .1 .1;
+            from = c .before .before .pre .1;
             n46 = c .match .rest .0 .0 .0 .0 .0 .0 .0 .0 .1;
             n47 = c .match
                 .rest .0 .0 .0 .0 .0 .0 .0 .1;

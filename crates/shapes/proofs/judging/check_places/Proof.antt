@@ -1,16 +1,12 @@
--- `check_places` meets its contract, shape by shape; ROLL's places are good since it fits.
+-- `check_places` meets its contract, shape by shape.
 use borrow.Author.Needs.{needs}
 use Rattle.shapes.proofs.judging.check_places.Statement.{statement}
 use Rattle.shapes.proofs.judging.check_places.Tie as tie
 use mathlib.Core.Path.{sym, _∙_}
-use native.Mathlib.Omega.{arith}
 use Rattle.machine.specs.Commits as commits
-use Rattle.storage.proofs.RollingLaws.{rolled-places}
-use Rattle.shapes.proofs.WritesLaws.{first-good}
+use Rattle.machine.proofs.CommitLaws.{first-good}
 use mathlib.Core.Path.{ap₂}
 use Rattle.shapes.proofs.WritesLaws.{places-more}
-use denote.Ref.{now}
-use lib.ListN.{length}
 
 enum-told : tie.Need-enum-told
 enum-told c = search needs
@@ -66,8 +62,11 @@ enum-known-shape-5 c = search needs
 check-byte-place-requires : tie.Need-check-byte-place-requires
 check-byte-place-requires c κs = search needs
 
-enum-told-2 : tie.Need-enum-told-2
-enum-told-2 c = search needs
+enum-known-shape-6 : tie.Need-enum-known-shape-6
+enum-known-shape-6 c = search needs
+
+check-roll-requires : tie.Need-check-roll-requires
+check-roll-requires c κs = rw (c .before .before .before .shape6 .given .1) at (c .before .before .before .before .before .before .pre)
 
 returns-2 : tie.Need-returns-2
 unfolding commits.placesOf
@@ -97,11 +96,7 @@ unfolding commits.placesOf
 returns-7 c = rw (c .before .before .before .shape5 .given .1) (c .check-byte-place .ensures ∙ sym (first-good _))
 
 returns-8 : tie.Need-returns-8
-returns-8 c =
-    let args = c .before .before .before .args in
-    let f = rw (c .enum-told2 .given .1) at (c .before .before .before .pre) in
-    rw (c .enum-told2 .given .1) (sym (rolled-places (args .machine) (length (now (args .memory))) (args .machine .order) (now
-    (args .memory)) (c .enum-told2 .given .0 .0 .top) (c .enum-told2 .given .0 .0 .depth) (f .0) (omega (arith, f .1))))
+returns-8 c = rw (c .before .before .before .before .shape6 .given .1) (c .check-roll .ensures)
 
 pub check-places-spec : {M : Type 1} → statement M
 check-places-spec =
@@ -125,7 +120,8 @@ check-places-spec =
     first-bad-requires-3
     enum-known-shape-5
     check-byte-place-requires
-    enum-told-2
+    enum-known-shape-6
+    check-roll-requires
     returns-2
     returns-3
     returns-4

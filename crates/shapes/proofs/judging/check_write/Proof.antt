@@ -4,7 +4,7 @@ use Rattle.shapes.proofs.judging.check_write.Statement.{statement}
 use Rattle.shapes.proofs.judging.check_write.Tie as tie
 use mathlib.Core.Path.{sym, _∙_}
 use Rattle.machine.specs.Commits as commits
-use Rattle.shapes.proofs.WritesLaws.{first-good}
+use Rattle.machine.proofs.CommitLaws.{first-good}
 
 check-place-requires : tie.Need-check-place-requires
 check-place-requires c κs = search needs

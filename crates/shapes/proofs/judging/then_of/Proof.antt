@@ -23,8 +23,8 @@ enum-known-shape-5 c = search needs
 enum-known-shape-6 : tie.Need-enum-known-shape-6
 enum-known-shape-6 c = search needs
 
-enum-told : tie.Need-enum-told
-enum-told c = search needs
+enum-known-shape-7 : tie.Need-enum-known-shape-7
+enum-known-shape-7 c = search needs
 
 returns : tie.Need-returns
 returns c = search needs
@@ -57,7 +57,7 @@ then-of-spec =
     enum-known-shape-4
     enum-known-shape-5
     enum-known-shape-6
-    enum-told
+    enum-known-shape-7
     returns
     returns-2
     returns-3

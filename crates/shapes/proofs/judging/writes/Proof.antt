@@ -99,10 +99,10 @@ returns-7 c = rw (c .before .before .before .shape5 .given .1) (c .meets .ensure
 
 returns-8 : tie.Need-returns-8
 returns-8 c =
-    let args = c .before .before .before .before .before .args in
-    let shape6 = c .before .before .shape6 in
+    let args = c .before .before .before .before .before .before .before .args in
+    let shape6 = c .before .before .before .before .shape6 in
     rw (shape6 .given .1) (c .meets-roll .ensures ∙ rolled-touches (args .machine .order) (now (args .memory)) (shape6 .given
-    .0 .0 .top) (shape6 .given .0 .0 .depth) (args .lo) (args .hi) (c .before .before .before .before .before .pre))
+    .0 .0 .top .0) (shape6 .given .0 .0 .depth .0) (args .lo .0) (args .hi .0) (c .before .before .before .before .before .before .before .pre))
 
 pub writes-spec : {M : Type 1} → statement M
 writes-spec =

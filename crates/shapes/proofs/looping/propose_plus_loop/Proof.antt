@@ -25,7 +25,7 @@ enum-told c = search needs
 
 -- src/looping.rt:84:9
 fail-maybe-requires : tie.Need-fail-maybe-requires
-fail-maybe-requires c κs = search needs
+fail-maybe-requires c κs = (_, c .enum-told .given .1)
 
 -- src/looping.rt:84:9
 returns : tie.Need-returns

@@ -26,7 +26,7 @@ enum-told c = search needs
 
 -- src/looping.rt:47:9
 fail-maybe-requires : tie.Need-fail-maybe-requires
-fail-maybe-requires c κs = search needs
+fail-maybe-requires c κs = (_, c .enum-told .given .1)
 
 -- src/looping.rt:47:9
 returns : tie.Need-returns
@@ -50,7 +50,7 @@ enum-told-2 c = search needs
 
 -- src/looping.rt:51:9
 fail-maybe-requires-2 : tie.Need-fail-maybe-requires-2
-fail-maybe-requires-2 c κs = search needs
+fail-maybe-requires-2 c κs = (_, c .enum-told2 .given .1)
 
 -- src/looping.rt:51:9
 returns-2 : tie.Need-returns-2

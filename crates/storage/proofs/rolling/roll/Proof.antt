@@ -22,9 +22,11 @@ fail-roll-requires c κs = (_, c .enum-told .given .1)
 
 returns : tie.Need-returns
 unfolding plain.plainOf
-returns c =
-    (simp (sym (c .before .before .before .fetch .ensures) ∙ c .before .enum-told .given .1)
-    (c .fail-roll .ensures .0 _ _ ∙ ap plain.failed (c .before .enum-told .given .1)), c .fail-roll .ensures .1)
+returns c = (
+  simp (sym (c .before .before .before .fetch .ensures) ∙ c .before .enum-told .given .1)
+      (c .fail-roll .ensures .0 _ _ ∙ ap plain.failed (c .before .enum-told .given .1)),
+  c .fail-roll .ensures .1,
+)
 
 fetch-deep-requires : tie.Need-fetch-deep-requires
 fetch-deep-requires c κs = search needs
@@ -40,15 +42,20 @@ fail-roll-requires-2 c κs = (_, c .enum-told3 .given .1)
 
 returns-2 : tie.Need-returns-2
 unfolding plain.plainOf
-returns-2 c =
-    (simp (sym (c .before .before .before .before .before .before .before .fetch .ensures) ∙ c .before .before .before .before .before .got .given .1, sym (c .before .before .before .fetch-deep .ensures) ∙ c .before .enum-told3 .given .1)
-    (c .fail-roll2 .ensures .0 _ _ ∙ ap plain.failed (c .before .enum-told3 .given .1)), c .fail-roll2 .ensures .1)
+returns-2 c = (
+  simp (sym (c .before .before .before .before .before .before .before .fetch .ensures) ∙ c .before .before .before .before .before .got .given .1, sym (c .before .before .before .fetch-deep .ensures) ∙ c .before .enum-told3 .given .1)
+      (c .fail-roll2 .ensures .0 _ _ ∙ ap plain.failed (c .before .enum-told3 .given .1)),
+  c .fail-roll2 .ensures .1,
+)
 
 add-top : tie.Need-add-top
 add-top c =
     let a = c .before .before .before .before .before .before .before .before .before .args in
-    omega (arith, deep-address (a .machine) (now (a .memory)) (plain.deepAddress (a .r .sp) (c .before .before .before .before .before .got .given .0 .0)) _
-    (sym (c .before .before .before .fetch-deep .ensures) ∙ c .before .enum-told2 .given .1))
+    omega (
+      arith,
+      deep-address (a .machine) (now (a .memory)) (plain.deepAddress (a .r .sp) (c .before .before .before .before .before .got .given .0 .0)) _
+          (sym (c .before .before .before .fetch-deep .ensures) ∙ c .before .enum-told2 .given .1),
+    )
 
 add-requires : tie.Need-add-requires
 add-requires c κs = search needs
@@ -56,10 +63,11 @@ add-requires c κs = search needs
 returns-3 : tie.Need-returns-3
 unfolding plain.plainOf
 returns-3 c =
-    let a = c .before .before .before .before .before .before .before .before .before .before .args in
-    (simp (sym (c .before .before .before .before .before .before .before .before .fetch .ensures) ∙ c .before .before .before .before .before .before .got .given .1, sym (c .before .before .before .before .fetch-deep .ensures) ∙ c .before .before .enum-told2 .given .1, c .add .ensures),
-    deep-address (a .machine) (now (a .memory)) (plain.deepAddress (a .r .sp) (c .before .before .before .before .before .before .got .given .0 .0)) _
-    (sym (c .before .before .before .before .fetch-deep .ensures) ∙ c .before .before .enum-told2 .given .1))
+    let a = c .before .before .before .before .before .before .before .before .before .before .args in (
+      simp (sym (c .before .before .before .before .before .before .before .before .fetch .ensures) ∙ c .before .before .before .before .before .before .got .given .1, sym (c .before .before .before .before .fetch-deep .ensures) ∙ c .before .before .enum-told2 .given .1, c .add .ensures),
+      deep-address (a .machine) (now (a .memory)) (plain.deepAddress (a .r .sp) (c .before .before .before .before .before .before .got .given .0 .0)) _
+          (sym (c .before .before .before .before .fetch-deep .ensures) ∙ c .before .before .enum-told2 .given .1),
+    )
 
 pub roll-spec : {M : Type 1} → statement M
 roll-spec =
