@@ -1,0 +1,18 @@
+-- `judge_lent` meets its contract.
+use Rattle.calls.specs.Lists as lists
+use borrow.Author.Needs.{needs}
+use Rattle.calls.proofs.lists.judge_lent.Statement.{statement}
+use Rattle.calls.proofs.lists.judge_lent.Tie as tie
+
+with-room-requires : tie.Need-with-room-requires
+with-room-requires c κs = search needs
+
+with-room-requires-2 : tie.Need-with-room-requires-2
+with-room-requires-2 c κs = search needs
+
+returns : tie.Need-returns
+unfolding lists.judgeLent
+returns c = rw (← c .before .with-room .ensures) (c .with-room2 .ensures)
+
+pub judge-lent-spec : {M : Type 1} → statement M
+judge-lent-spec = tie.close (tie.spec with-room-requires with-room-requires-2 returns)
