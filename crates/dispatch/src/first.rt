@@ -1,7 +1,5 @@
 // Opcodes 00h to 15h: the data stack, comparison.
 ghost use mathlib.Core.Path.{_≡_};
-ghost use Prim.Native.Nat.{_≤_};
-ghost use lib.ListN.{length};
 ghost use Rattle.machine.specs.Places as places;
 ghost use Rattle.machine.specs.Commits as commits;
 ghost use Rattle.instruction.specs.Dispatch as dispatch;
@@ -15,6 +13,7 @@ use machine::commit::commit_none;
 use machine::commit::commit_one;
 use machine::commit::commit_three;
 use machine::commit::commit_two;
+use machine::roll::commit_roll;
 use operators::comparison::equal;
 use operators::comparison::greater;
 use operators::comparison::less;
@@ -40,7 +39,6 @@ use storage::stack::tuck;
 // One instruction by its opcode, up to its NEXT, throw or stop: its effect, then the commit of the effect's shape.
 pub fn execute_one(machine: Machine, memory: &mut [u8], r: Registers, opcode: u32) -> Step
     requires { ⌜ places.Whole (now memory) ⌝ }
-    requires { ⌜ length (now memory) ≤ 16777216 ⌝ }
     ensures { λ s. ⌜ commits.stepped (now (memory .exit)) s ≡ dispatch.executeOf machine (now (memory .entry)) r (dispatch.decodeOf opcode) ⌝ }
 {
     match opcode {
@@ -73,7 +71,7 @@ pub fn execute_one(machine: Machine, memory: &mut [u8], r: Registers, opcode: u3
         // PICK
         0x09 => commit_one(machine, memory, r, pick(machine, memory, r)),
         // ROLL
-        0x0A => roll(
+        0x0A => commit_roll(
             machine,
             memory,
             Registers {
@@ -82,6 +80,16 @@ pub fn execute_one(machine: Machine, memory: &mut [u8], r: Registers, opcode: u3
                 sp: r.sp,
                 rp: r.rp,
             },
+            roll(
+                machine,
+                memory,
+                Registers {
+                    ep: r.ep,
+                    a: r.a,
+                    sp: r.sp,
+                    rp: r.rp,
+                },
+            ),
         ),
         // ?DUP
         0x0B => commit_maybe(machine, memory, r, question_dup(machine, memory, r)),

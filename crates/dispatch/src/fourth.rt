@@ -1,7 +1,6 @@
 // Opcodes 42h to FFh: control, literals, exceptions.
 ghost use mathlib.Core.Path.{_≡_};
 ghost use Prim.Native.Nat.{_≤_};
-ghost use lib.ListN.{length};
 ghost use Rattle.machine.specs.Places as places;
 ghost use Rattle.machine.specs.Commits as commits;
 ghost use Rattle.instruction.specs.Dispatch as dispatch;
@@ -33,7 +32,6 @@ use machine::commit::commit_two;
 
 pub fn execute_fourth(machine: Machine, memory: &mut [u8], r: Registers, opcode: u32) -> Step
     requires { ⌜ places.Whole (now memory) ⌝ }
-    requires { ⌜ length (now memory) ≤ 16777216 ⌝ }
     requires { ⌜ 66 ≤ opcode ⌝ }
     ensures { λ s. ⌜ commits.stepped (now (memory .exit)) s ≡ dispatch.executeOf machine (now (memory .entry)) r (dispatch.decodeOf opcode) ⌝ }
 {
@@ -244,6 +242,7 @@ pub fn execute_fourth(machine: Machine, memory: &mut [u8], r: Registers, opcode:
                 machine,
                 memory,
                 r,
+                // the pointers are never read: a fault follows
                 NoStore {
                     sp: r.sp,
                     rp: r.rp,

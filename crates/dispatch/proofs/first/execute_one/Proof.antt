@@ -66,6 +66,9 @@ commit-one-requires-4 c κs = search needs
 roll-requires : tie.Need-roll-requires
 roll-requires c κs = search needs
 
+commit-roll-requires : tie.Need-commit-roll-requires
+commit-roll-requires c κs = (search needs, c .roll .ensures .1)
+
 question-dup-requires : tie.Need-question-dup-requires
 question-dup-requires c κs = search needs
 
@@ -133,7 +136,7 @@ commit-one-requires-14 : tie.Need-commit-one-requires-14
 commit-one-requires-14 c κs = search needs
 
 execute-second-requires : tie.Need-execute-second-requires
-execute-second-requires c κs = (c .before .before .before .pre .0, (c .before .before .before .pre .1, (past 0x15 (past 0x14 (past 0x13 (past 0x12 (past 0x11 (past 0x10 (past 0x0F (past 0x0E (past 0x0D (past 0x0C (past 0x0B (past 0x0A (past 0x09 (past 0x08 (past 0x07 (past 0x06 (past 0x05 (past 0x04 (past 0x03 (past 0x02 (past 0x01 (past 0x00 zero-le (c .before .match .rest .0 .0 .0 .0 .0 .0 .0 .0 .0 .0 .0 .0 .0 .0 .0 .0 .0 .0 .0 .0 .0 .1)) (c .before .match .rest .0 .0 .0 .0 .0 .0 .0 .0 .0 .0 .0 .0 .0 .0 .0 .0 .0 .0 .0 .0 .1)) (c .before .match .rest .0 .0 .0 .0 .0 .0 .0 .0 .0 .0 .0 .0 .0 .0 .0 .0 .0 .0 .0 .1)) (c .before .match .rest .0 .0 .0 .0 .0 .0 .0 .0 .0 .0 .0 .0 .0 .0 .0 .0 .0 .0 .1)) (c .before .match .rest .0 .0 .0 .0 .0 .0 .0 .0 .0 .0 .0 .0 .0 .0 .0 .0 .0 .1)) (c .before .match .rest .0 .0 .0 .0 .0 .0 .0 .0 .0 .0 .0 .0 .0 .0 .0 .0 .1)) (c .before .match .rest .0 .0 .0 .0 .0 .0 .0 .0 .0 .0 .0 .0 .0 .0 .0 .1)) (c .before .match .rest .0 .0 .0 .0 .0 .0 .0 .0 .0 .0 .0 .0 .0 .0 .1)) (c .before .match .rest .0 .0 .0 .0 .0 .0 .0 .0 .0 .0 .0 .0 .0 .1)) (c .before .match .rest .0 .0 .0 .0 .0 .0 .0 .0 .0 .0 .0 .0 .1)) (c .before .match .rest .0 .0 .0 .0 .0 .0 .0 .0 .0 .0 .0 .1)) (c .before .match .rest .0 .0 .0 .0 .0 .0 .0 .0 .0 .0 .1)) (c .before .match .rest .0 .0 .0 .0 .0 .0 .0 .0 .0 .1)) (c .before .match .rest .0 .0 .0 .0 .0 .0 .0 .0 .1)) (c .before .match .rest .0 .0 .0 .0 .0 .0 .0 .1)) (c .before .match .rest .0 .0 .0 .0 .0 .0 .1)) (c .before .match .rest .0 .0 .0 .0 .0 .1)) (c .before .match .rest .0 .0 .0 .0 .1)) (c .before .match .rest .0 .0 .0 .1)) (c .before .match .rest .0 .0 .1)) (c .before .match .rest .0 .1)) (c .before .match .rest .1))))
+execute-second-requires c κs = (c .before .before .before .pre, (past 0x15 (past 0x14 (past 0x13 (past 0x12 (past 0x11 (past 0x10 (past 0x0F (past 0x0E (past 0x0D (past 0x0C (past 0x0B (past 0x0A (past 0x09 (past 0x08 (past 0x07 (past 0x06 (past 0x05 (past 0x04 (past 0x03 (past 0x02 (past 0x01 (past 0x00 zero-le (c .before .match .rest .0 .0 .0 .0 .0 .0 .0 .0 .0 .0 .0 .0 .0 .0 .0 .0 .0 .0 .0 .0 .0 .1)) (c .before .match .rest .0 .0 .0 .0 .0 .0 .0 .0 .0 .0 .0 .0 .0 .0 .0 .0 .0 .0 .0 .0 .1)) (c .before .match .rest .0 .0 .0 .0 .0 .0 .0 .0 .0 .0 .0 .0 .0 .0 .0 .0 .0 .0 .0 .1)) (c .before .match .rest .0 .0 .0 .0 .0 .0 .0 .0 .0 .0 .0 .0 .0 .0 .0 .0 .0 .0 .1)) (c .before .match .rest .0 .0 .0 .0 .0 .0 .0 .0 .0 .0 .0 .0 .0 .0 .0 .0 .0 .1)) (c .before .match .rest .0 .0 .0 .0 .0 .0 .0 .0 .0 .0 .0 .0 .0 .0 .0 .0 .1)) (c .before .match .rest .0 .0 .0 .0 .0 .0 .0 .0 .0 .0 .0 .0 .0 .0 .0 .1)) (c .before .match .rest .0 .0 .0 .0 .0 .0 .0 .0 .0 .0 .0 .0 .0 .0 .1)) (c .before .match .rest .0 .0 .0 .0 .0 .0 .0 .0 .0 .0 .0 .0 .0 .1)) (c .before .match .rest .0 .0 .0 .0 .0 .0 .0 .0 .0 .0 .0 .0 .1)) (c .before .match .rest .0 .0 .0 .0 .0 .0 .0 .0 .0 .0 .0 .1)) (c .before .match .rest .0 .0 .0 .0 .0 .0 .0 .0 .0 .0 .1)) (c .before .match .rest .0 .0 .0 .0 .0 .0 .0 .0 .0 .1)) (c .before .match .rest .0 .0 .0 .0 .0 .0 .0 .0 .1)) (c .before .match .rest .0 .0 .0 .0 .0 .0 .0 .1)) (c .before .match .rest .0 .0 .0 .0 .0 .0 .1)) (c .before .match .rest .0 .0 .0 .0 .0 .1)) (c .before .match .rest .0 .0 .0 .0 .1)) (c .before .match .rest .0 .0 .0 .1)) (c .before .match .rest .0 .0 .1)) (c .before .match .rest .0 .1)) (c .before .match .rest .1)))
 
 returns : tie.Need-returns
 unfolding dispatch.executeOf dispatch.decodeOf
@@ -207,7 +210,7 @@ same-length-10 c = search needs
 
 returns-11 : tie.Need-returns-11
 unfolding dispatch.executeOf dispatch.decodeOf
-returns-11 c = rw (c .before .before .before .before .match .keys11) (c .before .before .roll .ensures)
+returns-11 c = let a = c .before .before .before .before .before .before .before .before .args in rw (c .before .before .before .before .before .before .match .keys11) (c .before .before .commit-roll .ensures ∙ ap (commits.commitOf (a .machine) (now (a .memory)) (a .r)) (c .before .before .before .roll .ensures .0))
 
 same-length-11 : tie.Need-same-length-11
 same-length-11 c = search needs
@@ -315,6 +318,7 @@ execute-one-spec =
     pick-requires
     commit-one-requires-4
     roll-requires
+    commit-roll-requires
     question-dup-requires
     commit-maybe-requires
     to-r-requires

@@ -138,7 +138,7 @@ commit-none-requires-9 c κs = search needs
 execute-loop-requires : tie.Need-execute-loop-requires
 execute-loop-requires c κs =
     let n = c .before .before .before .match .rest in
-    let q = loop-quarter (past 0x4B (past 0x4A (past 0x49 (past 0x48 (past 0x47 (past 0x46 (past 0x45 (past 0x44 (past 0x43 (past 0x42 (c .before .before .before .before .before .pre .1 .1) (n .0 .0 .0 .0 .0 .0 .0 .0 .0 .0 .0 .0 .0 .0 .0 .0 .1)) (n .0 .0 .0 .0 .0 .0 .0 .0 .0 .0 .0 .0 .0 .0 .0 .1)) (n .0 .0 .0 .0 .0 .0 .0 .0 .0 .0 .0 .0 .0 .0 .1)) (n .0 .0 .0 .0 .0 .0 .0 .0 .0 .0 .0 .0 .0 .1)) (n .0 .0 .0 .0 .0 .0 .0 .0 .0 .0 .0 .0 .1)) (n .0 .0 .0 .0 .0 .0 .0 .0 .0 .0 .0 .1)) (n .0 .0 .0 .0 .0 .0 .0 .0 .0 .0 .1)) (n .0 .0 .0 .0 .0 .0 .0 .0 .0 .1)) (n .0 .0 .0 .0 .0 .0 .0 .0 .1)) (n .0 .0 .0 .0 .0 .0 .0 .1)) (c .before .if2 .taken) in
+    let q = loop-quarter (past 0x4B (past 0x4A (past 0x49 (past 0x48 (past 0x47 (past 0x46 (past 0x45 (past 0x44 (past 0x43 (past 0x42 (c .before .before .before .before .before .pre .1) (n .0 .0 .0 .0 .0 .0 .0 .0 .0 .0 .0 .0 .0 .0 .0 .0 .1)) (n .0 .0 .0 .0 .0 .0 .0 .0 .0 .0 .0 .0 .0 .0 .0 .1)) (n .0 .0 .0 .0 .0 .0 .0 .0 .0 .0 .0 .0 .0 .0 .1)) (n .0 .0 .0 .0 .0 .0 .0 .0 .0 .0 .0 .0 .0 .1)) (n .0 .0 .0 .0 .0 .0 .0 .0 .0 .0 .0 .0 .1)) (n .0 .0 .0 .0 .0 .0 .0 .0 .0 .0 .0 .1)) (n .0 .0 .0 .0 .0 .0 .0 .0 .0 .0 .1)) (n .0 .0 .0 .0 .0 .0 .0 .0 .0 .1)) (n .0 .0 .0 .0 .0 .0 .0 .0 .1)) (n .0 .0 .0 .0 .0 .0 .0 .1)) (c .before .if2 .taken) in
     (search needs, q)
 
 returns : tie.Need-returns
@@ -281,7 +281,7 @@ unfolding dispatch.executeOf plain.plainOf
 returns-20 c =
     let n = c .before .before .before .before .match .rest in
     let a = c .before .before .before .before .before .before in
-    let above : 0x50 ≤ a .args .opcode = either (c .before .before .before .if1 .came) (λ t. absurd (omega (arith, t .taken, a .pre .1 .1))) (λ e. e .1 .left) in
+    let above : 0x50 ≤ a .args .opcode = either (c .before .before .before .if1 .came) (λ t. absurd (omega (arith, t .taken, a .pre .1))) (λ e. e .1 .left) in
     rw (illegal-is (a .args .opcode) (record { above = (past 0x55 (past 0x54 (past 0x53 (past 0x52 (past 0x51 (past 0x50 above (n .0 .0 .0 .0 .0 .0 .1)) (n .0 .0 .0 .0 .0 .1)) (n .0 .0 .0 .0 .1)) (n .0 .0 .0 .1)) (n .0 .0 .1)) (n .0 .1)); library = (n .1); last = c .before .before .if3 .left }))
     (c .commit-none10 .ensures)
 
