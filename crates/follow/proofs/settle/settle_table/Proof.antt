@@ -51,7 +51,9 @@ part-lefts-end : tie.Need-part-lefts-end
 part-lefts-end c = omega (arith, items-most (c .before .before .before .before .before .before .before .args .kinds .now) (c .before .before .before .before .before .before .before .args .operands .now) (c .before .before .before .before .before .before .before .pre .0))
 
 fill-table-requires : tie.Need-fill-table-requires
-fill-table-requires c κs = search needs
+fill-table-requires c κs =
+    let pre = c .before .before .before .before .before .before .before .before .before .pre in
+    (pre .0, (record { entries-length = search needs; marks-length = search needs; ats-length = search needs; nexts-length = search needs; lefts-length = search needs }, pre .1))
 
 same-length : tie.Need-same-length
 same-length c = search needs
