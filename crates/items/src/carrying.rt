@@ -28,6 +28,7 @@ use machine::Registers;
 use machine::Turn;
 use machine::ending::handle;
 use machine::ending::throw;
+use machine::fixed::BAD_STACK;
 use shapes::Shape;
 use shapes::carrying::commit_shape;
 
@@ -53,7 +54,7 @@ fn act_along(
     way: Way,
 ) -> Carried
     requires { ⌜ places.Whole (now memory) ⌝ }
-    requires { ⌜ shapes.Fits (length (now memory)) shape ⌝ }
+    requires { ⌜ shapes.Fits shape ⌝ }
     ensures { λ c. ⌜ stands.left (now (memory .exit)) c ≡ stands.leaves (now (memory .entry)) (ways.along way (ways.steppedTo (stands.positionOf (now (memory .entry)) s) (commits.commitOf machine (now (memory .entry)) r (shapes.shapeEffect machine (now (memory .entry)) shape)))) ⌝ }
 {
     match way {
@@ -86,7 +87,7 @@ fn end(machine: Machine, memory: &mut [u8], r: Registers, cause: Cause) -> Turn
             }
             Turn {
                 registers: r,
-                ended: Ended::Stopped(0xFFFFFEFE),
+                ended: Ended::Stopped(BAD_STACK),
             }
         }
     }
@@ -131,7 +132,7 @@ fn perform(
 ) -> Carried
     requires { ⌜ places.Whole (now memory) ⌝ }
     requires { ⌜ 16 ≤ length (now memory) ⌝ }
-    requires { ⌜ shapes.Fits (length (now memory)) shape ⌝ }
+    requires { ⌜ shapes.Fits shape ⌝ }
     ensures { λ c. ⌜ stands.left (now (memory .exit)) c ≡ stands.leaves (now (memory .entry)) (ways.performed machine (stands.positionOf (now (memory .entry)) s) r (shapes.shapeEffect machine (now (memory .entry)) shape) intent) ⌝ }
 {
     match intent {

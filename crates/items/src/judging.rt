@@ -25,6 +25,9 @@ use list_machine::Outside;
 use machine::Access;
 use machine::Machine;
 use machine::Then;
+use machine::fixed::BAD_HANDLER;
+use machine::fixed::BAD_STACK;
+use machine::fixed::HANDLER_CELL;
 use machine::places::check_place;
 use shapes::Shape;
 use shapes::judging::check_shape;
@@ -39,7 +42,7 @@ fn handler_way(machine: Machine, memory: &[u8], table: &[u32], base: Address, h:
 {
     let place = check_place(machine, Access::Stream, memory.len(), h);
     let Checked::Good = place else {
-        return Way::Halt(0xFFFFFEFD);
+        return Way::Halt(BAD_HANDLER);
     };
     to_entry(Outside::NoHandler, entry_at(table, base, h))
 }
@@ -55,15 +58,15 @@ fn throw_way(machine: Machine, memory: &[u8], table: &[u32], image: Image, sp: u
     let a = Address(subtract(sp, 4));
     let place = check_place(machine, Access::Push, memory.len(), a);
     let Checked::Good = place else {
-        return Way::Halt(0xFFFFFEFE);
+        return Way::Halt(BAD_STACK);
     };
-    if meets(a.0, 4, base.0, address_at(base, cells).0) {
+    if meets(a, 4, base, address_at(base, cells)) {
         return Way::Outside(Outside::WritesImage);
     }
     if a.0 == 0 {
         return handler_way(machine, memory, table, base, Address(fault_code(f)));
     }
-    let handler = load(machine.order, memory, 0);
+    let handler = load(machine.order, memory, HANDLER_CELL);
     handler_way(machine, memory, table, base, Address(handler))
 }
 
@@ -74,10 +77,10 @@ fn given_way(machine: Machine, memory: &[u8], table: &[u32], base: Address, sp: 
     ensures { λ w. ⌜ w ≡ ways.givenWay machine (now (memory .entry)) (tables.entryBelow (now (table .entry)) (base .0) (tables.rows (now (table .entry)))) sp ⌝ }
 {
     if sp % 4 == 0 {
-        let handler = load(machine.order, memory, 0);
+        let handler = load(machine.order, memory, HANDLER_CELL);
         return handler_way(machine, memory, table, base, Address(handler));
     }
-    Way::Halt(0xFFFFFEFE)
+    Way::Halt(BAD_STACK)
 }
 
 // The item after this one.
@@ -129,7 +132,7 @@ pub fn intent_of(
     shape: Shape,
 ) -> Intent
     requires { ⌜ 4 ≤ length (now memory) ⌝ }
-    requires { ⌜ shapes.Fits (length (now memory)) shape ⌝ }
+    requires { ⌜ shapes.Fits shape ⌝ }
     requires { ⌜ tables.Near (now table) (image .base .0) ⌝ }
     requires { ⌜ (0 < image .cells .0) × (image .base .0 + 4 * image .cells .0 < 2 ^ 32) ⌝ }
     requires { ⌜ s .item .0 < tables.rows (now table) ⌝ }
@@ -144,7 +147,7 @@ pub fn intent_of(
             Intent::End(Cause::Raised(f), way)
         }
         Checked::Good => {
-            if writes(machine, memory, shape, base.0, address_at(base, cells).0) {
+            if writes(machine, memory, shape, base, address_at(base, cells)) {
                 return Intent::Act(Way::Outside(Outside::WritesImage));
             }
             intent_then(machine, memory, table, base, s, then_of(shape))

@@ -36,7 +36,7 @@ budgeted order base m sp rp r q a =
       rp-is = a .rp;
     }
   where
-    abbrev given : Registers
+    given : Registers
     given = firstRegisters (machineOf order) base m sp rp
 
     s : Turned

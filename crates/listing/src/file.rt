@@ -1,7 +1,7 @@
 // Listings as files.
 use cell::Judged;
 use cell::Refusal;
-use cell::memory::load;
+use cell::memory::load_at;
 ghost use mathlib.Core.Path.{_≡_};
 ghost use Prim.Native.Nat.{_+_, _*_, _≤_};
 ghost use lib.ListN.{length};
@@ -12,7 +12,7 @@ pub fn cell_at(file: &[u8], a: usize) -> u32
     requires { ⌜ a + 4 ≤ length (now file) ⌝ }
     ensures { λ r. ⌜ r ≡ leastFirst (now (file .entry)) a ⌝ }
 {
-    load(0, file, a)
+    load_at(0, file, a)
 }
 
 // The length of a file against its count of items.

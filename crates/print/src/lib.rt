@@ -1,6 +1,6 @@
 // What the packing programs print: the cells of an image, one a line, or a refusal's number.
 use cell::CellCount;
-use cell::memory::load;
+use cell::memory::load_at;
 use io::print_decimal;
 use io::write_all;
 use libc::STDOUT_FILENO;
@@ -39,7 +39,7 @@ fn print_cells(output: &[u8], count: CellCount)
     let n = count.0 as usize;
     let mut i = 0;
     while i < n {
-        print_cell(load(0, output, 4 * i));
+        print_cell(load_at(0, output, 4 * i));
         i += 1;
     }
 }

@@ -37,13 +37,14 @@ fn begin(machine: Machine, memory: &mut [u8], ep: Address, handler: Address) -> 
     store(machine.order, memory, MEMORY_CELL, length);
     store(machine.order, memory, BAD_CELL, 0xFFFFFFFF);
     store(machine.order, memory, ADDRESS_CELL, 0xFFFFFFFF);
+    let sp = length - 0x100;
     next(
         machine,
         memory,
         Registers {
             ep: ep.0,
             a: 0,
-            sp: length - 0x100,
+            sp: sp,
             rp: length,
         },
     )

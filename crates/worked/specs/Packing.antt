@@ -3,14 +3,13 @@ use mathlib.Core.List.{List, [], _∷_, map}
 use Prim.Native.Nat.{ℕ, _+_}
 use Rattle.cell.specs.Memory.{storeCell}
 use Rattle.processor.specs.Answers.{StartAnswer, startAnswer, RunAnswer, runAnswer}
-use Rattle.layout.specs.Refusals.{accepted}
 use Rattle.layout.specs.Worked as packed
 use Rattle.worked.specs.Rows.{Row, numbers, lists}
 use Rattle.worked.specs.Processor.{blank}
 
 -- accepted, and packed to its cells
 abbrev pub packingRows : List Row
-packingRows = map (λ r. numbers (packed.rowJudged r) accepted ∷ lists (packed.rowImage r) (r .cells) ∷ []) packed.worked
+packingRows = map (λ r. numbers (packed.judgedNumber (packed.rowJudged r)) 0 ∷ lists (packed.rowImage r) (r .cells) ∷ []) packed.worked
 
 -- cells in a row from byte address a on
 abbrev pub laid : ℕ → List ℕ → ℕ → List ℕ → List ℕ

@@ -17,11 +17,11 @@ cast-n c = search needs
 loop-holds : tie.Need-loop-holds Inv-loop μ-loop
 loop-holds c = omega arith
 
-mul-load : tie.Need-mul-load Inv-loop μ-loop
-mul-load c = omega arith
+mul-load-at : tie.Need-mul-load-at Inv-loop μ-loop
+mul-load-at c = omega arith
 
-load-requires : tie.Need-load-requires Inv-loop μ-loop
-load-requires c κs = omega arith
+load-at-requires : tie.Need-load-at-requires Inv-loop μ-loop
+load-at-requires c κs = omega arith
 
 print-cell-requires : tie.Need-print-cell-requires Inv-loop μ-loop
 print-cell-requires c κs = search needs
@@ -46,8 +46,8 @@ print-cells-spec =
     μ-loop
     cast-n
     loop-holds
-    mul-load
-    load-requires
+    mul-load-at
+    load-at-requires
     print-cell-requires
     add-i
     loop-less

@@ -47,7 +47,7 @@ registers-at-requires : tie.Need-registers-at-requires
 registers-at-requires c κs = let args = c .before .before .before .before .before .before .before .before .before .before .before .before .before .args in let pre = c .before .before .before .before .before .before .before .before .before .before .before .before .before .pre in (in-rows (args .kinds .now) (args .operands .now) (args .table .now) (args .image) (pre .1 .0) (args .s .item .0) (pre .1 .1), next-near (args .kinds .now) (args .operands .now) (args .table .now) (args .image) (pre .1 .0) (args .s .item .0) (pre .1 .1))
 
 propose-plain-requires : tie.Need-propose-plain-requires
-propose-plain-requires c κs = let args = c .before .before .before .before .before .before .before .before .before .before .before .before .before .before .args in let pre = c .before .before .before .before .before .before .before .before .before .before .before .before .before .before .pre in (pre .0 .whole, (pre .0 .most, plain-some (getD (args .kinds .now) (args .s .item .0) 0) (sym (c .before .before .before .class-of .ensures) ∙ c .before .enum-told .given .1)))
+propose-plain-requires c κs = let args = c .before .before .before .before .before .before .before .before .before .before .before .before .before .before .args in let pre = c .before .before .before .before .before .before .before .before .before .before .before .before .before .before .pre in (pre .0 .whole, (plain-some (getD (args .kinds .now) (args .s .item .0) 0) (sym (c .before .before .before .class-of .ensures) ∙ c .before .enum-told .given .1)))
 
 enum-told-2 : tie.Need-enum-told-2
 enum-told-2 c = search needs
