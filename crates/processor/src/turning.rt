@@ -25,6 +25,7 @@ fn turn(machine: Machine, memory: &mut [u8], r: Registers) -> Turn
     requires { ⌜ 16 ≤ length (now memory) ⌝ }
     ensures { λ t. ⌜ throws.turnedTo (now (memory .exit)) t ≡ cycles.cycleOf machine (now (memory .entry)) r ⌝ }
 {
+    let opcode = r.a % 256;
     let s = execute_one(
         machine,
         memory,
@@ -34,7 +35,7 @@ fn turn(machine: Machine, memory: &mut [u8], r: Registers) -> Turn
             sp: r.sp,
             rp: r.rp,
         },
-        r.a % 256,
+        opcode,
     );
     finish(machine, memory, s)
 }

@@ -20,7 +20,7 @@ same-length c = search needs
 
 returns : tie.Need-returns
 unfolding cycles.cycleOf
-returns c = c .before .before .finish .ensures ∙ ap (throws.finishOf (c .before .before .before .before .before .before .before .before .before .before .before .args .machine)) (rw (c .before .before .before .before .before .before .before .before .shift-byte .ensures) at (c .before .before .before .before .before .before .execute-one .ensures))
+returns c = c .before .before .finish .ensures ∙ ap (throws.finishOf (c .before .before .before .before .before .before .before .before .before .before .before .args .machine)) (rw (c .before .before .before .before .before .before .before .shift-byte .ensures) at (c .before .before .before .before .before .before .execute-one .ensures))
 
 pub turn-spec : {M : Type 1} → statement M
 turn-spec =
