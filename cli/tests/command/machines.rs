@@ -105,7 +105,7 @@ fn many_items_are_followed() {
     let folder = Folder::new("many");
     folder.rule("5000 again: 1- DUP 0= ?BRANCH again HALT");
     let followed = folder.done("follow rule.lst --beside --items 30000");
-    let expected = "reason 0 (0h) after 20002 items and 20003 cycles\n";
+    let expected = "reason 0 after 20002 items and 20003 cycles\n";
     let last = followed.lines().last().expect("a last line");
     assert!(followed.ends_with(expected), "{last}");
 }
