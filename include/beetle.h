@@ -30,8 +30,8 @@ extern "C" {
 /* the list machine stopped in front of an item that it cannot carry out */
 #define BEETLE_STANDS_OUTSIDE 2
 
-/* why it stands outside: the item would write a byte of the image, transfer to no entry, throw to a
- * valid 'THROW that is no entry, or run on past the last item */
+/* why it stands outside: a write of the item would fall into the image; it jumps to where no entry
+ * stands; its throw finds no entry at a usable 'THROW; no item follows it */
 #define BEETLE_WRITES_IMAGE 1
 #define BEETLE_NO_ENTRY 2
 #define BEETLE_NO_HANDLER 3
