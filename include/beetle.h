@@ -121,10 +121,10 @@ int32_t beetle_list_run(
     uint32_t items,
     uint32_t *out, size_t out_length);
 
-/* The same, taken up at `item`. `ran` is 1 (as any number but 0) where the item was run on into, by
- * no taken branch, call, return or throw, from an item not in its immediate form: such an item
- * counts two cycles if it opens a cell. An item past the last one stands outside. A run cut in two
- * at any item is the whole run, items and cycles added. */
+/* The same, taken up at `item`. `ran` is 1 (as any number but 0) where the machine came from the
+ * item before it without a jump, and that item does not hold its value beside its opcode: reached
+ * so, an item at the start of a cell counts two cycles. An item that the listing does not have
+ * stands outside. A run cut in two at any item is the whole run, items and cycles added. */
 int32_t beetle_list_resume(
     uint8_t order,
     const uint8_t *kinds, size_t kinds_length,

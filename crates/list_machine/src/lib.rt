@@ -2,8 +2,8 @@
 ghost use mathlib.Core.Path.{_≡_};
 ghost use Rattle.list_machine.specs.Outsides as outsides;
 
-// Why the machine stops outside, in front of an item: the item would write a byte of the image, transfer to no entry, throw to a valid 'THROW that is
-// no entry, or run on past the end.
+// Why the machine stops in front of an item: one of its writes would fall into the image; it jumps to where no entry stands; its throw finds no entry
+// at a usable 'THROW; no item follows it.
 pub enum Outside {
     WritesImage,
     NoEntry,
