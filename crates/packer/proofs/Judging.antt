@@ -21,7 +21,7 @@ use Rattle.layout.specs.Packing.{layout, imageCells, judgedPlace}
 use Rattle.layout.proofs.Listing.{some-item}
 use Rattle.layout.proofs.Placing.{at-most}
 use Rattle.layout.proofs.Packing.{base-of}
-use Rattle.packer.specs.Judgement.{judgeOrder, judgeRoom, judgeInput, judgeImage, judgeListing, judgeAll, judgePack}
+use Rattle.packer.specs.Judgement.{judgeOrder, judgeRoom, judgeInput, judgeImage, judgeAll, judgePack}
 
 -- four judgements in order: where the first two turn back, they decide; where they pass, the last two do
 halves : (a b c d : Judged) → inOrder (a ∷ b ∷ c ∷ d ∷ []) ≡ after (inOrder (a ∷ b ∷ [])) (inOrder (c ∷ d ∷ []))
@@ -95,9 +95,3 @@ pub pack-counted : (order : ℕ) (kinds operands : List ℕ) (base size : ℕ) (
     → j ≡ judgeImage base (cells .0) size → j ≡ judgePack order kinds operands base size
 pack-counted order kinds operands base size cells j p e q =
     q ∙ ap (λ (x : CellCount). judgeImage base (x .0) size) e ∙ sym (rw (pack-halves, p))
-
-pub listing-counted : (kinds operands : List ℕ) (base : ℕ) (cells : CellCount) (j : Judged)
-    → judgedArrays kinds operands ≡ Passed → cells ≡ cellCount (imageCells (listed kinds operands))
-    → j ≡ judgedPlace base (cells .0) → j ≡ judgeListing kinds operands base
-unfolding judgeListing
-listing-counted kinds operands base cells j p e q = q ∙ ap (λ (x : CellCount). judgedPlace base (x .0)) e ∙ rw p (sym (last-one _))

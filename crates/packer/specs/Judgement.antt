@@ -36,11 +36,6 @@ judgeInput order kinds operands = inOrder (judgeOrder order ∷ judgedArrays kin
 unfoldable pub judgeImage : ℕ → ℕ → ℕ → Judged
 judgeImage base cells size = inOrder (judgedPlace base cells ∷ judgeRoom cells size ∷ [])
 
--- a listing and its base: the input list, -4104, -4110
-unfoldable pub judgeListing : List ℕ → List ℕ → ℕ → Judged
-judgeListing kinds operands base =
-    inOrder (judgedArrays kinds operands ∷ judgedPlace base (imageCells (listed kinds operands)) ∷ [])
-
 -- a packing of a listing with a given judgement of the input list: -4102, input list, -4104 and -4110, -4105
 abbrev pub judgeAll : ℕ → Judged → ℕ → Listing → ℕ → Judged
 judgeAll order input base l size =

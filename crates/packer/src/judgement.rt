@@ -50,16 +50,6 @@ pub fn judge_image(base: Address, cells: CellCount, size: usize) -> Judged
     }
 }
 
-// A listing and its base.
-pub fn judge_listing(kinds: &[u8], operands: &[u32], base: Address) -> Judged
-    ensures { λ r. ⌜ r ≡ judgement.judgeListing (now (kinds .entry)) (now (operands .entry)) (base .0) ⌝ }
-{
-    match judge_arrays(kinds, operands) {
-        Judged::Refused(r) => Judged::Refused(r),
-        Judged::Passed => judge_place(base, count_cells(kinds, operands)),
-    }
-}
-
 // A packing into an output of some size.
 pub fn judge_pack(order: u8, kinds: &[u8], operands: &[u32], base: Address, size: usize) -> Judged
     ensures { λ r. ⌜ r ≡ judgement.judgePack order (now (kinds .entry)) (now (operands .entry)) (base .0) size ⌝ }
