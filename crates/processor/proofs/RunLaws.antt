@@ -6,9 +6,12 @@ use Prim.Native.Nat.{ℕ, zero, suc, _+_, _-_, _<_, _≤_}
 use native.Mathlib.Omega.{arith}
 use lib.ListN.{length}
 use borrow.Author.Tests.{eqb-true, eqb-false}
-use Rattle.machine.specs.Throws.{Turned, turnedTo}
+use Rattle.machine.specs.Commits.{stepped}
+use Rattle.machine.specs.Throws.{Turned, turnedTo, finishOf}
 use Rattle.machine.specs.declared.Machine.{Machine}
 use Rattle.machine.specs.declared.Turn.{Turn}
+use Rattle.machine.specs.declared.Step.{Step}
+use Rattle.machine.specs.declared.Outcome.the-variants as outcome
 use Rattle.machine.specs.declared.Ended.{Ended}
 use Rattle.machine.specs.declared.Ended.the-variants.{Went, Threw, Stopped}
 use Rattle.processor.specs.Cycles.{cycleOf, advance, cyclesOf}
@@ -24,10 +27,10 @@ pub record Running (machine : Machine) (m0 : List ℕ) (t0 : Turn) (budget : ℕ
   pub here : turnedTo m t ≡ cyclesOf machine (budget - left) (turnedTo m0 t0)
   pub ahead : doneOf machine budget (turnedTo m0 t0) ≡ (budget - left) + doneOf machine left (turnedTo m t)
 
--- the state after one cycle more, and the count so far
-pub record Done (machine : Machine) (m0 : List ℕ) (t0 : Turn) (budget done : ℕ) (m : List ℕ) (t : Turn) : Type 0 where
-  pub count : done ≡ doneOf machine budget (turnedTo m0 t0)
-  pub state : turnedTo m t ≡ cyclesOf machine done (turnedTo m0 t0)
+-- a run that has come to its end: what is left and what was done make the budget, and the state is that after what was done
+pub record Done (machine : Machine) (m0 : List ℕ) (t0 : Turn) (budget left : ℕ) (m : List ℕ) (t : Turn) : Type 0 where
+  pub count : left + doneOf machine budget (turnedTo m0 t0) ≡ budget
+  pub state : turnedTo m t ≡ cyclesOf machine (doneOf machine budget (turnedTo m0 t0)) (turnedTo m0 t0)
 
 counted-last : (e : Ended) (left : ℕ) (machine : Machine) (s : Turned) → isLast e left ≡ true → counted e (doneOf machine left s) ≡ 1
 unfolding doneOf
@@ -67,14 +70,11 @@ module _ (machine : Machine) (m0 : List ℕ) (t0 : Turn) (budget : ℕ) where
     unfolding doneOf
     count-is = rw next-is
 
-    pub run-stops : isLast (t2 .ended) left ≡ true → Done machine m0 t0 budget (budget - left) m2 t2
+    pub run-stops : isLast (t2 .ended) left ≡ true → Done machine m0 t0 budget left m2 t2
     run-stops q =
-        record {
-          count =
-              let c : doneOf machine (suc left) (turnedTo m t) ≡ 1 = count-is ∙ counted-last (t2 .ended) left machine (turnedTo m2 t2) q in
-              sym (s .ahead ∙ rw c (let w = s .within in omega arith));
-          state = after;
-        }
+        let c : doneOf machine (suc left) (turnedTo m t) ≡ 1 = count-is ∙ counted-last (t2 .ended) left machine (turnedTo m2 t2) q in
+        let d : doneOf machine budget (turnedTo m0 t0) ≡ budget - left = s .ahead ∙ rw c (let w = s .within in omega arith) in
+        record { count = rw d (let w = s .within in omega arith); state = rw d after }
 
     pub run-turns : length m2 ≡ length m → isLast (t2 .ended) left ≡ false → Running machine m0 t0 budget m2 t2 left
     run-turns l q =
@@ -90,30 +90,44 @@ module _ (machine : Machine) (m0 : List ℕ) (t0 : Turn) (budget : ℕ) where
         }
 
   pub run-ends : (m : List ℕ) (t : Turn) → Running machine m0 t0 budget m t 0
-      → Done machine m0 t0 budget budget m (record { registers = t .registers; ended = Went })
+      → Done machine m0 t0 budget 0 m (record { registers = t .registers; ended = Went })
   unfolding doneOf
   run-ends m t s =
       let z : budget - 0 ≡ budget = omega arith in
-      record {
-        count = sym (s .ahead ∙ rw z (omega arith));
-        state = rw (← s .spent refl) (rw z at (s .here));
-      }
+      let d : doneOf machine budget (turnedTo m0 t0) ≡ budget = s .ahead ∙ rw z (omega arith) in
+      record { count = rw d (omega arith); state = rw d (rw (← s .spent refl) (rw z at (s .here))) }
 
--- the same, as the code counts the budget down
-module _ (machine : Machine) (m0 : List ℕ) (t0 : Turn) (budget : ℕ) (m : List ℕ) (t : Turn) (k : ℕ)
-    (s : Running machine m0 t0 budget m t k) where
-  module _ (h : 0 < k) (m2 : List ℕ) (t2 : Turn) (e : turnedTo m2 t2 ≡ cycleOf machine m (t .registers)) where
-    earlier : Running machine m0 t0 budget m t (suc (k - 1))
-    earlier = let n : k ≡ suc (k - 1) = omega arith in rw n at s
+-- what the loop keeps: it carries the registers from cycle to cycle, and not how the last cycle ended
+pub record Looping (machine : Machine) (m0 : List ℕ) (r0 : Registers) (budget : ℕ) (m : List ℕ) (r : Registers) (left : ℕ) : Type 0 where
+  pub last : Ended
+  pub running : Running machine m0 (record { registers = r0; ended = Went }) budget m (record { registers = r; ended = last }) left
 
-    pub stops-at : isLast (t2 .ended) (k - 1) ≡ true → Done machine m0 t0 budget (budget - (k - 1)) m2 t2
-    stops-at q = run-stops machine m0 t0 budget m t (k - 1) earlier m2 t2 e q
+module _ (machine : Machine) (m0 : List ℕ) (r0 : Registers) (budget : ℕ) where
+  pub loop-begins : Looping machine m0 r0 budget m0 r0 budget
+  loop-begins = record { last = Went; running = run-begins machine m0 _ budget refl }
 
-    pub turns-at : length m2 ≡ length m → isLast (t2 .ended) (k - 1) ≡ false → Running machine m0 t0 budget m2 t2 (k - 1)
-    turns-at l q = run-turns machine m0 t0 budget m t (k - 1) earlier m2 t2 e l q
+  module _ (m : List ℕ) (r : Registers) (k : ℕ) (s : Looping machine m0 r0 budget m r k) where
+    module _ (h : 0 < k) (m2 : List ℕ) (t2 : Turn) (e : turnedTo m2 t2 ≡ cycleOf machine m r) where
+      earlier : Running machine m0 (record { registers = r0; ended = Went }) budget m (record { registers = r; ended = s .last }) (suc (k - 1))
+      earlier = let n : k ≡ suc (k - 1) = omega arith in rw n at (s .running)
 
-  pub ends-at : k ≤ 0 → Done machine m0 t0 budget budget m (record { registers = t .registers; ended = Went })
-  ends-at h = let n : k ≡ 0 = omega arith in run-ends machine m0 t0 budget m t (rw n at s)
+      pub stops-at : isLast (t2 .ended) (k - 1) ≡ true
+          → Done machine m0 (record { registers = r0; ended = Went }) budget (k - 1) m2 t2
+      stops-at q = run-stops machine m0 _ budget m _ (k - 1) earlier m2 t2 e q
+
+      pub loops-at : length m2 ≡ length m → isLast (t2 .ended) (k - 1) ≡ false → Looping machine m0 r0 budget m2 (t2 .registers) (k - 1)
+      loops-at l q =
+          record { last = t2 .ended; running = run-turns machine m0 _ budget m _ (k - 1) earlier m2 t2 e l q }
+
+    pub ends-at : k ≤ 0
+        → Done machine m0 (record { registers = r0; ended = Went }) budget 0 m (record { registers = r; ended = Went })
+    ends-at h = let n : k ≡ 0 = omega arith in run-ends machine m0 _ budget m _ (rw n at (s .running))
+
+-- an instruction that asks for nothing more has ended its cycle
+pub went : (machine : Machine) (m : List ℕ) (s : Step) → s .outcome ≡ outcome.Went
+    → turnedTo m (record { registers = s .registers; ended = Went }) ≡ finishOf machine (stepped m s)
+unfolding finishOf
+went machine m s q = rw q
 
 pub counted-first : (e : Ended) → counted e 0 ≡ 1
 counted-first Went = refl
@@ -121,9 +135,8 @@ counted-first (Threw f) = refl
 counted-first (Stopped x) = refl
 
 -- a run with a budget of one is a cycle
-pub one-cycle : (machine : Machine) (m : List ℕ) (r : Registers) (d : ℕ) (s : Turned) → d ≡ doneOf machine 1 (begun m r)
-    → s ≡ cyclesOf machine d (begun m r) → s ≡ cycleOf machine m r
+pub one-cycle : (machine : Machine) (m : List ℕ) (r : Registers) (s : Turned)
+    → s ≡ cyclesOf machine (doneOf machine 1 (begun m r)) (begun m r) → s ≡ cycleOf machine m r
 unfolding doneOf cyclesOf
-one-cycle machine m r d s e q =
-    let n : d ≡ 1 = e ∙ counted-first (advance machine (begun m r) .turn .ended) in
-    (rw n at q) ∙ goes machine (begun m r) refl
+one-cycle machine m r s q =
+    (rw (counted-first (advance machine (begun m r) .turn .ended)) at q) ∙ goes machine (begun m r) refl

@@ -1,6 +1,6 @@
 // The entry points. None requires anything: a bad memory length or byte order is refused, and then nothing is written.
 ghost use mathlib.Core.Path.{_≡_};
-ghost use Prim.Native.Nat.{_≤_};
+ghost use Prim.Native.Nat.{_≤_, _-_};
 ghost use lib.ListN.{length};
 ghost use Rattle.machine.specs.Places as places;
 ghost use Rattle.machine.specs.Throws as throws;
@@ -96,8 +96,9 @@ pub fn cycle(order: u8, memory: &mut [u8], r: Registers) -> Cycled
     }
 }
 
-fn ran_as(t: Progress) -> Ran
-    ensures { λ a. ⌜ a ≡ answers.ranAs (t .turn .registers) (t .done) (t .turn .ended) ⌝ }
+fn ran_as(t: Progress, budget: u32) -> Ran
+    requires { ⌜ t .left ≤ budget ⌝ }
+    ensures { λ a. ⌜ a ≡ answers.ranAs (t .turn .registers) (budget - t .left) (t .turn .ended) ⌝ }
 {
     let u = t.turn;
     let r = u.registers;
@@ -105,7 +106,7 @@ fn ran_as(t: Progress) -> Ran
     match ended {
         Ended::Went => Ran::Spent(r),
         Ended::Threw(_) => Ran::Spent(r),
-        Ended::Stopped(x) => Ran::Stopped(r, x, t.done),
+        Ended::Stopped(x) => Ran::Stopped(r, x, budget - t.left),
     }
 }
 
@@ -114,6 +115,6 @@ pub fn run(order: u8, memory: &mut [u8], r: Registers, budget: u32) -> Ran
 {
     match judge_machine(memory.len(), order) {
         Judged::Refused(n) => Ran::Refused(n),
-        Judged::Passed => ran_as(turns(Machine { order: order }, memory, r, budget)),
+        Judged::Passed => ran_as(turns(Machine { order: order }, memory, r, budget), budget),
     }
 }

@@ -1,29 +1,67 @@
 // One cycle, and a number of them.
 ghost use mathlib.Core.Path.{_≡_};
-ghost use Prim.Native.Nat.{_≤_};
+ghost use Prim.Native.Nat.{_≤_, _+_};
 ghost use lib.ListN.{length};
+ghost use Rattle.machine.specs.Commits as commits;
 ghost use Rattle.machine.specs.Places as places;
 ghost use Rattle.machine.specs.Throws as throws;
 ghost use Rattle.processor.specs.Cycles as cycles;
 ghost use Rattle.processor.specs.Answers as answers;
+use cell::Address;
+use cell::Fetched;
+use cell::number::add;
 use cell::number::shift_byte;
+use cell::place::fault_in;
 use dispatch::first::execute_one;
+use machine::Access;
 use machine::Ended;
 use machine::Machine;
+use machine::Outcome;
 use machine::Registers;
+use machine::Step;
 use machine::Turn;
 use machine::ending::finish;
+use machine::places::fetch;
 
-// The cycles of a run that were done, and how the last one ended.
+// What a run has left of its budget, and how its last cycle ended.
 pub struct Progress {
     pub turn: Turn,
-    pub done: u32,
+    pub left: u32,
 }
 
-fn turn(machine: Machine, memory: &mut [u8], r: Registers) -> Turn
+// NEXT's fetch, where the instruction asks for it. What is still to be done of the cycle is then nothing, a throw or a stop.
+fn fetch_next(machine: Machine, memory: &[u8], s: Step) -> Step
+    requires { ⌜ places.Whole (now memory) ⌝ }
+    ensures { λ t. ⌜ throws.finishOf machine (commits.stepped (now (memory .entry)) t) ≡ throws.finishOf machine (commits.stepped (now (memory .entry)) s) ⌝ }
+{
+    let outcome = s.outcome;
+    let Outcome::Next = outcome else {
+        return s;
+    };
+    let r = s.registers;
+    let got = fetch(machine, Access::Stream, memory, Address(r.ep));
+    let Fetched::Cell(x) = got else {
+        return Step {
+            registers: r,
+            outcome: Outcome::Raise(fault_in(got)),
+        };
+    };
+    Step {
+        registers: Registers {
+            ep: add(r.ep, 4),
+            a: x,
+            sp: r.sp,
+            rp: r.rp,
+        },
+        outcome: Outcome::Went,
+    }
+}
+
+// A cycle but for its throw or stop.
+fn execute(machine: Machine, memory: &mut [u8], r: Registers) -> Step
     requires { ⌜ places.Whole (now memory) ⌝ }
     requires { ⌜ 16 ≤ length (now memory) ⌝ }
-    ensures { λ t. ⌜ throws.turnedTo (now (memory .exit)) t ≡ cycles.cycleOf machine (now (memory .entry)) r ⌝ }
+    ensures { λ s. ⌜ throws.finishOf machine (commits.stepped (now (memory .exit)) s) ≡ cycles.cycleOf machine (now (memory .entry)) r ⌝ }
 {
     let opcode = r.a % 256;
     let s = execute_one(
@@ -37,7 +75,7 @@ fn turn(machine: Machine, memory: &mut [u8], r: Registers) -> Turn
         },
         opcode,
     );
-    finish(machine, memory, s)
+    fetch_next(machine, memory, s)
 }
 
 // Whether a run ends with this cycle: it stopped, or it threw and the budget is spent.
@@ -56,31 +94,37 @@ fn is_last(ended: Ended, left: u32) -> bool
 pub fn turns(machine: Machine, memory: &mut [u8], r: Registers, budget: u32) -> Progress
     requires { ⌜ places.Whole (now memory) ⌝ }
     requires { ⌜ 16 ≤ length (now memory) ⌝ }
-    ensures { λ t. ⌜ t .done ≡ answers.doneOf machine budget (answers.begun (now (memory .entry)) r) ⌝ }
-    ensures { λ t. ⌜ throws.turnedTo (now (memory .exit)) (t .turn) ≡ cycles.cyclesOf machine (t .done) (answers.begun (now (memory .entry)) r) ⌝ }
+    ensures { λ t. ⌜ t .left + answers.doneOf machine budget (answers.begun (now (memory .entry)) r) ≡ budget ⌝ }
+    ensures { λ t. ⌜ throws.turnedTo (now (memory .exit)) (t .turn) ≡ cycles.cyclesOf machine (answers.doneOf machine budget (answers.begun (now (memory .entry)) r)) (answers.begun (now (memory .entry)) r) ⌝ }
 {
-    let mut last = Turn {
-        registers: r,
-        ended: Ended::Went,
-    };
+    let mut registers = r;
     let mut left = budget;
     while 0 < left {
-        last = turn(machine, memory, last.registers);
-        left -= 1;
-        let ended = last.ended;
-        if is_last(ended, left) {
-            return Progress {
-                turn: last,
-                done: budget - left,
-            };
+        let s = execute(machine, memory, registers);
+        let outcome = s.outcome;
+        match outcome {
+            Outcome::Went => {
+                registers = s.registers;
+            }
+            _ => {
+                let t = finish(machine, memory, s);
+                let ended = t.ended;
+                if is_last(ended, left - 1) {
+                    return Progress {
+                        turn: t,
+                        left: left - 1,
+                    };
+                }
+                registers = t.registers;
+            }
         }
+        left -= 1;
     }
-    let registers = last.registers;
     Progress {
         turn: Turn {
             registers: registers,
             ended: Ended::Went,
         },
-        done: budget,
+        left: 0,
     }
 }

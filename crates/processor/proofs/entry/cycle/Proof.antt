@@ -34,7 +34,7 @@ same-length c = search needs
 
 returns-2 : tie.Need-returns-2
 unfolding answers.cycleAnswer
-returns-2 c = rw (sym (c .before .before .before .before .before .before .before .before .judge-machine .ensures) ∙ c .before .before .before .before .before .before .enum-told .given .1, c .cycled-as .ensures, ← one-cycle _ _ _ _ _ (c .before .before .before .before .turns .ensures .0) (c .before .before .before .before .turns .ensures .1))
+returns-2 c = rw (sym (c .before .before .before .before .before .before .before .before .judge-machine .ensures) ∙ c .before .before .before .before .before .before .enum-told .given .1, c .cycled-as .ensures, ← one-cycle _ _ _ _ (c .before .before .before .before .turns .ensures .1))
 
 pub cycle-spec : {M : Type 1} → statement M
 cycle-spec =

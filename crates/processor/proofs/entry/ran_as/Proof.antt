@@ -12,6 +12,9 @@ enum-told-2 c = search needs
 enum-known-ended : tie.Need-enum-known-ended
 enum-known-ended c = search needs
 
+sub-t8 : tie.Need-sub-t8
+sub-t8 c = search needs
+
 returns : tie.Need-returns
 returns c = rw (c .enum-told .given .1)
 
@@ -19,8 +22,8 @@ returns-2 : tie.Need-returns-2
 returns-2 c = rw (c .enum-told2 .given .1)
 
 returns-3 : tie.Need-returns-3
-returns-3 c = rw (c .before .ended .given .1)
+returns-3 c = rw (c .before .before .ended .given .1)
 
 pub ran-as-spec : {M : Type 1} → statement M
 ran-as-spec =
-    tie.close (tie.spec enum-told enum-told-2 enum-known-ended returns returns-2 returns-3)
+    tie.close (tie.spec enum-told enum-told-2 enum-known-ended sub-t8 returns returns-2 returns-3)

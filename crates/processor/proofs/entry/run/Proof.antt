@@ -2,7 +2,7 @@
 use borrow.Author.Needs.{needs}
 use Rattle.processor.proofs.entry.run.Statement.{statement}
 use Rattle.processor.proofs.entry.run.Tie as tie
-use Rattle.processor.proofs.EntryLaws.{passed}
+use Rattle.processor.proofs.EntryLaws.{passed, done-is}
 use Rattle.processor.specs.Answers as answers
 use denote.Ref.{now}
 use lib.ListN.{length}
@@ -33,7 +33,9 @@ same-length c = search needs
 
 returns-2 : tie.Need-returns-2
 unfolding answers.runAnswer
-returns-2 c = rw (sym (c .before .before .before .before .before .before .before .judge-machine .ensures) ∙ c .before .before .before .before .before .enum-told .given .1, c .ran-as .ensures) (rw (← c .before .before .before .turns .ensures .0) (rw (← c .before .before .before .turns .ensures .1)))
+returns-2 c =
+    let t = c .before .before .before .turns in
+    rw (sym (c .before .before .before .before .before .before .before .judge-machine .ensures) ∙ c .before .before .before .before .before .enum-told .given .1, c .ran-as .ensures, done-is _ _ _ (t .ensures .0), ← t .ensures .1)
 
 pub run-spec : {M : Type 1} → statement M
 run-spec =
