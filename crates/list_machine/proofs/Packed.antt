@@ -45,11 +45,13 @@ same-cell order m bs base a n f h =
     let e3 : base + a + 3 ≡ base + (a + 3) = omega arith in
     rw (e1, e2, e3, f a (omega arith), f (a + 1) (omega arith), f (a + 2) (omega arith), f (a + 3) (omega arith))
 
+-- the bytes of an image from an address on are its cells there
+pub packed-cells : (order base : ℕ) (l : Listing) (m : List ℕ) (a : ℕ) → Legal base l
+    → ((i : ℕ) → i < 4 * imageCells l → getD m (a + i) 0 ≡ getD (bytesOf order (image base l)) i 0)
+    → (j : ℕ) → j < imageCells l → cellAt order m (a + 4 * j) ≡ getD (image base l) j 0
+packed-cells order base l m a ok bytes j c =
+    same-cell order m (bytesOf order (image base l)) a (4 * j) (4 * imageCells l) bytes (omega arith)
+    ∙ cell-there order (image base l) j (omega (arith, size-is base l ok)) (image-below base l ok)
+
 pub packed-holds : PackedHolds
-packed-holds machine base l m ok h =
-    record {
-      inside = h .inside;
-      cells = λ j c.
-          same-cell (machine .order) m (bytesOf (machine .order) (image base l)) base (4 * j) (4 * imageCells l) (h .bytes) (omega arith)
-          ∙ cell-there (machine .order) (image base l) j (omega (arith, size-is base l ok)) (image-below base l ok);
-    }
+packed-holds machine base l m ok h = record { inside = h .inside; cells = packed-cells (machine .order) base l m base ok (h .bytes) }

@@ -25,7 +25,7 @@ use Rattle.module.proofs.SameLaws.{copied-same, drop-bytewise, take-byt
 use Rattle.module.proofs.FileLaws.{module-length, module-code, module-order, module-count, module-good, module-cell, header-back}
 
 -- no refusal has the number 0
-refused : (r : Refusal) → refusalNumber r ≡ 0 → ⊥
+pub refused : (r : Refusal) → refusalNumber r ≡ 0 → ⊥
 refused MemoryLength e = omega arith
 refused ByteOrder e = omega arith
 refused Header e = omega arith

@@ -1,0 +1,5 @@
+-- The theorems.
+pub mod Packing
+pub mod Starting
+pub mod Approved
+pub mod Rows

@@ -1,0 +1,70 @@
+-- What an accepted packing is: a legal listing, and its image in the output.
+use mathlib.Core.Path.{_≡_, refl, sym, ap, _∙_}
+use mathlib.Core.List.{List, [], _∷_, _++_}
+use Prim.Native.Nat.{ℕ, zero, suc, _+_, _*_, _^_, _<_}
+use native.Mathlib.Omega.{arith}
+use lib.ListN.{length, getD, drop, List·getD-append}
+use Rattle.cell.specs.Memory.{Bytewise}
+use Rattle.cell.specs.Refusals.{judge, after, inOrder}
+use Rattle.cell.specs.declared.Judged.{Judged}
+use Rattle.cell.specs.declared.Judged.the-variants as judged
+use Rattle.cell.proofs.JudgementLaws.{both-pass}
+use Rattle.cell.proofs.MemoryLaws.{cell-below}
+use Rattle.layout.specs.Listing.{Listing, listed, judgedArrays}
+use Rattle.layout.specs.File.{filed, fileBase, fileCount, fileKinds, fileOperands, cellsFrom, judgedFile, judgedLength}
+use Rattle.layout.specs.Output.{bytesOf, written}
+use Rattle.layout.specs.Packing.{image, imageCells, judgedPlace, Legal}
+use Rattle.layout.proofs.Packing.{size-is}
+use Rattle.packer.specs.Judgement.{judgeOrder, judgeRoom, judgeAll, judgePack, judgePackFile}
+use Rattle.packer.specs.Pack.{PackResult, packIf, packOf, packFileOf}
+use Rattle.packer.proofs.Judging.{arrays-checked}
+use Rattle.module.proofs.Theorems.{refused}
+use Rattle.approved.specs.Approved.{Cells, Packs, ofArrays, ofFile}
+
+-- the listing is legal at the base, and the output begins with the bytes of its image
+pub record Made (order base : ℕ) (l : Listing) (p : PackResult) : Type 0 where
+  pub legal : Legal base l
+  pub counted : p .count ≡ imageCells l
+  pub bytes : (i : ℕ) → i < 4 * imageCells l → getD (p .output) i 0 ≡ getD (bytesOf order (image base l)) i 0
+
+bytes-length : (order : ℕ) (xs : List ℕ) → length (bytesOf order xs) ≡ 4 * length xs
+unfolding bytesOf
+bytes-length order [] = refl
+bytes-length zero (x ∷ xs) = omega (arith, bytes-length zero xs)
+bytes-length (suc order) (x ∷ xs) = omega (arith, bytes-length (suc order) xs)
+
+written-front : (order : ℕ) (xs out : List ℕ) (i : ℕ) → i < 4 * length xs → getD (written order xs out) i 0 ≡ getD (bytesOf order xs) i 0
+written-front order xs out i h = List·getD-append (bytesOf order xs) (drop (4 * length xs) out) 0 i (omega (arith, bytes-length order xs))
+
+-- a packing of two arrays, judged by j, that answered 0
+module _ (order base : ℕ) (kinds operands : List ℕ) (low : Cells operands) (out : List ℕ) where
+  made-of : (input : Judged) → (input ≡ judged.Passed → judgedArrays kinds operands ≡ judged.Passed)
+      → (j : Judged) → j ≡ judgeAll order input base (listed kinds operands) (length out)
+      → packIf j order base (listed kinds operands) out .number ≡ 0 → Made order base (listed kinds operands) (packIf j order base (listed kinds operands) out)
+  made-of input f (judged.Refused r) e q = absurd (refused r q)
+  made-of input f judged.Passed e q =
+      let s = both-pass (judgeOrder order) _ (sym e) in
+      let t = both-pass input _ (s .1) in
+      let u = both-pass (judgedPlace base (imageCells (listed kinds operands))) _ (t .1) in
+      let ok = arrays-checked kinds operands (f (t .0)) in
+      let legal : Legal base (listed kinds operands) =
+      record { input = ok .input; state = u .0; cell = λ i h. low i (omega (arith, ok .equal)) } in
+      record {
+        legal = legal;
+        counted = refl;
+        bytes = λ i h. written-front order (image base (listed kinds operands)) out i (omega (arith, size-is base (listed kinds operands) legal));
+      }
+
+operands-below : (s : List ℕ) (a k : ℕ) → Bytewise s → Cells (cellsFrom s a k)
+unfolding cellsFrom
+operands-below s a zero low i h = absurd (omega arith)
+operands-below s a (suc k) low zero h = cell-below 0 s a low
+operands-below s a (suc k) low (suc i) h = operands-below s (a + 4) k low i (omega arith)
+
+pub made : (order base : ℕ) (l : Listing) (p : PackResult) → Packs order base l p → p .number ≡ 0 → Made order base l p
+unfolding packOf packFileOf judgePack judgePackFile judgedFile
+made order _ _ _ (ofArrays kinds operands base output low) q =
+    made-of order base kinds operands low output (judgedArrays kinds operands) (λ e. e) _ refl q
+made order _ _ _ (ofFile file output low) q =
+    made-of order (fileBase file) (fileKinds file) (fileOperands file) (operands-below file (8 + fileCount file) (fileCount file) low) output (judgedFile file)
+    (λ e. both-pass (judgedLength file) (judgedArrays (fileKinds file) (fileOperands file)) e .1) _ refl q

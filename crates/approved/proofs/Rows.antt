@@ -1,0 +1,38 @@
+-- The rule of specs/Worked, computed on each of the four ways.
+use mathlib.Core.Path.{_≡_, refl}
+use lib.ListN.{replicate}
+use Rattle.cell.specs.Memory.{cellAt, storeCell}
+use Rattle.cell.specs.Number.{sum, difference}
+use Rattle.cell.specs.Shift.{asr8}
+use Rattle.cell.specs.Refusals.{judgeMachine}
+use Rattle.machine.specs.Places.{placeOf, fetchOf}
+use Rattle.machine.specs.Commits.{placesOf, storedOf, commitOf}
+use Rattle.machine.specs.Throws.{handlerOf, throwOf, nextOf, finishOf}
+use Rattle.instruction.specs.Plain.{plainOf}
+use Rattle.instruction.specs.Taking.{takingOf}
+use Rattle.instruction.specs.Dispatch.{decodeOf, executeOf}
+use Rattle.processor.specs.Cycles.{cycleOf, advance, cyclesOf, startOf}
+use Rattle.processor.specs.Answers.{startAnswer, doneOf, runAnswer}
+use Rattle.layout.specs.Kinds.{classOf}
+use Rattle.layout.specs.Bytes.{fits, pack}
+use Rattle.layout.specs.Listing.{any, entry, judgedFrom, judgedListing, judgedArrays}
+use Rattle.layout.specs.Layout.{cur}
+use Rattle.layout.specs.Image.{word, cells}
+use Rattle.layout.specs.Rounds.{rounds, settle, settled}
+use Rattle.layout.specs.Packing.{marks, image}
+use Rattle.layout.specs.Output.{bytesOf}
+use Rattle.packer.specs.Judgement.{judgeOrder, judgeRoom, judgePack}
+use Rattle.packer.specs.Pack.{packOf}
+use Rattle.module.specs.Format.{countOf, headerOf, moduleOf}
+use Rattle.module.specs.Grounds.{judgeLoad, judgeSave}
+use Rattle.module.specs.Copies.{copied}
+use Rattle.module.specs.Answers.{loadOf, saveOf}
+use Rattle.approved.specs.Worked.{ways, expected}
+
+pub from-least-first : ways 0 ≡ replicate 2 expected
+unfolding cellAt storeCell sum difference asr8 placeOf fetchOf placesOf storedOf commitOf handlerOf throwOf nextOf finishOf plainOf takingOf decodeOf executeOf cycleOf advance cyclesOf startOf judgeMachine startAnswer doneOf runAnswer classOf fits pack any entry judgedFrom judgedListing judgedArrays cur word cells rounds settle settled marks image bytesOf judgeOrder judgeRoom judgePack packOf countOf headerOf moduleOf judgeLoad judgeSave copied loadOf saveOf
+from-least-first = refl
+
+pub from-most-first : ways 1 ≡ replicate 2 expected
+unfolding cellAt storeCell sum difference asr8 placeOf fetchOf placesOf storedOf commitOf handlerOf throwOf nextOf finishOf plainOf takingOf decodeOf executeOf cycleOf advance cyclesOf startOf judgeMachine startAnswer doneOf runAnswer classOf fits pack any entry judgedFrom judgedListing judgedArrays cur word cells rounds settle settled marks image bytesOf judgeOrder judgeRoom judgePack packOf countOf headerOf moduleOf judgeLoad judgeSave copied loadOf saveOf
+from-most-first = refl

@@ -1,0 +1,68 @@
+-- A start at the base of an image in memory.
+use mathlib.Core.Path.{_≡_, refl, sym, ap, _∙_}
+use mathlib.Core.List.{List}
+use mathlib.Core.Logic.{_⊎_, inl, inr}
+use Prim.Native.Nat.{ℕ, _+_, _-_, _*_, _≤_, _<_}
+use native.Mathlib.Omega.{arith}
+use lib.ListN.{length, getD}
+use Rattle.cell.specs.Memory.{cellAt, storeCell, Alike}
+use Rattle.cell.specs.Refusals.{judgeMachine}
+use Rattle.cell.specs.declared.Judged.the-variants.{Passed}
+use Rattle.cell.specs.Number.{sum}
+use Rattle.cell.specs.declared.Fetched.the-variants.{Cell}
+use Rattle.cell.proofs.MemoryLaws.{cell-frame, cell-alike, alike-trans, store-length}
+use Rattle.machine.specs.Places.{fetchOf}
+use Rattle.machine.specs.Throws.{nextOf, handlerCell, memoryCell, badCell, addressCell}
+use Rattle.machine.specs.declared.Access.the-variants.{Stream}
+use Rattle.machine.specs.declared.Machine.{Machine}
+use Rattle.processor.specs.Cycles.{fourCells, startOf}
+use Rattle.processor.specs.Answers.{machineOf, startedTo, startAnswer}
+use Rattle.processor.specs.declared.Started.the-variants.{Ready}
+use Rattle.layout.specs.Listing.{Listing}
+use Rattle.layout.specs.Packing.{image, imageCells, Legal}
+use Rattle.layout.proofs.Listing.{some-item}
+use Rattle.layout.proofs.Packing.{placed, at-inside}
+use Rattle.list_machine.specs.Demand3.{Holds, firstRegisters}
+use Rattle.list_machine.proofs.Image.{image-fetch, still-holds}
+
+-- the four cells lie below 10h
+module _ (machine : Machine) (m : List ℕ) (handler : ℕ) where
+  four-length : length (fourCells machine m handler) ≡ length m
+  four-length =
+      store-length (machine .order) _ addressCell 0xFFFFFFFF
+      ∙ store-length (machine .order) _ badCell 0xFFFFFFFF
+      ∙ store-length (machine .order) _ memoryCell (length m)
+      ∙ store-length (machine .order) m handlerCell handler
+
+  four-alike : (lo hi : ℕ) → 0x10 ≤ lo → Alike lo hi m (fourCells machine m handler)
+  four-alike lo hi h =
+      alike-trans lo hi _ _ _ (cell-frame lo hi (machine .order) m handlerCell handler (inl (omega arith)))
+      (alike-trans lo hi _ _ _ (cell-frame lo hi (machine .order) _ memoryCell (length m) (inl (omega arith)))
+      (alike-trans lo hi _ _ _ (cell-frame lo hi (machine .order) _ badCell 0xFFFFFFFF (inl (omega arith)))
+      (cell-frame lo hi (machine .order) _ addressCell 0xFFFFFFFF (inl (omega arith)))))
+
+module _ (order base : ℕ) (l : Listing) (ok : Legal base l) (m : List ℕ) (handler : ℕ) (h : Holds (machineOf order) base l m) where
+  pub four-holds : Holds (machineOf order) base l (fourCells (machineOf order) m handler)
+  four-holds =
+      still-holds (machineOf order) base l ok m (fourCells (machineOf order) m handler) h
+      (four-alike (machineOf order) m handler base (base + 4 * imageCells l) (placed base l ok .above-cells))
+      (four-length (machineOf order) m handler)
+
+  first-fetch : fetchOf (machineOf order) Stream (fourCells (machineOf order) m handler) base
+      ≡ Cell (cellAt order (fourCells (machineOf order) m handler) base)
+  first-fetch =
+      let some = at-inside base l ok 0 (some-item l (ok .input) .0) in
+      let z : base + 4 * 0 ≡ base = omega arith in
+      (rw z at (image-fetch (machineOf order) base l ok (fourCells (machineOf order) m handler) four-holds 0 (omega (arith, some))))
+      ∙ ap Cell (sym (rw z at (four-holds .cells 0 (omega (arith, some)))))
+
+  first-ep : sum base 4 ≡ base + 4
+  unfolding sum
+  first-ep = omega (arith, placed base l ok .inside, at-inside base l ok 0 (some-item l (ok .input) .0))
+
+  pub start-ready : judgeMachine (length m) order ≡ Passed
+      → startAnswer order m base handler
+      ≡ startedTo (fourCells (machineOf order) m handler)
+      (Ready (firstRegisters (machineOf order) base (fourCells (machineOf order) m handler) (length m - 0x100) (length m)))
+  unfolding startAnswer startOf nextOf
+  start-ready q = rw (q, first-fetch, first-ep)

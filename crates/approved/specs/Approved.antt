@@ -1,0 +1,75 @@
+-- What is approved is what runs. An office approves a listing; `pack` makes its cells; they are saved as an object module, and a centre, of the same
+-- byte order or the other, loads the file and runs it. The claims join what `pack`, `save_object`, `load_object` and `run` promise with demand 3
+-- (document 01, Listings and Modules), so that nothing on the way is left to the reader.
+use mathlib.Core.Path.{_≡_}
+use mathlib.Core.List.{List}
+use Prim.Native.Nat.{ℕ, _+_, _-_, _*_, _^_, _≤_, _<_}
+use lib.ListN.{length, getD}
+use Rattle.cell.specs.Memory.{Bytewise}
+use Rattle.cell.specs.Refusals.{judgeMachine, GoodMachine}
+use Rattle.cell.specs.declared.Judged.the-variants.{Passed}
+use Rattle.processor.specs.Answers.{machineOf, begun, startedTo, startAnswer}
+use Rattle.processor.specs.Cycles.{fourCells}
+use Rattle.processor.specs.declared.Started.the-variants.{Ready}
+use Rattle.layout.specs.Listing.{Listing, listed}
+use Rattle.layout.specs.File.{filed, fileBase}
+use Rattle.packer.specs.Pack.{PackResult, packOf, packFileOf}
+use Rattle.module.specs.Answers.{SaveResult, saveOf, LoadResult, loadOf}
+use Rattle.module.specs.Conditions.{GoodPlace}
+use Rattle.module.specs.Theorems.{savedFile}
+use Rattle.list_machine.specs.Runs.{runOf, beginning}
+use Rattle.list_machine.specs.Demand3.{firstRegisters, Agree, RunAgrees}
+
+-- operands as they are lent: cells
+abbrev pub Cells : List ℕ → Type 0
+Cells operands = (i : ℕ) → i < length operands → getD operands i 0 < 2 ^ 32
+
+-- what a packing of a listing at a base answered: that of `pack`, or that of `pack_file`
+pub data Packs (order : ℕ) : ℕ → Listing → PackResult → Type 0 where
+  ofArrays : (kinds operands : List ℕ) (base : ℕ) (output : List ℕ) → Cells operands
+      → Packs order base (listed kinds operands) (packOf order kinds operands base output)
+  ofFile : (file output : List ℕ) → Bytewise file → Packs order (fileBase file) (filed file) (packFileOf order file output)
+
+-- the packed cells stand in a memory, byte by byte from an address on
+pub record StandsAt (p : PackResult) (m : List ℕ) (a : ℕ) : Type 0 where
+  pub inside : a + 4 * p .count ≤ length m
+  pub bytes : (i : ℕ) → i < 4 * p .count → getD m (a + i) 0 ≡ getD (p .output) i 0
+
+-- from the cell at the base on, with any SP and RP, the processor runs as the listing reads, for any number k of items: its state is that of demand
+-- 3, and where the memory is one that is lent, so is what `run` answers
+pub record RunsAsListed (order base : ℕ) (l : Listing) (m : List ℕ) : Type 0 where
+  pub agrees : (sp rp k : ℕ)
+      → Agree (machineOf order) (begun m (firstRegisters (machineOf order) base m sp rp)) (runOf (machineOf order) base l k (beginning l m sp rp))
+  pub answers : judgeMachine (length m) order ≡ Passed → (sp rp k : ℕ)
+      → RunAgrees order base m sp rp (runOf (machineOf order) base l k (beginning l m sp rp))
+
+-- and `start` at the base, with any handler, makes the machine ready there: the memory with its four cells set runs as the listing reads
+pub record StartsAsListed (order base : ℕ) (l : Listing) (m : List ℕ) (handler : ℕ) : Type 0 where
+  pub ready :
+      startAnswer order m base handler
+      ≡ startedTo (fourCells (machineOf order) m handler)
+      (Ready (firstRegisters (machineOf order) base (fourCells (machineOf order) m handler) (length m - 0x100) (length m)))
+  pub runs : RunsAsListed order base l (fourCells (machineOf order) m handler)
+
+-- what was packed, in memory at its base, runs as its listing reads
+abbrev pub PackedRuns : Type 0
+PackedRuns =
+    (order base : ℕ) (l : Listing) (p : PackResult) → Packs order base l p → p .number ≡ 0
+    → (m : List ℕ) → StandsAt p m base
+    → RunsAsListed order base l m
+
+-- what was packed for `theirs`, the byte order of the office, stands anywhere in the office's memory, at b, and is saved from there; the file is loaded
+-- at the base on a machine of the order `ours`, into any memory where it fits: the load is accepted, and that machine runs as the listing reads
+pub record Arrives (ours base : ℕ) (l : Listing) (r : LoadResult) (count : ℕ) : Type 0 where
+  pub accepted : r .number ≡ 0
+  pub counted : r .count ≡ count
+  pub runs : RunsAsListed ours base l (r .memory)
+  pub starts : (handler : ℕ) → StartsAsListed ours base l (r .memory) handler
+
+abbrev pub ApprovedRuns : Type 0
+ApprovedRuns =
+    (theirs base : ℕ) (l : Listing) (p : PackResult) → Packs theirs base l p → p .number ≡ 0
+    → (office : List ℕ) (b : ℕ) → Bytewise office → StandsAt p office b
+    → (out : List ℕ) → saveOf theirs office b (p .count) out .number ≡ 0
+    → (ours : ℕ) (centre : List ℕ) → GoodMachine (length centre) ours → GoodPlace (length centre) base (p .count)
+    → Arrives ours base l (loadOf ours centre (savedFile (saveOf theirs office b (p .count) out)) base) (p .count)
