@@ -3,8 +3,8 @@
  * A slice is a pointer and a length, in elements. An empty slice may be NULL. Lent buffers may not
  * overlap. No call keeps a pointer after it returns.
  *
- * `order` is the byte order: 0 least significant byte first, 1 most. `memory` has 1,024 to
- * 16,777,216 bytes, a multiple of 4. `registers` holds EP, A, SP, RP in this order.
+ * `order` is the byte order: in 0 a cell begins with its low byte, in 1 with its high byte. `memory`
+ * has whole cells, and from 1,024 to 16,777,216 bytes. `registers` holds EP, A, SP, RP in this order.
  *
  * A listing is its kinds, its operands and a base; as a file it is n, base, the kinds, the operands,
  * least significant byte first. `pointers` holds SP, RP in this order.
@@ -37,14 +37,14 @@ extern "C" {
 #define BEETLE_NO_HANDLER 3
 #define BEETLE_PAST_END 4
 
-#define BEETLE_OUTSIDE (-1)           /* module address MEMORY or more, or cells pass MEMORY */
+#define BEETLE_OUTSIDE (-1)           /* a module would not lie whole inside memory */
 #define BEETLE_BAD_HEADER (-2)        /* the file does not begin as a module does */
 #define BEETLE_BAD_MEMORY (-4101)     /* memory length */
 #define BEETLE_BAD_ORDER (-4102)      /* byte order above 1 */
 #define BEETLE_BAD_FILE_LENGTH (-4103) /* file length not 12 + 4l */
 #define BEETLE_UNALIGNED (-4104)      /* module address or base no multiple of 4 */
 #define BEETLE_SHORT_OUTPUT (-4105)   /* a lent output too short */
-#define BEETLE_BAD_COUNT (-4106)      /* no item, over 4,096, arrays unequal, or file not 8 + 5n bytes */
+#define BEETLE_BAD_COUNT (-4106)      /* no item or over 4,096; two lengths; a file of the wrong length */
 #define BEETLE_BAD_KIND (-4107)       /* a byte that is no kind */
 #define BEETLE_BAD_OPERAND (-4108)    /* a plain item whose operand is not 0 */
 #define BEETLE_BAD_TARGET (-4109)     /* a target that is no item */

@@ -29,7 +29,8 @@ pub struct Place {
     pub form: Form,
 }
 
-/// Entries are item 0, every branch target, and the item after EXECUTE, @EXECUTE or CALL.
+/// Where a cell has to begin: at item 0, at each item that a branch leads to, and behind EXECUTE,
+/// @EXECUTE and CALL.
 pub fn entries(listing: &Listing) -> Vec<bool> {
     let mut entries = vec![false; listing.kinds.len()];
     entries[0] = true;

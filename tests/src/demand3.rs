@@ -24,7 +24,7 @@ fn with_image(implementation: &Implementation, rule: &Call) -> Option<Call> {
     put_image(&mut rule, &packed.lent.output[..bytes]).then_some(rule)
 }
 
-/// The processor after NEXT with EP at the base.
+/// The processor once it has fetched the cell at the base.
 fn processor_at_base(rule: &Call) -> Call {
     let base = rule.numbers[0];
     let at = base as usize;

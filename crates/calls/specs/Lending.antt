@@ -19,7 +19,7 @@ registersOf lent = record { ep = getD lent 0 0; a = getD lent 1 0; sp = getD len
 abbrev pub registerList : Registers → List ℕ
 registerList r = r .ep ∷ r .a ∷ r .sp ∷ r .rp ∷ []
 
--- -4105: "a lent output shorter than what the success would write there". Document 01, Order: it comes last.
+-- -4105: an array has fewer places than a success writes into. Document 01, Turned back for the state; it is judged last
 abbrev pub shortArray : ℕ → ℕ → Ground
 shortArray size needed = record { applies = ltb size needed; refusal = ShortOutput }
 

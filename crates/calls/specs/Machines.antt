@@ -1,5 +1,5 @@
--- What `beetle_start`, `beetle_cycle` and `beetle_run` leave and answer. Document 01: "A refusal gives its number, zero counts, .. all memory and
--- outputs untouched. A success writes its bytes and no others".
+-- What `beetle_start`, `beetle_cycle` and `beetle_run` leave and answer. Document 01, Turned back for the
+-- state: a refused call leaves whatever was lent as it was, and one that succeeds changes only what it says
 use mathlib.Core.List.{List, [], _∷_}
 use Prim.Native.Nat.{ℕ}
 use lib.ListN.{length}

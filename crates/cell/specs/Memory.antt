@@ -1,4 +1,5 @@
--- Cells in lent memory, in either byte order. Document 01, The processor: "ENDISM (byte order): 0 least significant byte first, 1 most".
+-- Cells in lent memory, in either byte order. Document 01, The processor, on ENDISM: a cell of order 0 begins with its low byte,
+-- one of order 1 with its high byte.
 use mathlib.Core.Path.{_≡_}
 use mathlib.Core.List.{List}
 use Prim.Native.Nat.{ℕ, zero, suc, _+_, _*_, _/_, _%_, _≤_, _<_}

@@ -1,5 +1,5 @@
--- Cells as numbers. Document 01, The processor: "A cell is 32 bits", "Sums, products and address steps are taken modulo 2^32, on purpose.
--- Flags are FFFFFFFFh or 0". A negative number n stands as 2^32 + n.
+-- Cells as numbers. Document 01, The processor: a cell has 32 bits; arithmetic and steps of addresses wrap around at 2^32; true is FFFFFFFFh
+-- and false 0. A negative number n stands as 2^32 + n.
 use mathlib.Core.Bool.{Bool, true, false}
 use Prim.Native.Nat.{ℕ, _+_, _-_, _*_, _/_, _%_, _^_}
 use lib.Dec.{leb, ltb, eqb}
@@ -54,6 +54,6 @@ shiftedRight a u = if (ltb u 32) (a / 2 ^ u) 0
 unfoldable pub halved : ℕ → ℕ
 halved a = a / 2 + if (negative a) 0x80000000 0
 
--- C@ and C!: "address exclusive-or 3 where ENDISM is 1"
+-- C@ and C! in order 1 reach the byte at the other end of its cell: bits 0 and 1 of the address are reversed
 abbrev pub byteAddress : ℕ → ℕ → ℕ
 byteAddress order a = if (eqb order 0) a (bitXor 3 a)

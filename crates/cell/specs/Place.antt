@@ -1,5 +1,5 @@
--- The check of a place and the fetch. Document 01, The processor: "A fetch answers with a cell or with a fault. Every fault names its kind,
--- and for -9 and -23 the address. Range (-9) is checked before alignment (-23)".
+-- The check of a place and the fetch. Document 01, The processor: a fetch gives the cell or the fault that kept it from being read;
+-- -9 and -23 carry the address that was asked for, and an address that is both outside and unaligned is -9.
 use mathlib.Core.Path.{_≡_}
 use mathlib.Core.Bool.{Bool, true, false}
 use mathlib.Core.List.{List}

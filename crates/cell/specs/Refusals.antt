@@ -1,5 +1,5 @@
--- Refusals: their numbers, and the first that applies. Document 01, "Turned back for the input", "Turned back for the state", and
--- "Order: -4101, -4102, input list, -4104, -1, -4110, -4105, each where it applies".
+-- Refusals: their numbers, and the first that applies. Document 01, Turned back for the input, Turned back for the state, and
+-- the order below them: what a call is lent comes first, then its input, then places, and the room of outputs last.
 use mathlib.Core.Path.{_≡_}
 use mathlib.Core.Bool.{Bool, true, false, not, _||_}
 use mathlib.Core.List.{List, [], _∷_}
@@ -46,12 +46,12 @@ abbrev pub inOrder : List Judged → Judged
 inOrder [] = Passed
 inOrder (j ∷ js) = after j (inOrder js)
 
--- -4101: "MEMORY is the length of the lent memory: 1,024 to 16,777,216 bytes, a multiple of 4"
+-- -4101: a memory under 1,024 bytes, over 16,777,216, or not of whole cells
 abbrev pub memoryLength : ℕ → Ground
 memoryLength len =
     record { applies = ltb len 1024 || (ltb 16777216 len || not (eqb (len % 4) 0)); refusal = MemoryLength }
 
--- -4102: "byte order argument above 1"
+-- -4102: an order that is neither 0 nor 1
 abbrev pub byteOrder : ℕ → Ground
 byteOrder order = record { applies = ltb 1 order; refusal = ByteOrder }
 

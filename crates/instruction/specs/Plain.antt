@@ -1,7 +1,7 @@
 -- The effects of the instructions that take no operand from the instruction stream, one clause for each, in opcode order: stack picture, then effect.
--- Document 01, The processor: "An instruction reads data stack operands from the top down, then return stack operands, then cells they name, .. Then
--- the divisor is checked (-10)"; writes "data stack, return stack, named cell, each deepest first"; "A stack place where both stack pictures show the
--- same item is not written". EP is given for the calls alone; what follows an instruction is its `Control`.
+-- Document 01, The processor: what is read comes from the data stack, the top item first, then from the return stack, then from the cells that those
+-- items name; a divisor of 0 is found after that. What is written goes to the data stack, the return stack and the named cell in this order, and on
+-- each stack the deepest place comes first; an item that stays where it was is not written again. EP is given for the calls alone; what follows an instruction is its `Control`.
 use mathlib.Core.Bool.{Bool, true, false, not, _&&_, _||_}
 use mathlib.Core.List.{List, [], _∷_}
 use Prim.Native.Nat.{ℕ, _+_, _*_, _%_, _^_, _/_}
@@ -67,7 +67,7 @@ module _ (machine : Machine) (m : List ℕ) where
   abbrev pub divided : ℕ → (ℕ → ℕ → Effect) → Effect
   divided sp k = data2 sp (λ n1 n2. if (eqb n2 0) (raise Divisor) (k n1 n2))
 
-  -- "the address of x_u is exact, not wrapped, .. outside memory is -9, with that address modulo 2^32 in -ADDRESS"
+  -- PICK and ROLL reach down by an exact sum, which may pass 2^32: the fault is then -9 and names the sum modulo 2^32
   abbrev pub fetchDeep : ℕ → Fetched
   fetchDeep a = if (ltb a (2 ^ 32)) (fetchOf machine DataRead m a) (fetch.Failed (Range (address (a % 2 ^ 32))))
 
@@ -76,11 +76,11 @@ abbrev pub dividedBoth : ℕ → ℕ → Quotient → Effect
 dividedBoth sp rp q =
     action sp rp (cellStore DataWrite (sum sp 4) (q .remainder) ∷ cellStore DataWrite sp (q .quotient) ∷ []) goOn
 
--- the address that SP! or RP! takes: "raise -23 on an unaligned value and check no range"
+-- the address that SP! or RP! takes has to be aligned, but need not lie in memory
 abbrev pub aligned : ℕ → Effect → Effect
 aligned x e = if (eqb (x % 4) 0) e (raise (Alignment (address x)))
 
--- HALT: "pops the reason and stops; -258 if SP is no valid cell, SP kept"
+-- HALT stops with the item that it pops, or with -258 where there is none to pop; SP then stays
 abbrev pub halted : ℕ → ℕ → Fetched → Effect
 halted sp rp (fetch.Cell x) = action (sum sp 4) rp [] (halt x)
 halted sp rp (fetch.Failed f) = action sp rp [] (halt badStack)

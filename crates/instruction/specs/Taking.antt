@@ -24,7 +24,7 @@ use Rattle.instruction.specs.declared.Form.the-variants.{InCell, Immedia
 pub data Taking : Type 0 where
   branch questionBranch call loop plusLoop literal : Taking
 
--- (+LOOP) "ends exactly if old < limit ≤ new or new < limit ≤ old, as signed numbers"
+-- (+LOOP) ends where its step, on signed numbers, goes over the border between limit - 1 and limit, up or down
 abbrev pub crosses : ℕ → ℕ → ℕ → Bool
 crosses old new limit = (less old limit && not (less new limit)) || (less new limit && not (less old limit))
 
@@ -38,7 +38,7 @@ takingOf machine questionBranch m sp rp operand after =
 -- 48h CALL ( -- ) R: ( -- a-addr )
 takingOf machine call m sp rp operand after =
     fetched operand (λ to. action sp (difference rp 4) (cellStore ReturnWrite (difference rp 4) after ∷ []) (jump to))
--- 4Ch (LOOP) R: ( n1 n2 -- | n1 n3 ): "adds 1 to the index and ends when it equals the limit"
+-- 4Ch (LOOP) R: ( n1 n2 -- | n1 n3 ): the index grows by 1, and at the limit the loop is over
 takingOf machine loop m sp rp operand after =
     return2 machine m rp
     (λ limit index.

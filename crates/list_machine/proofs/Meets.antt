@@ -26,7 +26,7 @@ use Rattle.list_machine.specs.ListMachine.{Position, Carried, on, stoppe
 use Rattle.list_machine.specs.Demand3.{Holds}
 use Rattle.list_machine.proofs.Image.{atItem, entry-cell, ep-after}
 
--- at the item; or, where it opens a cell and was run on into, before the NEXT that enters it
+-- at the item; or, where the item opens a cell and the one before it ran on, before the NEXT that enters it
 abbrev pub standing : Bool → ℕ → Listing → Position → Registers
 standing true base l p = record { ep = addressOf base l (p .item); a = 0; sp = p .sp; rp = p .rp }
 standing false base l p = atItem base l (p .item) (p .sp) (p .rp)

@@ -162,6 +162,6 @@ module _ (machine : Machine) (base : ℕ) (l : Listing) where
   unfoldable pub carryOut : Position → Carried
   carryOut p = carriedBy p (effectAt p)
 
-  -- the cycles that an item counts: a second one for the NEXT before it, where it opens a cell and was run on into
+  -- the cycles that an item counts: a second one for the NEXT before it, where the item opens a cell and the one before it ran on
   abbrev pub cyclesAt : Position → ℕ
   cyclesAt p = if (p .ran && opens (layout l) (p .item)) 2 1

@@ -1,5 +1,5 @@
--- The commit of an effect. Document 01, The processor: "every place to be written, in the order of the writes. The first fault wins. .. Only then
--- are writes made"; "An instruction that raises leaves SP, RP, EP and memory as at its start".
+-- The commit of an effect. Document 01, The processor: all places that an effect writes are judged before any is written, and the
+-- first bad one in that order is the fault; an instruction with a fault has changed neither memory nor SP, RP and EP.
 use mathlib.Core.List.{List, [], _∷_}
 use mathlib.Core.Bool.{Bool, true, false, _&&_, _||_}
 use Prim.Native.Nat.{ℕ, _+_}

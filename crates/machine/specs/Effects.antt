@@ -1,5 +1,5 @@
--- What an instruction asks for, before anything is written. Document 01, The processor: an instruction reads its operands, "then every place to
--- be written, in the order of the writes. The first fault wins."
+-- What an instruction asks for, before anything is written. Document 01, The processor: an instruction reads its operands, and
+-- then has the places that it writes judged; whichever fails first is its fault.
 use mathlib.Core.Bool.{Bool, true, false}
 use mathlib.Core.List.{List, [], _∷_}
 use Prim.Native.Nat.{ℕ, zero, suc, _+_, _*_, _<_, _^_}
@@ -63,7 +63,7 @@ rollStores order m top last zero = cellStore DataWrite top last ∷ []
 rollStores order m top last (suc u) =
     cellStore DataWrite (top + 4 * suc u) (cellAt order m (top + 4 * u)) ∷ rollStores order m top last u
 
--- "ROLL with u = 0" moves nothing
+-- ROLL by 0 moves nothing
 abbrev pub rolled : ℕ → List ℕ → ℕ → ℕ → List Store
 rolled order m top zero = []
 rolled order m top (suc u) = rollStores order m top (cellAt order m (top + 4 * suc u)) (suc u)

@@ -23,7 +23,7 @@ unfoldable pub placeOf : Machine → Width → Access → ℕ → ℕ → Checke
 placeOf machine oneByte access len a = checkByte len a
 placeOf machine oneCell access len a = checkCell len a
 
--- document 01: "A fetch answers with a cell or with a fault"
+-- a cell of memory, or why it cannot be read
 unfoldable pub fetchOf : Machine → Access → List ℕ → ℕ → Fetched
 fetchOf machine access m a = read (placeOf machine oneCell access (length m) a) (cellAt (machine .order) m a)
 

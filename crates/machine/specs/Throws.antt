@@ -1,5 +1,5 @@
--- NEXT, the throw and the stops. Document 01, The processor: "Throw: -ADDRESS is set (-9 and -23 only); the code is pushed; 'BAD takes EP; EP takes
--- 'THROW; NEXT." and the sentences after it.
+-- NEXT, the throw and the stops. Document 01, The processor, on throws: the address goes to -ADDRESS where the fault has one, the code to the data
+-- stack, EP to 'BAD; then the machine goes on at the address in 'THROW, by a NEXT there. Where one of these cannot be done, it stops.
 use mathlib.Core.Bool.{Bool, true, false}
 use mathlib.Core.List.{List}
 use Prim.Native.Nat.{ℕ, _-_, _%_, _^_}
@@ -62,7 +62,8 @@ addressCell = 12
 abbrev pub entered : ℕ → ℕ → Registers → Registers
 entered h x r = record { ep = sum h 4; a = x; sp = r .sp; rp = r .rp }
 
--- 'BAD has taken EP; EP takes 'THROW and NEXT follows. "If 'THROW is then unaligned or out of range it stops with -259 .. EP and A kept"
+-- 'BAD has taken EP; EP takes 'THROW and NEXT follows. A 'THROW at which no cell can be read stops the machine with -259, in the
+-- registers that it had
 abbrev pub handed : List ℕ → Registers → Ended → ℕ → Fetched → Turned
 handed m r e h (Cell x) = turned m (entered h x r) e
 handed m r e h (Failed f) = turned m r (Stopped badHandler)
@@ -76,7 +77,7 @@ handlerOf machine m r e =
     toHandler machine (storeCell (machine .order) m badCell (r .ep)) r e
     (cellAt (machine .order) (storeCell (machine .order) m badCell (r .ep)) handlerCell)
 
--- "-ADDRESS is set (-9 and -23 only)"
+-- -ADDRESS changes where the fault has an address
 abbrev pub noted : Machine → List ℕ → Fault → List ℕ
 noted machine m (Range a) = storeCell (machine .order) m addressCell (a .0)
 noted machine m (Alignment a) = storeCell (machine .order) m addressCell (a .0)
@@ -84,7 +85,7 @@ noted machine m Divisor = m
 noted machine m Illegal = m
 noted machine m Library = m
 
--- the code at a place that was judged, then the rest of the throw. "nothing is written and the machine stops with -258"
+-- the code at a place that was judged, then the rest of the throw. Where the place is bad, -ADDRESS stays too, and -258 stops the machine
 abbrev pub pushed : Machine → List ℕ → Registers → Fault → ℕ → Checked → Turned
 pushed machine m r f sp (Bad g) = turned m r (Stopped badStack)
 pushed machine m r f sp Good =
@@ -96,11 +97,11 @@ unfoldable pub throwOf : Machine → List ℕ → Registers → Fault → Turned
 throwOf machine m r f =
     pushed machine m r f (difference (r .sp) 4) (placeOf machine oneCell Push (length m) (difference (r .sp) 4))
 
--- "THROW itself (54h) pushes nothing. If SP is unaligned (54h too) .. the machine stops with -258"
+-- THROW, 54h, finds its code on the stack already. An unaligned SP stops it with -258
 unfoldable pub throwingOf : Machine → List ℕ → Registers → Turned
 throwingOf machine m r = if (eqb (r .sp % 4) 0) (handlerOf machine m r Went) (turned m r (Stopped badStack))
 
--- "NEXT: A is the cell at EP, EP gains 4"
+-- NEXT moves the cell at EP into A, and EP behind it
 abbrev pub nexted : Machine → List ℕ → Registers → Fetched → Turned
 nexted machine m r (Cell x) = turned m (entered (r .ep) x r) Went
 nexted machine m r (Failed f) = throwOf machine m r f
@@ -108,8 +109,8 @@ nexted machine m r (Failed f) = throwOf machine m r f
 unfoldable pub nextOf : Machine → List ℕ → Registers → Turned
 nextOf machine m r = nexted machine m r (fetchOf machine Stream m (r .ep))
 
--- the rest of a cycle, by how the instruction left the machine. "Where an instruction ends in NEXT, that fetch is a second act: its failure is
--- judged from the state after the first act"
+-- the rest of a cycle, by how the instruction left the machine. A NEXT that an instruction ends in is a step of its own: where it
+-- fails, what the instruction did before it stays done
 abbrev pub finished : Machine → List ℕ → Registers → Outcome → Turned
 finished machine m r outcome.Went = turned m r Went
 finished machine m r outcome.Next = nextOf machine m r

@@ -1,4 +1,4 @@
--- The conditions that the two lists of refusals name, as plain facts. Document 01, "Turned back for the input" and "Turned back for the state".
+-- The conditions that the two lists of refusals name, as plain facts. Document 01, Turned back for the input and for the state.
 use mathlib.Core.Path.{_≡_}
 use mathlib.Core.List.{List}
 use Prim.Native.Nat.{ℕ, _+_, _*_, _%_, _≤_, _<_}

@@ -1,5 +1,5 @@
--- The copy of cells from one byte order to another, first cell first. Document 01, Modules: "A module of the other order has each cell's bytes
--- reversed"; a cell that is read in the order of its file and stored in the machine's is turned exactly where the two differ.
+-- The copy of cells from one byte order to another, first cell first. Document 01, Modules: a cell that is read in the order of its file and
+-- stored in the machine's has its bytes reversed exactly where the two differ.
 use mathlib.Core.List.{List}
 use Prim.Native.Nat.{ℕ, zero, suc, _+_, _*_}
 use Rattle.cell.specs.Memory.{cellAt, storeCell}

@@ -1,5 +1,5 @@
--- The file of an object module. Document 01, Modules: "BEETLE", 00h, ENDISM, a count l of cells in that order, then l cells; document 001,
--- section 4.1 and table 8.
+-- The file of an object module. Document 01, Modules, and document 001, section 4.1 and table 8: the six letters of its title and a 00h, the byte
+-- order, then, in that order, how many cells follow, and these cells.
 use mathlib.Core.List.{List, [], _∷_, _++_}
 use Prim.Native.Nat.{ℕ, zero, suc, _*_}
 use lib.ListN.{getD, take, drop}

@@ -1,4 +1,4 @@
--- What turns a load or a save back. Document 01, "Turned back for the input", "Turned back for the state", and the order below them. Every sum
+-- What turns a load or a save back. Document 01, Turned back for the input, Turned back for the state, and the order below them. Every sum
 -- is exact: a count of FFFFFFFFh or an address near 2^32 refuses, and never wraps.
 use mathlib.Core.Bool.{Bool, true, false, not, _||_, _&&_}
 use mathlib.Core.List.{List, [], _∷_}
@@ -18,25 +18,25 @@ standsAt file at (x ∷ xs) = eqb (getD file at 0) x && standsAt file (suc at) x
 abbrev pub titled : List ℕ → Bool
 titled file = standsAt file 0 title
 
--- -2: "first seven bytes wrong, or order byte above 1 (also under 8 bytes)"
+-- -2: a file without the title, with an unknown byte order, or too short to have both
 abbrev pub header : List ℕ → Ground
 header file =
     record { applies = ltb (length file) 8 || (not (titled file) || ltb 1 (orderOf file)); refusal = Header }
 
--- -4103: "file length not 12 + 4l (8 to 11 bytes too)"
+-- -4103: a file that is not as long as its count says, or too short to have one
 abbrev pub fileLength : List ℕ → Ground
 fileLength file =
     record { applies = ltb (length file) 12 || not (eqb (length file) (12 + 4 * countOf file)); refusal = FileLength }
 
--- -4104: "module address .. unaligned"
+-- -4104: an address that is no multiple of 4
 abbrev pub unaligned : ℕ → Ground
 unaligned a = record { applies = not (eqb (a % 4) 0); refusal = Unaligned }
 
--- -1: "module address MEMORY or more, or cells pass MEMORY"
+-- -1: an address outside memory, or cells that run over its end
 abbrev pub outside : ℕ → ℕ → ℕ → Ground
 outside len a l = record { applies = leb len a || ltb len (a + 4 * l); refusal = Outside }
 
--- -4105: "a lent output shorter than what the success would write there", a module of l cells
+-- -4105: an output without room for a module of l cells
 abbrev pub shortOutput : ℕ → ℕ → Ground
 shortOutput size l = record { applies = ltb size (12 + 4 * l); refusal = ShortOutput }
 

@@ -1,4 +1,4 @@
--- Document 01, Worked on paper: "P module with cell 55h, order 0, loaded on order 1: 00 00 00 55".
+-- Document 01, Worked on paper, the row on modules: a cell of 55h in a file of order 0, and its bytes on a machine of order 1.
 use mathlib.Core.List.{List, [], _∷_}
 use Prim.Native.Nat.{ℕ}
 use lib.ListN.{take, drop, replicate}

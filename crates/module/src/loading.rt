@@ -11,7 +11,7 @@ use crate::judgement::judge_load;
 use cell::Address;
 use cell::Judged;
 
-// The part of the caller's file from byte 12 on, once its header is judged.
+// The cells of a file: what follows its header, which is judged.
 pub fn code_of(file: &[u8]) -> &[u8]
     requires { ⌜ 12 ≤ length (now file) ⌝ }
     ensures { λ r. ⌜ now r ≡ format.codeOf (now (file .entry)) ⌝ }

@@ -11,7 +11,7 @@ use Rattle.machine.specs.declared.Ended.{Ended}
 use Rattle.machine.specs.declared.Ended.the-variants.{Went, Threw, Stopped}
 use Rattle.instruction.specs.Dispatch.{decodeOf, executeOf}
 
--- document 01, The processor: "I is the low byte of A; A shifts right 8 bits, keeping its sign; I is executed"
+-- document 01, The processor: a cycle takes the low byte of A as its opcode, and A goes on one byte down, with its sign
 abbrev pub shifted : Registers → Registers
 shifted r = record { ep = r .ep; a = asr8 (r .a); sp = r .sp; rp = r .rp }
 
@@ -32,7 +32,7 @@ unfoldable pub cyclesOf : Machine → ℕ → Turned → Turned
 cyclesOf machine zero s = s
 cyclesOf machine (suc n) s = cyclesOf machine n (advance machine s)
 
--- "Start (given EP and handler): the four cells become handler, MEMORY, FFFFFFFFh, FFFFFFFFh"
+-- a start sets 'THROW to the handler, MEMORY to the length, and 'BAD and -ADDRESS to FFFFFFFFh
 abbrev pub fourCells : Machine → List ℕ → ℕ → List ℕ
 fourCells machine m handler =
     storeCell (machine .order)
@@ -41,7 +41,7 @@ fourCells machine m handler =
     addressCell
     0xFFFFFFFF
 
--- "SP = MEMORY - 100h, RP = MEMORY, A = 0; then NEXT"
+-- the return stack begins at the end of memory, the data stack 100h below it, and NEXT fetches the first cell
 unfoldable pub startOf : Machine → List ℕ → ℕ → ℕ → Turned
 startOf machine m ep handler =
     nextOf machine (fourCells machine m handler) (record { ep = ep; a = 0; sp = length m - 0x100; rp = length m })

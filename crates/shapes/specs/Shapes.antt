@@ -1,5 +1,5 @@
--- The effect that a shape of the code stands for, and what is asked of it before it is carried out. Document 01, The processor: "every place to be
--- written, in the order of the writes. The first fault wins."
+-- The effect that a shape of the code stands for, and what is asked of it before it is carried out. Document 01, The processor: its places are
+-- judged in the order in which they are written, and the first bad one is the fault.
 use mathlib.Core.Path.{_≡_}
 use mathlib.Core.List.{List, [], _∷_}
 use Prim.{Unit}

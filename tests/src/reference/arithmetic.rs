@@ -80,7 +80,7 @@ pub fn shifted_right(cell: u32, places: u32) -> u32 {
     }
 }
 
-/// (+LOOP) ends exactly if old < limit <= new or new < limit <= old, as signed numbers.
+/// Whether a step of (+LOOP), on signed numbers, goes over the border below the limit, up or down.
 #[inline(always)]
 pub fn crosses(old: u32, new: u32, limit: u32) -> bool {
     let (old, new, limit) = (signed(old), signed(new), signed(limit));

@@ -156,7 +156,7 @@ pub fn j(m: &mut impl Memory, r: &mut Registers) -> Act {
     super::instructions::push(m, r, x1)
 }
 
-/// HALT ( x -- ): pops the reason and stops; -258 if SP is no valid cell.
+/// HALT ( x -- ): stops with x, or with -258 where no x can be popped.
 #[inline(always)]
 pub fn halt(m: &mut impl Memory, r: &mut Registers) -> Act {
     match m.fetch(r.sp) {

@@ -16,7 +16,7 @@ pub enum Kind {
     Plain,
 }
 
-/// The kind of a byte; NEXT, the immediate opcodes and the five that raise -256 are none.
+/// The kind of a byte. No kinds are NEXT, opcodes that hold their operand, and those that raise -256.
 pub fn kind_of(byte: u8) -> Option<Kind> {
     match byte {
         LITERAL => Some(Kind::Literal),
@@ -49,7 +49,7 @@ impl Listing {
         self.operands[item] as usize
     }
 
-    /// Entries are item 0, every branch target, and the item after 46h, 47h or 48h.
+    /// Where control can arrive from elsewhere: item 0, what branches lead to, and behind 46h to 48h.
     pub fn entries(&self) -> Vec<bool> {
         let mut entries = vec![false; self.items()];
         entries[0] = true;

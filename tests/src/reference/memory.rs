@@ -108,7 +108,7 @@ pub trait Memory {
         }
     }
 
-    /// A fetch answers with a cell or with a fault.
+    /// The cell at an address, or the fault of asking for it.
     #[inline(always)]
     fn fetch(&self, address: u32) -> Result<u32, Fault> {
         self.check_cell(address)?;

@@ -104,7 +104,8 @@ fn lay_out(listing: &Listing, entries: &[bool], marks: &[bool]) -> Layout {
     }
 }
 
-/// A literal is marked exactly where it does not fit f signed bytes, a branch by the rounds.
+/// A branch has the mark that the rounds gave it; a literal counts as marked where it is too wide for
+/// the bytes that are left.
 fn form(listing: &Listing, marks: &[bool], item: usize, placement: &Placement) -> Form {
     let free = placement.free();
     let marked = match listing.kind(item) {

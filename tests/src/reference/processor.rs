@@ -68,7 +68,7 @@ enum Pass {
     Throws(Option<Fault>),
 }
 
-/// NEXT: A is the cell at EP, EP gains 4; a fetch that faults throws.
+/// NEXT: the cell at EP goes to A, and EP moves behind it; a fetch that faults throws.
 #[inline(always)]
 fn next<M: Memory>(m: &mut M, r: &mut Registers) -> Pass {
     match m.fetch(r.ep) {
