@@ -54,6 +54,6 @@ shiftedRight a u = if (ltb u 32) (a / 2 ^ u) 0
 unfoldable pub halved : ℕ → ℕ
 halved a = a / 2 + if (negative a) 0x80000000 0
 
--- C@ and C! in order 1 reach the byte at the other end of its cell: bits 0 and 1 of the address are reversed
+-- C@ and C! in order 1 reach the byte at the other end of its cell: bits 0 and 1 of the address are inverted
 abbrev pub byteAddress : ℕ → ℕ → ℕ
 byteAddress order a = if (eqb order 0) a (bitXor 3 a)
