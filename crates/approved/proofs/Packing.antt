@@ -8,7 +8,7 @@ use Rattle.cell.specs.Memory.{Bytewise}
 use Rattle.cell.specs.Refusals.{judge, after, inOrder}
 use Rattle.cell.specs.declared.Judged.{Judged}
 use Rattle.cell.specs.declared.Judged.the-variants as judged
-use Rattle.cell.proofs.JudgementLaws.{both-pass}
+use Rattle.cell.proofs.JudgementLaws.{both-pass, refusal-some}
 use Rattle.cell.proofs.MemoryLaws.{cell-below}
 use Rattle.layout.specs.Listing.{Listing, listed, judgedArrays}
 use Rattle.layout.specs.File.{filed, fileBase, fileCount, fileKinds, fileOperands, cellsFrom, judgedFile, judgedLength}
@@ -18,7 +18,6 @@ use Rattle.layout.proofs.Packing.{size-is}
 use Rattle.packer.specs.Judgement.{judgeOrder, judgeRoom, judgeAll, judgePack, judgePackFile}
 use Rattle.packer.specs.Pack.{PackResult, packIf, packOf, packFileOf}
 use Rattle.packer.proofs.Judging.{arrays-checked}
-use Rattle.module.proofs.Theorems.{refused}
 use Rattle.approved.specs.Approved.{Cells, Packs, ofArrays, ofFile}
 
 -- the listing is legal at the base, and the output begins with the bytes of its image
@@ -41,7 +40,7 @@ module _ (order base : ℕ) (kinds operands : List ℕ) (low : Cells operands) (
   made-of : (input : Judged) → (input ≡ judged.Passed → judgedArrays kinds operands ≡ judged.Passed)
       → (j : Judged) → j ≡ judgeAll order input base (listed kinds operands) (length out)
       → packIf j order base (listed kinds operands) out .number ≡ 0 → Made order base (listed kinds operands) (packIf j order base (listed kinds operands) out)
-  made-of input f (judged.Refused r) e q = absurd (refused r q)
+  made-of input f (judged.Refused r) e q = absurd (refusal-some r q)
   made-of input f judged.Passed e q =
       let s = both-pass (judgeOrder order) _ (sym e) in
       let t = both-pass input _ (s .1) in

@@ -7,9 +7,9 @@ use native.Mathlib.Omega.{arith}
 use borrow.Author.Tests.{ltb-false, eqb-true, not-false}
 use lib.Dec.{ltb, eqb}
 use Rattle.cell.specs.Choice.{if}
-use Rattle.cell.specs.Refusals.{judge, after, memoryLength, byteOrder, judgeMachine, GoodMachine}
+use Rattle.cell.specs.Refusals.{refusalNumber, judge, after, memoryLength, byteOrder, judgeMachine, GoodMachine}
 use Rattle.cell.specs.declared.Refusal.{Refusal}
-use Rattle.cell.specs.declared.Refusal.the-variants.{MemoryLength, ByteOrder}
+use Rattle.cell.specs.declared.Refusal.the-variants as refusal
 use Rattle.cell.specs.declared.Judged.{Judged}
 use Rattle.cell.specs.declared.Judged.the-variants.{Passed, Refused}
 use Rattle.cell.proofs.BooleanLaws.{neither}
@@ -24,11 +24,26 @@ pub one-clear : (t : Bool) (r : Refusal) (j : Judged) → if t (Refused r) j ≡
 one-clear true r j e = absurd (let z : _≡_ {A = ℕ} 0 1 = cc in omega arith)
 one-clear false r j e = (refl, e)
 
+-- no refusal has the number 0
+pub refusal-some : (r : Refusal) → refusalNumber r ≡ 0 → ⊥
+refusal-some refusal.MemoryLength e = omega arith
+refusal-some refusal.ByteOrder e = omega arith
+refusal-some refusal.Header e = omega arith
+refusal-some refusal.FileLength e = omega arith
+refusal-some refusal.Unaligned e = omega arith
+refusal-some refusal.Outside e = omega arith
+refusal-some refusal.ShortOutput e = omega arith
+refusal-some refusal.ItemCount e = omega arith
+refusal-some refusal.Kind e = omega arith
+refusal-some refusal.PlainOperand e = omega arith
+refusal-some refusal.Target e = omega arith
+refusal-some refusal.Base e = omega arith
+
 pub machine-good : (len order : ℕ) → judgeMachine len order ≡ Passed → GoodMachine len order
 unfolding judgeMachine
 machine-good len order e =
-    let p = one-clear (memoryLength len .applies) MemoryLength (judge (byteOrder order ∷ [])) e in
-    let q = one-clear (ltb 1 order) ByteOrder Passed (p .1) in
+    let p = one-clear (memoryLength len .applies) refusal.MemoryLength (judge (byteOrder order ∷ [])) e in
+    let q = one-clear (ltb 1 order) refusal.ByteOrder Passed (p .1) in
     let s = neither (ltb len 1024) (ltb 16777216 len || not (eqb (len % 4) 0)) (p .0) in
     let t = neither (ltb 16777216 len) (not (eqb (len % 4) 0)) (s .1) in
     record {

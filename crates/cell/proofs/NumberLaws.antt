@@ -7,7 +7,8 @@ use native.Mathlib.Omega.{arith}
 use lib.Dec.{leb, ltb}
 use lib.Pow.{pow-pos}
 use borrow.Author.Tests.{leb-true, leb-false, le-ltb, lt-ltb, le-leb, lt-leb}
-use Rattle.cell.specs.Shift.{asr8, pick}
+use Rattle.cell.specs.Shift.{asr8}
+use Rattle.cell.specs.Choice.{if}
 use Rattle.cell.specs.Number.{magnitude, negated, halved}
 
 -- the product of two cells fits 64 bits

@@ -1,7 +1,7 @@
 -- Cells in lent memory, in either byte order. Document 01, The processor, on ENDISM: a cell of order 0 begins with its low byte,
 -- one of order 1 with its high byte.
 use mathlib.Core.Path.{_≡_}
-use mathlib.Core.List.{List}
+use mathlib.Core.List.{List, [], _∷_}
 use Prim.Native.Nat.{ℕ, zero, suc, _+_, _*_, _/_, _%_, _≤_, _<_}
 use lib.ListN.{getD, set}
 use Rattle.cell.specs.declared.CellCount.{CellCount}
@@ -21,6 +21,11 @@ byte2 x = x / 65536 % 256
 
 abbrev pub byte3 : ℕ → ℕ
 byte3 x = x / 16777216 % 256
+
+-- the four bytes of a cell in a byte order, the first first
+abbrev pub cellBytes : ℕ → ℕ → List ℕ
+cellBytes zero x = byte0 x ∷ byte1 x ∷ byte2 x ∷ byte3 x ∷ []
+cellBytes (suc order) x = byte3 x ∷ byte2 x ∷ byte1 x ∷ byte0 x ∷ []
 
 -- a cell of four bytes, a the first in memory
 abbrev pub joined : ℕ → ℕ → ℕ → ℕ → ℕ → ℕ

@@ -2,13 +2,10 @@
 use mathlib.Core.Path.{_≡_, refl, sym, ap, _∙_}
 use mathlib.Core.Bool.{true}
 use mathlib.Core.List.{List}
-use mathlib.Core.Logic.{_≢_}
 use Prim.Native.Nat.{ℕ, _+_}
 use native.Mathlib.Omega.{arith}
 use lib.ListN.{length}
-use Rattle.cell.specs.Refusals.{refusalNumber}
-use Rattle.cell.specs.declared.Refusal.{Refusal}
-use Rattle.cell.specs.declared.Refusal.the-variants as refusal
+use Rattle.cell.proofs.JudgementLaws.{refusal-some}
 use Rattle.cell.specs.declared.Judged.{Judged}
 use Rattle.cell.specs.declared.Judged.the-variants.{Passed, Refused}
 use Rattle.machine.specs.declared.Machine.{Machine}
@@ -23,21 +20,6 @@ use Rattle.items.specs.declared.Stand.{Stand}
 use Rattle.follow.specs.Follow.{judgeFollow, endingNumber, FollowResult, followedTo, endingOf, standOf, ranOf, followIf, resumeIn}
 use Rattle.follow.specs.Cutting.{withCounts, joinedTo, CutAnswer, OverAnswer, Cut}
 use Rattle.follow.specs.declared.Followed.the-variants as followed
-
--- no refusal is 0
-refused-some : (r : Refusal) → refusalNumber r ≢ 0
-refused-some refusal.MemoryLength = omega arith
-refused-some refusal.ByteOrder = omega arith
-refused-some refusal.Header = omega arith
-refused-some refusal.FileLength = omega arith
-refused-some refusal.Unaligned = omega arith
-refused-some refusal.Outside = omega arith
-refused-some refusal.ShortOutput = omega arith
-refused-some refusal.ItemCount = omega arith
-refused-some refusal.Kind = omega arith
-refused-some refusal.PlainOperand = omega arith
-refused-some refusal.Target = omega arith
-refused-some refusal.Base = omega arith
 
 -- 0 is a run that goes on, any other number one that is over
 goes-on : (c : Course) → endingNumber (endingOf c) ≡ 0 → c ≡ goesOn
@@ -59,7 +41,7 @@ module _ (machine : Machine) (base : ℕ) (l : Listing) (m : List ℕ) (start : 
       → followIf j machine base l m start (a + b)
       ≡ joinedTo start (followIf j machine base l m start a)
       (followIf j machine base l (followIf j machine base l m start a .memory) (followIf j machine base l m start a .stand) b)
-  cut-if (Refused r) e = absurd (refused-some r e)
+  cut-if (Refused r) e = absurd (refusal-some r e)
   cut-if Passed e =
       ap (λ (r : Run). followedTo (r .position .memory) start (followed.Ran (ranOf r)))
       (cut-in-two machine base l (positionOf m start) a b (goes-on (run a .course) e))

@@ -1,5 +1,6 @@
 -- Stores of cells, and one turn of the image pass.
 -- Assumes nothing.
+use Rattle.cell.specs.Memory.{cellBytes}
 use mathlib.Core.Path.{_≡_, refl, sym, ap, ap₂, _∙_}
 use mathlib.Core.Bool.{Bool, true, false}
 use mathlib.Core.List.{List, [], _∷_, _++_, append-assoc}
@@ -10,7 +11,7 @@ use native.Mathlib.Omega.{arith}
 use lib.Dec.{eqb}
 use lib.ListN.{length, getD, set, take, drop, length-append, take-append-drop}
 use lib.Seq.{sets, sets-eq, length-take-le, take-append-le, take-take, drop-at}
-use Rattle.cell.specs.Shift.{pick}
+use Rattle.cell.specs.Choice.{if}
 use Rattle.cell.specs.declared.Judged.the-variants.{Passed}
 use Rattle.layout.specs.declared.Class.{Class}
 use Rattle.layout.specs.declared.Form.{Form}
@@ -23,7 +24,7 @@ use Rattle.layout.specs.declared.Form.the-variants.{Alone as alone, Immediate a
 use Rattle.layout.specs.Layout.{Spot, begin, extra, Plan, cur, opens, mid, left, formAt, Laid}
 use Rattle.layout.specs.Image.{byteOf, above, opened, joined, word, cells}
 use Rattle.layout.specs.Packing.{formOf, branchValue, valueOf, marks, layout, value, image, imageCells}
-use Rattle.layout.specs.Output.{cellBytes, bytesOf, written, joinedAt, openedAt}
+use Rattle.layout.specs.Output.{bytesOf, written, joinedAt, openedAt}
 use Rattle.layout.proofs.Placing.{next-after, reach, at-most, at-before, opens-is}
 use Rattle.layout.proofs.Image.{image-size}
 use Rattle.layout.proofs.Listing.{is-branch, target-below}
@@ -89,12 +90,12 @@ pub open-front : (b : Bool) (order : ℕ) (o cells end : List ℕ) (c : Spot) (w
 open-front true order o cells end c w h = store-front order o cells end (c .next) w h
 open-front false order o cells end c w h = refl
 
-above-rest : (g : Form) (o : Bool) (v w : ℕ) → above g false v (pick o 0 w) ≡ above g o v w
+above-rest : (g : Form) (o : Bool) (v w : ℕ) → above g false v (if o 0 w) ≡ above g o v w
 above-rest alone o v w = refl
 above-rest immediate o v w = refl
 above-rest inCell o v w = refl
 
-nothing-above : (o : Bool) → 0 ≡ pick o 0 0
+nothing-above : (o : Bool) → 0 ≡ if o 0 0
 nothing-above true = refl
 nothing-above false = refl
 
@@ -102,7 +103,7 @@ nothing-above false = refl
 pub record WriteTurn (order base : ℕ) (l : Listing) (o out : List ℕ) (rest i : ℕ) : Type 0 where
   pub inside : i ≤ l .count
   pub size : length out ≡ length o
-  pub above-is : rest ≡ pick (opens (layout l) i) 0 (word (layout l) (l .kind) (value base l) (l .count - i) i)
+  pub above-is : rest ≡ if (opens (layout l) i) 0 (word (layout l) (l .kind) (value base l) (l .count - i) i)
   pub out-is : out
       ≡ from order (cur (layout l) i .next) (cells (layout l) (l .kind) (value base l) (l .count - i) i) o (drop (4 * imageCells l) o)
 
@@ -153,7 +154,7 @@ module _ (order base : ℕ) (l : Listing) (o : List ℕ) (room : 4 * imageCells 
     -- the turn, over what the code has
     pub write-turn : (g : Form) (v f at next w r : ℕ) (out1 out2 : List ℕ) → g ≡ formAt p j → v ≡ value base l j → f ≡ left p j
         → at ≡ mid p j .at → next ≡ mid p j .next → w ≡ pack (byteOf g (l .kind j)) (above g false v rest)
-        → r ≡ pick (eqb f 3) 0 w → out1 ≡ joinedAt g order out next v → out2 ≡ openedAt (eqb f 3) order out1 at w
+        → r ≡ if (eqb f 3) 0 w → out1 ≡ joinedAt g order out next v → out2 ≡ openedAt (eqb f 3) order out1 at w
         → length out2 ≡ length out → WriteTurn order base l o out2 r j
     write-turn g v f at next w r out1 out2 qg qv qf qa qe qw qr q1 q2 z =
         let b : eqb f 3 ≡ opens p j = ap (λ (k : ℕ). eqb k 3) qf ∙ sym (opens-is p j) in
@@ -161,7 +162,7 @@ module _ (order base : ℕ) (l : Listing) (o : List ℕ) (room : 4 * imageCells 
         record {
           inside = omega arith;
           size = z ∙ t .size;
-          above-is = qr ∙ ap₂ (λ (b : Bool) (k : ℕ). pick b 0 k) b y;
+          above-is = qr ∙ ap₂ (λ (b : Bool) (k : ℕ). if b 0 k) b y;
           out-is =
               q2
               ∙ ap₂ (λ (b : Bool) (k : ℕ). openedAt b order out1 at k) b y
@@ -201,7 +202,7 @@ module _ (base : ℕ) (l : Listing) (ok : judgedListing l ≡ Passed) (flags ats
 
   pub value-is : (g : Form) → g ≡ formAt (layout l) j
       → valueOf (classOf (l .kind j)) g (l .operand j) (getD nexts j 0)
-      (pick (isBranch (classOf (l .kind j))) (getD ats (l .operand j) 0) 0) base
+      (if (isBranch (classOf (l .kind j))) (getD ats (l .operand j) 0) 0) base
       ≡ value base l j
   value-is g q =
       rw (q, laid .next j h)
@@ -216,9 +217,9 @@ module _ (base : ℕ) (l : Listing) (ok : judgedListing l ≡ Passed) (flags ats
             (omega (arith, at-before (layout l) (l .operand j), reach (layout l) (l .operand j) (l .count) k, at-most (layout l) (l .count))),
       )
 
-pub pick-most : (b : Bool) (a m : ℕ) → (b ≡ true → a ≤ m) → pick b a 0 ≤ m
-pick-most true a m h = h refl
-pick-most false a m h = omega arith
+pub if-most : (b : Bool) (a m : ℕ) → (b ≡ true → a ≤ m) → if b a 0 ≤ m
+if-most true a m h = h refl
+if-most false a m h = omega arith
 
 pub byte-small : (g : Form) (k : ℕ) → k < 255 → byteOf g k < 256
 byte-small alone k h = omega arith

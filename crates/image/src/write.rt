@@ -14,8 +14,8 @@ ghost use mathlib.Core.Path.{_≡_};
 ghost use Prim.Native.Nat.{_+_, _*_, _≤_, _<_};
 ghost use lib.ListN.{length, getD};
 ghost use lib.Seq.{sets};
-ghost use Rattle.cell.specs.Memory.{cellCount};
-ghost use Rattle.cell.specs.Shift.{pick};
+ghost use Rattle.cell.specs.Memory.{cellBytes, cellCount};
+ghost use Rattle.cell.specs.Choice.{if};
 ghost use Rattle.layout.specs.Kinds.{classOf, isBranch};
 ghost use Rattle.layout.specs.Bytes.{pack};
 ghost use Rattle.layout.specs.Flags.{bit, flagged};
@@ -23,7 +23,7 @@ ghost use Rattle.layout.specs.Listing.{listed, Checked};
 ghost use Rattle.layout.specs.Layout.{extra, Laid};
 ghost use Rattle.layout.specs.Image.{byteOf, above};
 ghost use Rattle.layout.specs.Packing.{formOf, valueOf, marks as marksOf, layout, image, imageCells};
-ghost use Rattle.layout.specs.Output.{cellBytes, written, joinedAt, openedAt};
+ghost use Rattle.layout.specs.Output.{written, joinedAt, openedAt};
 
 // A byte of a cell.
 fn low(x: u32) -> u8
@@ -94,7 +94,7 @@ fn pack_of(b: u32, x: u32) -> u32
 // The index of a branch's target.
 fn target_of(kind: u8, x: u32, ats: &[u32]) -> CellCount
     requires { ⌜ (isBranch (classOf kind) ≡ true → x < length (now ats)) ⌝ }
-    ensures { λ r. ⌜ r ≡ cellCount (pick (isBranch (classOf kind)) (getD (now (ats .entry)) x 0) 0) ⌝ }
+    ensures { λ r. ⌜ r ≡ cellCount (if (isBranch (classOf kind)) (getD (now (ats .entry)) x 0) 0) ⌝ }
 {
     if is_branch(kind) {
         return place_of(ats, ItemNumber(x));
@@ -117,7 +117,7 @@ fn put_operand(order: u8, out: &mut [u8], g: Form, next: CellCount, v: u32)
 // Stores the cell of an item that opens one. The answer stands above the item before it.
 fn put_opened(order: u8, out: &mut [u8], opens: bool, at: CellCount, w: u32) -> u32
     requires { ⌜ (at .0 ≤ 8192) × (4 * (at .0 + bit opens) ≤ length (now out)) ⌝ }
-    ensures { λ r. ⌜ (r ≡ pick opens 0 w) × (now (out .exit) ≡ openedAt opens order (now (out .entry)) (at .0) w) ⌝ }
+    ensures { λ r. ⌜ (r ≡ if opens 0 w) × (now (out .exit) ≡ openedAt opens order (now (out .entry)) (at .0) w) ⌝ }
 {
     if opens {
         put_cell(order, out, at, w);
@@ -143,7 +143,7 @@ fn pack_item(
     base: Address,
 ) -> Packed
     requires { ⌜ (f ≤ 3) × (base .0 ≤ 16777216) × (isBranch (classOf kind) ≡ true → (x < length (now ats)) × (getD (now ats) x 0 ≤ 8192)) ⌝ }
-    ensures { λ r. ⌜ (r .form ≡ formOf (classOf kind) marked x f) × (r .value ≡ valueOf (classOf kind) (r .form) x (next .0) (pick (isBranch (classOf kind)) (getD (now (ats .entry)) x 0) 0) (base .0)) ⌝ }
+    ensures { λ r. ⌜ (r .form ≡ formOf (classOf kind) marked x f) × (r .value ≡ valueOf (classOf kind) (r .form) x (next .0) (if (isBranch (classOf kind)) (getD (now (ats .entry)) x 0) 0) (base .0)) ⌝ }
 {
     let c = class_of(kind);
     let g = form_of(c, marked, x, f);

@@ -5,7 +5,7 @@ use mathlib.Core.Bool.{Bool, true, false, _||_, true≢false}
 use Prim.Native.Nat.{ℕ, zero, suc, _+_, _-_, _≤_, _<_}
 use native.Mathlib.Decide.{decLt}
 use native.Mathlib.Omega.{arith}
-use Rattle.cell.specs.Shift.{pick}
+use Rattle.cell.specs.Choice.{if}
 use Rattle.layout.specs.Flags.{bit}
 use Rattle.layout.specs.Listing.{any}
 use Rattle.layout.specs.Rounds.{rounds, adds, settle}
@@ -61,7 +61,7 @@ module _ (n : ℕ) (new : (ℕ → Bool) → ℕ → Bool) (only : (m : ℕ → 
   quiet-from (suc k) r e h = go (adds n new r) refl (λ q. quiet-from k (suc r) (omega arith) (omega (arith, grows r q)))
     where
       go : (b : Bool) → adds n new r ≡ b → (adds n new r ≡ true → adds n new (settle n new k (suc r)) ≡ false)
-          → adds n new (pick b (settle n new k (suc r)) r) ≡ false
+          → adds n new (if b (settle n new k (suc r)) r) ≡ false
       go true q h = h q
       go false q h = q
 
@@ -78,7 +78,7 @@ unfolding settle
 settle-at-most n new zero r = omega arith
 settle-at-most n new (suc k) r = go (adds n new r) (settle-at-most n new k (suc r))
   where
-    go : (b : Bool) → settle n new k (suc r) ≤ suc r + k → pick b (settle n new k (suc r)) r ≤ r + suc k
+    go : (b : Bool) → settle n new k (suc r) ≤ suc r + k → if b (settle n new k (suc r)) r ≤ r + suc k
     go true h = omega arith
     go false h = omega arith
 

@@ -4,7 +4,7 @@ use mathlib.Core.Bool.{Bool, true, false}
 use mathlib.Core.List.{List, [], _∷_}
 use Prim.Native.Nat.{ℕ, zero, suc, _+_, _-_, _*_, _%_, _^_}
 use lib.ListN.{getD}
-use Rattle.cell.specs.Shift.{pick}
+use Rattle.cell.specs.Choice.{if}
 use Rattle.layout.specs.declared.Form.{Form}
 use Rattle.layout.specs.Bytes.{pack, shifts}
 use Rattle.layout.specs.Layout.{Plan, opens, mid, left, formAt, alone, immediate, inCell}
@@ -18,9 +18,9 @@ byteOf inCell k = k
 -- what stands above an item's opcode: o, the next item opens a cell; v, the item's value; w, the cell from the next item's byte up.
 -- Document 01, Listings: an immediate's value fills the bytes behind its opcode; bytes that nothing fills are 00h
 abbrev pub above : Form → Bool → ℕ → ℕ → ℕ
-above alone o v w = pick o 0 w
+above alone o v w = if o 0 w
 above immediate o v w = v
-above inCell o v w = pick o 0 w
+above inCell o v w = if o 0 w
 
 -- the item's cell, if it opens one, goes before the cells that follow
 abbrev pub opened : Bool → ℕ → List ℕ → List ℕ

@@ -1,17 +1,15 @@
 -- An image as bytes in a lent output. Document 01, The processor: order 0 puts the least significant byte first, order 1 the most;
 -- Turned back for the state: a success leaves every other byte.
 use mathlib.Core.List.{List, [], _∷_, _++_}
-use Prim.Native.Nat.{ℕ, zero, suc, _*_, _/_, _%_}
+use Prim.Native.Nat.{ℕ, _*_}
 use mathlib.Core.Bool.{Bool, true, false}
 use lib.ListN.{length, drop}
 use lib.Seq.{sets}
+use Rattle.cell.specs.Memory.{cellBytes}
 use Rattle.layout.specs.declared.Form.{Form}
 use Rattle.layout.specs.Layout.{alone, immediate, inCell}
 
-abbrev pub cellBytes : ℕ → ℕ → List ℕ
-cellBytes zero x = x % 256 ∷ x / 256 % 256 ∷ x / 65536 % 256 ∷ x / 16777216 % 256 ∷ []
-cellBytes (suc order) x = x / 16777216 % 256 ∷ x / 65536 % 256 ∷ x / 256 % 256 ∷ x % 256 ∷ []
-
+-- the bytes of cells in a row
 unfoldable pub bytesOf : ℕ → List ℕ → List ℕ
 bytesOf order [] = []
 bytesOf order (x ∷ xs) = cellBytes order x ++ bytesOf order xs

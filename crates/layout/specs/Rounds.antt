@@ -2,7 +2,7 @@
 -- Document 01, Listings: no mark is taken back, and the last round is the first that adds none.
 use mathlib.Core.Bool.{Bool, false, _||_}
 use Prim.Native.Nat.{ℕ, zero, suc}
-use Rattle.cell.specs.Shift.{pick}
+use Rattle.cell.specs.Choice.{if}
 use Rattle.layout.specs.Listing.{any}
 
 module _ (n : ℕ) (new : (ℕ → Bool) → ℕ → Bool) where
@@ -18,7 +18,7 @@ module _ (n : ℕ) (new : (ℕ → Bool) → ℕ → Bool) where
   -- the first round from r on that adds none, with k rounds to look at
   unfoldable pub settle : ℕ → ℕ → ℕ
   settle zero r = r
-  settle (suc k) r = pick (adds r) (settle k (suc r)) r
+  settle (suc k) r = if (adds r) (settle k (suc r)) r
 
   -- n rounds are enough, since each but the last marks an item
   unfoldable pub settled : ℕ → Bool

@@ -4,7 +4,7 @@ use mathlib.Core.Bool.{Bool, true, false}
 use mathlib.Core.List.{List, [], _∷_, _++_, map}
 use Prim.Native.Nat.{ℕ, zero, suc, _+_, _-_, _^_}
 use lib.ListN.{replicate}
-use Rattle.cell.specs.Shift.{pick}
+use Rattle.cell.specs.Choice.{if}
 use Rattle.cell.specs.Refusals.{refusalNumber}
 use Rattle.cell.specs.declared.Judged.{Judged}
 use Rattle.cell.specs.declared.Judged.the-variants.{Passed, Refused}
@@ -138,4 +138,4 @@ isKind noKind = false
 
 unfoldable pub bytesOf : (Class → Bool) → ℕ → ℕ
 bytesOf test zero = 0
-bytesOf test (suc k) = pick (test (classOf k)) 1 0 + bytesOf test k
+bytesOf test (suc k) = if (test (classOf k)) 1 0 + bytesOf test k

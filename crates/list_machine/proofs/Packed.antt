@@ -4,11 +4,11 @@ use mathlib.Core.List.{List, [], _∷_}
 use Prim.Native.Nat.{ℕ, zero, suc, _+_, _*_, _^_, _<_}
 use native.Mathlib.Omega.{arith}
 use lib.ListN.{length, getD}
-use Rattle.cell.specs.Memory.{joined, cellAt, byte0, byte1, byte2, byte3}
+use Rattle.cell.specs.Memory.{cellBytes, joined, cellAt, byte0, byte1, byte2, byte3}
 use Rattle.cell.proofs.BytesLaws.{join-bytes}
 use Rattle.machine.specs.declared.Machine.{Machine}
 use Rattle.layout.specs.Listing.{Listing}
-use Rattle.layout.specs.Output.{cellBytes, bytesOf}
+use Rattle.layout.specs.Output.{bytesOf}
 use Rattle.layout.specs.Packing.{imageCells, image, Legal}
 use Rattle.layout.proofs.Packing.{image-below, size-is}
 use Rattle.list_machine.specs.Demand3.{Holds, HoldsBytes, PackedHolds}

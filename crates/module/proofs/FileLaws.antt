@@ -5,9 +5,9 @@ use Prim.Native.Nat.{ℕ, zero, suc, _+_, _-_, _*_, _^_, _≤_, _<_}
 use native.Mathlib.Omega.{arith}
 use lib.ListN.{length, getD, take, drop, length-append, length-drop, take-append-drop}
 use lib.Seq.{take-at, drop-at, drop-cons, take-add, take-all, length-take-le, getD-take, getD-drop}
-use Rattle.cell.specs.Memory.{cellAt, Bytewise}
+use Rattle.cell.specs.Memory.{cellBytes, cellAt, Bytewise}
 use Rattle.cell.proofs.BytesLaws.{join-bytes}
-use Rattle.module.specs.Format.{title, cellBytes, orderOf, countOf, codeOf, headerOf, moduleOf}
+use Rattle.module.specs.Format.{title, orderOf, countOf, codeOf, headerOf, moduleOf}
 use Rattle.module.specs.Conditions.{GoodFile}
 use Rattle.module.proofs.AnswerLaws.{header-length}
 use Rattle.module.proofs.SameLaws.{bytes-back}

@@ -5,9 +5,8 @@ use Prim.Native.Nat.{ℕ, zero, suc, _+_, _*_, _≤_, _<_}
 use native.Mathlib.Omega.{arith}
 use lib.ListN.{length, getD, take, drop, set}
 use lib.Seq.{getD-drop, paste, paste-zero, paste-suc}
-use Rattle.cell.specs.Memory.{put, cellAt, storeCell, Bytewise}
+use Rattle.cell.specs.Memory.{cellBytes, put, cellAt, storeCell, Bytewise}
 use Rattle.cell.proofs.BytesLaws.{bytes-joined}
-use Rattle.module.specs.Format.{cellBytes}
 use Rattle.module.specs.Copies.{copied}
 
 -- a part of bytes is bytes

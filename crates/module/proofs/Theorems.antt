@@ -7,9 +7,8 @@ use native.Mathlib.Omega.{arith}
 use lib.ListN.{length, take, drop, take-append-drop, length-take, length-drop}
 use lib.Seq.{paste, take-at, drop-at, take-all, length-take-le}
 use Rattle.cell.specs.Memory.{cellAt, Bytewise}
-use Rattle.cell.specs.Refusals.{refusalNumber, GoodMachine}
-use Rattle.cell.specs.declared.Refusal.{Refusal}
-use Rattle.cell.specs.declared.Refusal.the-variants.{MemoryLength, ByteOrder, Header, FileLength, Unaligned, Outside, ShortOutput, ItemCount, Kind, PlainOperand, Target, Base}
+use Rattle.cell.specs.Refusals.{GoodMachine}
+use Rattle.cell.proofs.JudgementLaws.{refusal-some}
 use Rattle.cell.specs.declared.Judged.{Judged}
 use Rattle.cell.specs.declared.Judged.the-variants as judged
 use Rattle.module.specs.declared.Saved.the-variants.{Bytes}
@@ -24,28 +23,13 @@ use Rattle.module.proofs.CopyLaws.{copied-length, copied-apart, copied-
 use Rattle.module.proofs.SameLaws.{copied-same, drop-bytewise, take-bytewise}
 use Rattle.module.proofs.FileLaws.{module-length, module-code, module-order, module-count, module-good, module-cell, header-back}
 
--- no refusal has the number 0
-pub refused : (r : Refusal) → refusalNumber r ≡ 0 → ⊥
-refused MemoryLength e = omega arith
-refused ByteOrder e = omega arith
-refused Header e = omega arith
-refused FileLength e = omega arith
-refused Unaligned e = omega arith
-refused Outside e = omega arith
-refused ShortOutput e = omega arith
-refused ItemCount e = omega arith
-refused Kind e = omega arith
-refused PlainOperand e = omega arith
-refused Target e = omega arith
-refused Base e = omega arith
-
 load-passed : (order : ℕ) (m file : List ℕ) (a : ℕ) (j : Judged) → loadIf j order m file a .number ≡ 0 → j ≡ judged.Passed
 load-passed order m file a judged.Passed e = refl
-load-passed order m file a (judged.Refused r) e = absurd (refused r e)
+load-passed order m file a (judged.Refused r) e = absurd (refusal-some r e)
 
 save-passed : (order : ℕ) (m : List ℕ) (a l : ℕ) (out : List ℕ) (j : Judged) → saveIf j order m a l out .number ≡ 0 → j ≡ judged.Passed
 save-passed order m a l out judged.Passed e = refl
-save-passed order m a l out (judged.Refused r) e = absurd (refused r e)
+save-passed order m a l out (judged.Refused r) e = absurd (refusal-some r e)
 
 -- a file is accepted exactly if the listed conditions hold
 pub accepted-exactly : AcceptedExactly

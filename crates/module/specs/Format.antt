@@ -1,18 +1,13 @@
 -- The file of an object module. Document 01, Modules, and document 001, section 4.1 and table 8: the six letters of its title and a 00h, the byte
 -- order, then, in that order, how many cells follow, and these cells.
 use mathlib.Core.List.{List, [], _∷_, _++_}
-use Prim.Native.Nat.{ℕ, zero, suc, _*_}
+use Prim.Native.Nat.{ℕ, _*_}
 use lib.ListN.{getD, take, drop}
-use Rattle.cell.specs.Memory.{byte0, byte1, byte2, byte3, cellAt}
+use Rattle.cell.specs.Memory.{cellBytes, cellAt}
 
 -- "BEETLE", 00h
 abbrev pub title : List ℕ
 title = 0x42 ∷ 0x45 ∷ 0x45 ∷ 0x54 ∷ 0x4C ∷ 0x45 ∷ 0x00 ∷ []
-
--- the four bytes of a cell, the first in the file first
-abbrev pub cellBytes : ℕ → ℕ → List ℕ
-cellBytes zero x = byte0 x ∷ byte1 x ∷ byte2 x ∷ byte3 x ∷ []
-cellBytes (suc order) x = byte3 x ∷ byte2 x ∷ byte1 x ∷ byte0 x ∷ []
 
 -- the twelve bytes in front of l cells
 unfoldable pub headerOf : ℕ → ℕ → List ℕ

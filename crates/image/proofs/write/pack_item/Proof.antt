@@ -4,7 +4,7 @@ use mathlib.Core.Path.{ap, ap₂, _∙_}
 use Rattle.cell.specs.declared.CellCount.{CellCount}
 use Rattle.layout.specs.declared.Class.{Class}
 use Rattle.layout.specs.Packing.{formOf, valueOf}
-use Rattle.image.proofs.Writing.{pick-most}
+use Rattle.image.proofs.Writing.{if-most}
 use borrow.Author.Needs.{needs}
 use Rattle.image.proofs.write.pack_item.Tie as tie
 use Rattle.image.proofs.write.pack_item.Statement.{statement}
@@ -23,7 +23,7 @@ target-of-requires c κs =
 value-of-requires : tie.Need-value-of-requires
 value-of-requires c κs =
     let pre-here = c .before .before .before .before .pre in
-    (pre-here .1, rw (c .target-of .ensures) (pick-most _ _ _ (λ q. pre-here .2 q .1)))
+    (pre-here .1, rw (c .target-of .ensures) (if-most _ _ _ (λ q. pre-here .2 q .1)))
 
 returns : tie.Need-returns
 returns c =
