@@ -3,4 +3,3 @@ pub mod Lending
 pub mod Machines
 pub mod Modules
 pub mod Listings
-pub mod Lists

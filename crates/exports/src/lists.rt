@@ -3,10 +3,10 @@ ghost use mathlib.Core.Path.{_≡_};
 ghost use mathlib.Core.Bool.{not};
 ghost use lib.Dec.{eqb};
 ghost use Rattle.calls.specs.Machines as machines;
-ghost use Rattle.calls.specs.Lists as lists;
-use calls::lists::resume_list;
+ghost use Rattle.list_calls.specs.Lists as lists;
 use cell::Address;
 use layout::ItemNumber;
+use list_calls::lists::resume_list;
 
 #[no_mangle]
 pub extern "C" fn beetle_list_run(

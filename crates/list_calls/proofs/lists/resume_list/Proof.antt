@@ -1,10 +1,10 @@
 -- `resume_list` meets its contract: the answer of crate `follow`, told.
 use lib.ListN.{length}
-use Rattle.calls.specs.Lists.{standGiven}
-use Rattle.calls.proofs.ListLaws.{has-room, list-noted}
+use Rattle.list_calls.specs.Lists.{standGiven}
+use Rattle.list_calls.proofs.ListLaws.{has-room, list-noted}
 use borrow.Author.Needs.{needs}
-use Rattle.calls.proofs.lists.resume_list.Statement.{statement}
-use Rattle.calls.proofs.lists.resume_list.Tie as tie
+use Rattle.list_calls.proofs.lists.resume_list.Statement.{statement}
+use Rattle.list_calls.proofs.lists.resume_list.Tie as tie
 
 number-at-requires : tie.Need-number-at-requires
 number-at-requires c κs = search needs

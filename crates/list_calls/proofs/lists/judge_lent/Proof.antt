@@ -1,8 +1,8 @@
 -- `judge_lent` meets its contract.
-use Rattle.calls.specs.Lists as lists
+use Rattle.list_calls.specs.Lists as lists
 use borrow.Author.Needs.{needs}
-use Rattle.calls.proofs.lists.judge_lent.Statement.{statement}
-use Rattle.calls.proofs.lists.judge_lent.Tie as tie
+use Rattle.list_calls.proofs.lists.judge_lent.Statement.{statement}
+use Rattle.list_calls.proofs.lists.judge_lent.Tie as tie
 
 with-room-requires : tie.Need-with-room-requires
 with-room-requires c κs = search needs

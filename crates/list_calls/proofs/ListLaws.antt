@@ -18,10 +18,10 @@ use Rattle.items.specs.declared.Ran.{Ran}
 use Rattle.follow.specs.Follow.{judgeBegin, judgeImage, judgeFollow, FollowResult, followedTo, followIf, resumeIn}
 use Rattle.follow.specs.declared.Followed.{Followed}
 use Rattle.follow.specs.declared.Followed.the-variants as followed
 use Rattle.calls.specs.Lending.{withRoom}
 use Rattle.calls.specs.Machines.{told, called}
-use Rattle.calls.specs.Lists.{listTold, answerTold, judgeLent, Room, standGiven, resumeCall}
+use Rattle.list_calls.specs.Lists.{listTold, answerTold, judgeLent, Room, standGiven, resumeCall}
 use Rattle.calls.proofs.LendingLaws.{roomy}
 
 lent-roomy : (pointers out : ℕ) → judgeLent pointers out ≡ Passed → (2 ≤ pointers) × (5 ≤ out)
 unfolding judgeLent

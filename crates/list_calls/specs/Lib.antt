@@ -1,0 +1,2 @@
+-- What crate `list_calls` means.
+pub mod Lists
