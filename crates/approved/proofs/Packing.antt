@@ -15,8 +15,9 @@ use Rattle.layout.specs.File.{filed, fileBase, fileCount, fileKinds, fileOperan
 use Rattle.layout.specs.Output.{bytesOf, written}
 use Rattle.layout.specs.Packing.{image, imageCells, judgedPlace, Legal}
 use Rattle.layout.proofs.Packing.{size-is}
-use Rattle.packer.specs.Judgement.{judgeOrder, judgeRoom, judgeAll, judgePack, judgePackFile}
-use Rattle.packer.specs.Pack.{PackResult, packIf, packOf, packFileOf}
+use Rattle.packer.specs.Judgement.{judgeOrder, judgeRoom, judgeAll, judgePack}
+use Rattle.packer.specs.Pack.{PackResult, packIf, packOf}
+use Rattle.listing_files.specs.Files.{judgePackFile, packFileOf}
 use Rattle.packer.proofs.Judging.{arrays-checked}
 use Rattle.approved.specs.Approved.{Cells, Packs, ofArrays, ofFile}
 

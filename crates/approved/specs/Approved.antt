@@ -13,7 +13,8 @@ use Rattle.processor.specs.Cycles.{fourCells}
 use Rattle.processor.specs.declared.Started.the-variants.{Ready}
 use Rattle.layout.specs.Listing.{Listing, listed}
 use Rattle.layout.specs.File.{filed, fileBase}
-use Rattle.packer.specs.Pack.{PackResult, packOf, packFileOf}
+use Rattle.packer.specs.Pack.{PackResult, packOf}
+use Rattle.listing_files.specs.Files.{packFileOf}
 use Rattle.module.specs.Answers.{SaveResult, saveOf, LoadResult, loadOf}
 use Rattle.module.specs.Conditions.{GoodPlace}
 use Rattle.module.specs.Theorems.{savedFile}

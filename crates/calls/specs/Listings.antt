@@ -5,10 +5,11 @@ use lib.ListN.{length}
 use Rattle.cell.specs.Refusals.{refusalNumber}
 use Rattle.cell.specs.declared.Judged.{Judged}
 use Rattle.cell.specs.declared.Judged.the-variants as judged
-use Rattle.packer.specs.Judgement.{judgePack, judgePackFile}
-use Rattle.packer.specs.Pack.{PackResult, packOf, packFileOf}
+use Rattle.packer.specs.Judgement.{judgePack}
+use Rattle.packer.specs.Pack.{PackResult, packOf}
 use Rattle.packer.specs.declared.Packed.{Packed}
 use Rattle.packer.specs.declared.Packed.the-variants as packed
+use Rattle.listing_files.specs.Files.{judgePackFile, packFileOf}
 use Rattle.calls.specs.Lending.{written, withRoom}
 use Rattle.calls.specs.Modules.{Noted, noted, Moved, moved}
 

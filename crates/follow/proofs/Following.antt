@@ -18,7 +18,7 @@ use Rattle.processor.specs.Answers.{machineOf}
 use Rattle.processor.proofs.EntryLaws.{passed}
 use Rattle.layout.specs.Listing.{Listing, listed, judgedArrays, Checked}
 use Rattle.layout.specs.Packing.{imageCells, judgedPlace}
-use Rattle.packer.proofs.Judging.{arrays-checked}
+use Rattle.pack_prepare.proofs.Checking.{arrays-checked}
 use Rattle.list_machine.specs.ListMachine.{Position}
 use Rattle.list_machine.specs.Runs.{Course, goesOn, stoppedBy, stoodOutside, Run, runOf, resuming}
 use Rattle.list_machine.proofs.Simulation.{demand3}

@@ -5,11 +5,11 @@ ghost use lib.ListN.{length};
 ghost use Rattle.cell.specs.Memory.{cellCount};
 ghost use Rattle.layout.specs.Listing.{listed, Checked};
 ghost use Rattle.layout.specs.Packing.{imageCells};
-ghost use Rattle.packer.specs.Prepared.{Places};
+ghost use Rattle.pack_prepare.specs.Prepared.{Places};
 ghost use Rattle.items.specs.Tables as tables;
 use cell::CellCount;
 use items::tabling::tabulate;
-use packer::prepare::prepare;
+use pack_prepare::prepare::prepare;
 
 // The rounds in the lent arrays, then the table. The answer is the number of cells of the image.
 fn fill_table(

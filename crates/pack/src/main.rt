@@ -1,7 +1,7 @@
 // Packs the listing file that the first argument names, or standard input where there is none, and prints the cells of its image, one a
 // line, or the number of the refusal.
 use libc::STDIN_FILENO;
-use packer::file::pack_file;
+use listing_files::file::pack_file;
 use print::print_packed;
 
 // Packs a listing file and prints the result. An image has at most 8,192 cells.

@@ -11,13 +11,12 @@ use Rattle.cell.specs.declared.Refusal.{Refusal}
 use Rattle.cell.specs.declared.Judged.{Judged}
 use Rattle.cell.specs.declared.Judged.the-variants as judged
 use Rattle.layout.specs.Listing.{Listing, listed, judgedArrays}
-use Rattle.layout.specs.File.{filed, fileBase, judgedFile}
 use Rattle.layout.specs.Packing.{image, imageCells}
 use Rattle.layout.specs.Output.{written}
 use Rattle.packer.specs.declared.Packed.{Packed}
 use Rattle.packer.specs.declared.Packed.the-variants as packed
-use Rattle.packer.specs.Judgement.{judgeInput, judgeImage, judgePack, judgePackFile}
-use Rattle.packer.specs.Pack.{packCount, PackResult, packedTo, packIf, packOf, packFileOf}
+use Rattle.packer.specs.Judgement.{judgeInput, judgeImage, judgePack}
+use Rattle.packer.specs.Pack.{packCount, PackResult, packedTo, packIf, packOf}
 use Rattle.packer.proofs.Judging.{pack-halves, all-room}
 
 -- an image of cells that were counted, turned back or written
@@ -44,7 +43,7 @@ module _ (order : ℕ) (kinds operands : List ℕ) (base : ℕ) (out : List ℕ)
   pack-packed p q w = rw (pack-halves, q) w
 
 -- the cells that an answer counts are inside the output
-if-room : (j : Judged) (order base : ℕ) (l : Listing) (out : List ℕ) → (j ≡ judged.Passed → 4 * imageCells l ≤ length out)
+pub if-room : (j : Judged) (order base : ℕ) (l : Listing) (out : List ℕ) → (j ≡ judged.Passed → 4 * imageCells l ≤ length out)
     → 4 * packIf j order base l out .count ≤ length out
 if-room judged.Passed order base l out f = f refl
 if-room (judged.Refused r) order base l out f = omega arith
@@ -57,10 +56,3 @@ module _ (order : ℕ) (out next : List ℕ) (a : Packed) where
       rw (ap (λ (p : PackResult). p .count) e)
       (if-room _ order base (listed kinds operands) out
       (all-room order (judgedArrays kinds operands) base (listed kinds operands) (length out)))
-
-  pub pack-file-room : (file : List ℕ) → packedTo next a ≡ packFileOf order file out → 4 * packCount a ≤ length out
-  unfolding packFileOf judgePackFile
-  pack-file-room file e =
-      rw (ap (λ (p : PackResult). p .count) e)
-      (if-room _ order (fileBase file) (filed file) out
-      (all-room order (judgedFile file) (fileBase file) (filed file) (length out)))

@@ -1,26 +1,22 @@
--- Judgements in order, and what an accepted listing gives.
+-- Judgements in order, and what an accepted packing gives.
 -- Assumes nothing.
 use mathlib.Core.Path.{_≡_, refl, sym, ap, _∙_}
-use mathlib.Core.Bool.{not}
 use mathlib.Core.List.{List, [], _∷_}
 use Prim.Native.Nat.{ℕ, _*_, _≤_}
 use native.Mathlib.Omega.{arith}
-use borrow.Author.Tests.{eqb-true, ltb-false, not-false}
-use lib.Dec.{eqb, ltb}
-use lib.ListN.{length}
+use borrow.Author.Tests.{ltb-false}
+use lib.Dec.{ltb}
 use Rattle.cell.specs.Memory.{cellCount}
-use Rattle.cell.specs.Refusals.{judge, after, inOrder}
+use Rattle.cell.specs.Refusals.{after, inOrder}
 use Rattle.cell.specs.declared.CellCount.{CellCount}
-use Rattle.cell.specs.declared.Refusal.the-variants.{ItemCount, ShortOutput}
+use Rattle.cell.specs.declared.Refusal.the-variants.{ShortOutput}
 use Rattle.cell.specs.declared.Judged.{Judged}
 use Rattle.cell.specs.declared.Judged.the-variants.{Passed, Refused}
 use Rattle.cell.proofs.JudgementLaws.{both-pass, one-clear}
-use Rattle.layout.specs.Grounds.{unequal}
-use Rattle.layout.specs.Listing.{Listing, listed, judgedArrays, judgedListing, Checked}
-use Rattle.layout.specs.Packing.{layout, imageCells, judgedPlace}
-use Rattle.layout.proofs.Listing.{some-item}
-use Rattle.layout.proofs.Placing.{at-most}
+use Rattle.layout.specs.Listing.{Listing, listed, judgedArrays, Checked}
+use Rattle.layout.specs.Packing.{imageCells, judgedPlace}
 use Rattle.layout.proofs.Packing.{base-of}
+use Rattle.pack_prepare.proofs.Checking.{arrays-checked}
 use Rattle.packer.specs.Judgement.{judgeOrder, judgeRoom, judgeInput, judgeImage, judgeAll, judgePack}
 
 -- four judgements in order: where the first two turn back, they decide; where they pass, the last two do
@@ -43,27 +39,11 @@ pub last-one : (a : Judged) → inOrder (a ∷ []) ≡ a
 last-one Passed = refl
 last-one (Refused r) = refl
 
--- arrays that the input list passes
-pub arrays-checked : (kinds operands : List ℕ) → judgedArrays kinds operands ≡ Passed → Checked kinds operands
-unfolding judgedArrays
-arrays-checked kinds operands e =
-    let s = both-pass (judge (unequal (length kinds) (length operands) ∷ [])) (judgedListing (listed kinds operands)) e in
-    let t = one-clear (not (eqb (length kinds) (length operands))) ItemCount Passed (s .0) in
-    record { equal = sym (eqb-true (length kinds) (length operands) (not-false (eqb (length kinds) (length operands)) (t .0))); input = s .1 }
-
 pub input-checked : (order : ℕ) (kinds operands : List ℕ) → judgeInput order kinds operands ≡ Passed → Checked kinds operands
 unfolding judgeInput
 input-checked order kinds operands e =
     let s = both-pass (judgeOrder order) (inOrder (judgedArrays kinds operands ∷ [])) e in
     arrays-checked kinds operands (both-pass (judgedArrays kinds operands) Passed (s .1) .0)
-
-module _ (kinds operands : List ℕ) (ok : Checked kinds operands) where
-  pub items-most : length kinds ≤ 4096
-  items-most = some-item (listed kinds operands) (ok .input) .1
-
-  -- an image has at most 8,192 cells
-  pub cells-most : imageCells (listed kinds operands) ≤ 8192
-  cells-most = omega (arith, items-most, at-most (layout (listed kinds operands)) (length kinds))
 
 room-of : (cells size : ℕ) → judgeRoom cells size ≡ Passed → 4 * cells ≤ size
 unfolding judgeRoom

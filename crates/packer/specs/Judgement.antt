@@ -4,23 +4,14 @@ use mathlib.Core.List.{List, [], _∷_}
 use Prim.Native.Nat.{ℕ, _*_}
 use lib.Dec.{ltb}
 use Rattle.cell.specs.Refusals.{Ground, judge, inOrder, byteOrder}
-use Rattle.cell.specs.declared.Refusal.the-variants.{ShortOutput, ItemCount}
+use Rattle.cell.specs.declared.Refusal.the-variants.{ShortOutput}
 use Rattle.cell.specs.declared.Judged.{Judged}
 use Rattle.layout.specs.Listing.{Listing, listed, judgedArrays}
-use Rattle.layout.specs.File.{filed, fileCount, fileBase, judgedLength, judgedFile}
 use Rattle.layout.specs.Packing.{imageCells, judgedPlace}
 
 -- -4102: no byte order but 0 and 1
 unfoldable pub judgeOrder : ℕ → Judged
 judgeOrder order = judge (byteOrder order ∷ [])
-
--- what can be told of a file before its items are read: the byte order, the length, and a count above 4,096
-abbrev pub manyItems : ℕ → Ground
-manyItems n = record { applies = ltb 4096 n; refusal = ItemCount }
-
-unfoldable pub judgeHeader : ℕ → List ℕ → Judged
-judgeHeader order file =
-    inOrder (judgeOrder order ∷ judgedLength file ∷ judge (manyItems (fileCount file) ∷ []) ∷ [])
 
 -- -4105: the output has no room for the image, which takes four bytes a cell
 abbrev pub shortOutput : ℕ → ℕ → Ground
@@ -45,6 +36,3 @@ judgeAll order input base l size =
 unfoldable pub judgePack : ℕ → List ℕ → List ℕ → ℕ → ℕ → Judged
 judgePack order kinds operands base size =
     judgeAll order (judgedArrays kinds operands) base (listed kinds operands) size
-
-unfoldable pub judgePackFile : ℕ → List ℕ → ℕ → Judged
-judgePackFile order file size = judgeAll order (judgedFile file) (fileBase file) (filed file) size

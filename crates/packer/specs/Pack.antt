@@ -8,12 +8,11 @@ use Rattle.cell.specs.Refusals.{refusalNumber}
 use Rattle.cell.specs.declared.Judged.{Judged}
 use Rattle.cell.specs.declared.Judged.the-variants as judged
 use Rattle.layout.specs.Listing.{Listing, listed}
-use Rattle.layout.specs.File.{filed, fileBase}
 use Rattle.layout.specs.Packing.{image, imageCells}
 use Rattle.layout.specs.Output.{written}
 use Rattle.packer.specs.declared.Packed.{Packed}
 use Rattle.packer.specs.declared.Packed.the-variants as packed
-use Rattle.packer.specs.Judgement.{judgePack, judgePackFile}
+use Rattle.packer.specs.Judgement.{judgePack}
 
 -- the number and the count of each answer: 0 and the cells of the image, or the refusal's number and 0
 abbrev pub packNumber : Packed → ℕ
@@ -44,7 +43,3 @@ packIf judged.Passed order base l out =
 unfoldable pub packOf : ℕ → List ℕ → List ℕ → ℕ → List ℕ → PackResult
 packOf order kinds operands base out =
     packIf (judgePack order kinds operands base (length out)) order base (listed kinds operands) out
-
--- pack_file, on a listing file
-unfoldable pub packFileOf : ℕ → List ℕ → List ℕ → PackResult
-packFileOf order file out = packIf (judgePackFile order file (length out)) order (fileBase file) (filed file) out

@@ -2,13 +2,13 @@
 ghost use mathlib.Core.Path.{_≡_};
 ghost use Prim.Native.Nat.{_≤_};
 ghost use Rattle.packer.specs.Judgement as judgement;
-use crate::prepare::count_cells;
 use cell::Address;
 use cell::CellCount;
 use cell::Judged;
 use cell::Refusal;
 use listing::check::judge_arrays;
 use listing::check::judge_place;
+use pack_prepare::prepare::count_cells;
 
 pub fn judge_order(order: u8) -> Judged
     ensures { λ r. ⌜ r ≡ judgement.judgeOrder order ⌝ }

@@ -1,9 +1,7 @@
-// The packer: a listing becomes cells.
+// The packer: a listing becomes cells. Listing files are packed in `listing_files`.
 pub mod answers;
-pub mod file;
 pub mod judgement;
 pub mod pack;
-pub mod prepare;
 
 use cell::CellCount;
 use cell::Refusal;

@@ -5,14 +5,14 @@ ghost use Rattle.layout.specs.Listing.{listed, Checked};
 ghost use Rattle.layout.specs.Packing.{imageCells};
 ghost use Rattle.packer.specs.Judgement as judgement;
 ghost use Rattle.packer.specs.Pack as answers;
-ghost use Rattle.packer.specs.Prepared.{Places};
+ghost use Rattle.pack_prepare.specs.Prepared.{Places};
 use crate::Packed;
 use crate::judgement::judge_image;
 use crate::judgement::judge_input;
-use crate::prepare::prepare;
 use cell::Address;
 use cell::Judged;
 use image::write::write_image;
+use pack_prepare::prepare::prepare;
 
 // A listing that the input list passed, with the working arrays lent.
 fn pack_checked(

@@ -2,7 +2,7 @@
 use io::print_decimal;
 use io::write_all;
 use libc::STDOUT_FILENO;
-use packer::file::pack_file;
+use listing_files::file::pack_file;
 use print::print_packed;
 
 // The first n bytes of a file.

@@ -4,7 +4,7 @@ use Rattle.pack.proofs.print_image.Statement.{statement}
 use Rattle.pack.proofs.print_image.Tie as tie
 use lib.ListN.{replicate}
 use native.Mathlib.Omega.{arith}
-use Rattle.packer.proofs.Answering.{pack-file-room}
+use Rattle.listing_files.proofs.Filing.{pack-file-room}
 
 slice-aggregate-pack-file : tie.Need-slice-aggregate-pack-file
 slice-aggregate-pack-file c = search needs

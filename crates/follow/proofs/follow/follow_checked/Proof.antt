@@ -2,7 +2,7 @@
 use mathlib.Core.Path.{refl, sym, _∙_}
 use denote.Ref.{now}
 use Rattle.layout.specs.Listing.{listed}
-use Rattle.packer.proofs.Judging.{cells-most}
+use Rattle.pack_prepare.proofs.Checking.{cells-most}
 use Rattle.follow.proofs.Following.{image-settled, image-refused, image-ran}
 use borrow.Author.Needs.{needs}
 use Rattle.follow.proofs.follow.follow_checked.Statement.{statement}

@@ -2,7 +2,7 @@
 use mathlib.Core.Path.{sym, _∙_}
 use native.Mathlib.Omega.{arith}
 use lib.ListN.{length}
-use Rattle.packer.proofs.Judging.{items-most}
+use Rattle.pack_prepare.proofs.Checking.{items-most}
 use Rattle.follow.proofs.Following.{begin-lent, begin-checked, begin-refused, begin-passed}
 use borrow.Author.Needs.{needs}
 use Rattle.follow.proofs.follow.follow_within.Statement.{statement}

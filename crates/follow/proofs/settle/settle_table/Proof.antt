@@ -1,6 +1,6 @@
 -- `settle_table` meets its contract: the working arrays have a place for each item.
 use native.Mathlib.Omega.{arith}
-use Rattle.packer.proofs.Judging.{items-most}
+use Rattle.pack_prepare.proofs.Checking.{items-most}
 use borrow.Author.Needs.{needs}
 use Rattle.follow.proofs.settle.settle_table.Statement.{statement}
 use Rattle.follow.proofs.settle.settle_table.Tie as tie

@@ -6,7 +6,8 @@ use mathlib.Core.Path.{sym, _∙_}
 use lib.ListN.{length}
 use Rattle.layout.specs.Listing.{listed}
 use Rattle.packer.proofs.Answering.{image-refused, image-packed}
-use Rattle.packer.proofs.Judging.{cells-most, counted-fits}
+use Rattle.pack_prepare.proofs.Checking.{cells-most}
+use Rattle.packer.proofs.Judging.{counted-fits}
 
 prepare-requires : tie.Need-prepare-requires
 prepare-requires c κs = search needs

@@ -4,7 +4,7 @@ use Rattle.packs.proofs.files.front.Statement.{statement}
 use Rattle.packs.proofs.files.front.Tie as tie
 use lib.ListN.{replicate}
 use native.Mathlib.Omega.{arith}
-use Rattle.packer.proofs.Answering.{pack-file-room}
+use Rattle.listing_files.proofs.Filing.{pack-file-room}
 
 print-decimal-requires : tie.Need-print-decimal-requires
 print-decimal-requires c κs = search needs

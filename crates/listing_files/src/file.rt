@@ -2,23 +2,22 @@
 ghost use mathlib.Core.Path.{_≡_};
 ghost use lib.ListN.{length, take};
 ghost use Rattle.layout.specs.File.{fileCount, fileOperands};
-ghost use Rattle.packer.specs.Judgement as judgement;
 ghost use Rattle.packer.specs.Pack as answers;
-ghost use Rattle.packer.specs.Prepared.{Header};
-use crate::Packed;
-use crate::judgement::judge_order;
-use crate::judgement::judge_pack;
-use crate::pack::pack;
+ghost use Rattle.listing_files.specs.Files as files;
 use cell::Address;
 use cell::Judged;
 use cell::Refusal;
 use listing::file::cell_at;
 use listing::file::judge_length;
 use listing::file::read_operands;
+use packer::Packed;
+use packer::judgement::judge_order;
+use packer::judgement::judge_pack;
+use packer::pack::pack;
 
 // The byte order, the file's length and its count of items, with which the packing of a file begins.
 fn judge_header(order: u8, file: &[u8]) -> Judged
-    ensures { λ r. ⌜ r ≡ judgement.judgeHeader order (now (file .entry)) ⌝ }
+    ensures { λ r. ⌜ r ≡ files.judgeHeader order (now (file .entry)) ⌝ }
 {
     match judge_order(order) {
         Judged::Refused(r) => Judged::Refused(r),
@@ -36,7 +35,7 @@ fn judge_header(order: u8, file: &[u8]) -> Judged
 
 // The operands, in front of an array of as many as a file may have.
 fn operands_of(file: &[u8]) -> [u32; 4096]
-    requires { ⌜ Header (now file) ⌝ }
+    requires { ⌜ files.Header (now file) ⌝ }
     ensures { λ r. ⌜ (4096 ≡ length r) × (take (fileCount (now (file .entry))) r ≡ fileOperands (now (file .entry))) ⌝ }
 {
     let n = cell_at(file, 0) as usize;
@@ -46,7 +45,7 @@ fn operands_of(file: &[u8]) -> [u32; 4096]
 }
 
 pub fn pack_file(order: u8, file: &[u8], output: &mut [u8]) -> Packed
-    ensures { λ r. ⌜ answers.packedTo (now (output .exit)) r ≡ answers.packFileOf order (now (file .entry)) (now (output .entry)) ⌝ }
+    ensures { λ r. ⌜ answers.packedTo (now (output .exit)) r ≡ files.packFileOf order (now (file .entry)) (now (output .entry)) ⌝ }
 {
     match judge_header(order, file) {
         Judged::Refused(r) => Packed::Refused(r),
@@ -62,7 +61,7 @@ pub fn pack_file(order: u8, file: &[u8], output: &mut [u8]) -> Packed
 
 // A packing of a file into an output of some size.
 pub fn judge_pack_file(order: u8, file: &[u8], size: usize) -> Judged
-    ensures { λ r. ⌜ r ≡ judgement.judgePackFile order (now (file .entry)) size ⌝ }
+    ensures { λ r. ⌜ r ≡ files.judgePackFile order (now (file .entry)) size ⌝ }
 {
     match judge_header(order, file) {
         Judged::Refused(r) => Judged::Refused(r),

@@ -3,7 +3,7 @@
 use mathlib.Core.Path.{_≡_, refl, sym, ap, _∙_}
 use mathlib.Core.Bool.{Bool, true, false, not, _||_}
 use mathlib.Core.List.{List, [], _∷_, _++_}
-use Prim.Native.Nat.{ℕ, _+_, _-_, _*_, _<_}
+use Prim.Native.Nat.{ℕ, _+_, _-_, _*_, _<_, _≤_}
 use native.Mathlib.Omega.{arith}
 use borrow.Author.Tests.{eqb-true, eq-eqb, ne-eqb, not-false, lt-ltb, le-ltb, ltb-true, ltb-false}
 use lib.Dec.{eqb, ltb}
@@ -20,10 +20,13 @@ use Rattle.cell.proofs.JudgementLaws.{both-pass, one-clear}
 use Rattle.layout.specs.Listing.{listed, judgedArrays, judgedListing}
 use Rattle.layout.specs.File.{cellsFrom, fileCount, fileBase, fileKinds, fileOperands, filed, judgedLength, judgedFile}
 use Rattle.layout.specs.Packing.{imageCells, judgedPlace}
+use Rattle.packer.specs.declared.Packed.{Packed}
 use Rattle.packer.specs.declared.Packed.the-variants as packed
-use Rattle.packer.specs.Judgement.{manyItems, judgeOrder, judgeRoom, judgeHeader, judgePack, judgePackFile}
-use Rattle.packer.specs.Pack.{PackResult, packedTo, packOf, packFileOf}
-use Rattle.packer.specs.Prepared.{Header}
+use Rattle.packer.specs.Judgement.{judgeOrder, judgeRoom, judgePack}
+use Rattle.packer.specs.Pack.{packCount, PackResult, packedTo, packOf}
+use Rattle.packer.proofs.Judging.{all-room}
+use Rattle.packer.proofs.Answering.{if-room}
+use Rattle.listing_files.specs.Files.{Header, manyItems, judgeHeader, judgePackFile, packFileOf}
 
 -- a file whose length is that of its header and its items
 pub length-of : (s : List ℕ) → judgedLength s ≡ Passed → length s ≡ 8 + 5 * fileCount s
@@ -127,3 +130,12 @@ module _ (order : ℕ) (s : List ℕ) where
     pub parts-packed : (out : List ℕ) (p : PackResult)
         → p ≡ packOf order (take (8 + n - 8) (drop 8 s)) (take (n - 0) operands) base out → p ≡ packFileOf order s out
     parts-packed out p q = q ∙ rw (kinds-part, operands-part, b) (sym (pack-file-passed out h))
+
+-- the cells that an answer counts are inside the output
+pub pack-file-room : (order : ℕ) (out next : List ℕ) (a : Packed) (file : List ℕ) → packedTo next a ≡ packFileOf order file out
+    → 4 * packCount a ≤ length out
+unfolding packFileOf judgePackFile
+pack-file-room order out next a file e =
+    rw (ap (λ (p : PackResult). p .count) e)
+    (if-room _ order (fileBase file) (filed file) out
+    (all-room order (judgedFile file) (fileBase file) (filed file) (length out)))

@@ -1,12 +1,12 @@
 -- `packer::file::judge_header` meets its contract. Assumes nothing.
 use borrow.Author.Needs.{needs}
-use Rattle.packer.proofs.file.judge_header.Statement.{statement}
-use Rattle.packer.proofs.file.judge_header.Tie as tie
+use Rattle.listing_files.proofs.file.judge_header.Statement.{statement}
+use Rattle.listing_files.proofs.file.judge_header.Tie as tie
 use mathlib.Core.Path.{sym, _∙_}
 use native.Mathlib.Omega.{arith}
 use borrow.Author.Tests.{lt-ltb, le-ltb}
-use Rattle.packer.specs.Judgement as judgement
-use Rattle.packer.proofs.Filing.{length-of}
+use Rattle.listing_files.specs.Files as files
+use Rattle.listing_files.proofs.Filing.{length-of}
 
 judge-order-requires : tie.Need-judge-order-requires
 judge-order-requires c κs = search needs
@@ -33,7 +33,7 @@ cell-at-requires c κs =
     let w = length-of (args .file .now) (sym (judge-length .ensures) ∙ c .enum-told2 .given .1) in omega (arith, w)
 
 returns : tie.Need-returns
-unfolding judgement.judgeHeader
+unfolding files.judgeHeader
 returns c =
     let judge-order = c .before .before .before .before .before .before .before .judge-order in
     let enum-told = c .before .before .before .before .before .enum-told in
@@ -43,11 +43,11 @@ returns c =
     rw (sym (judge-order .ensures) ∙ enum-told .given .1, sym (judge-length .ensures) ∙ enum-told2 .given .1, ← cell-at .ensures, lt-ltb _ _ (c .if1 .taken))
 
 returns-2 : tie.Need-returns-2
-unfolding judgement.judgeHeader
+unfolding files.judgeHeader
 returns-2 c = rw (sym (c .before .before .before .judge-order .ensures) ∙ c .before .r .given .1)
 
 returns-3 : tie.Need-returns-3
-unfolding judgement.judgeHeader
+unfolding files.judgeHeader
 returns-3 c =
     let judge-order = c .before .before .before .before .before .before .judge-order in
     let enum-told = c .before .before .before .before .enum-told in
@@ -56,7 +56,7 @@ returns-3 c =
     rw (sym (judge-order .ensures) ∙ enum-told .given .1, sym (judge-length .ensures) ∙ r2 .given .1)
 
 returns-4 : tie.Need-returns-4
-unfolding judgement.judgeHeader
+unfolding files.judgeHeader
 returns-4 c =
     let judge-order = c .before .before .before .before .before .before .before .judge-order in
     let enum-told = c .before .before .before .before .before .enum-told in

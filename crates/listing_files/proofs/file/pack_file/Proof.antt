@@ -1,10 +1,10 @@
 -- `packer::file::pack_file` meets its contract. Assumes nothing.
 use borrow.Author.Needs.{needs}
-use Rattle.packer.proofs.file.pack_file.Statement.{statement}
-use Rattle.packer.proofs.file.pack_file.Tie as tie
+use Rattle.listing_files.proofs.file.pack_file.Statement.{statement}
+use Rattle.listing_files.proofs.file.pack_file.Tie as tie
 use mathlib.Core.Path.{sym, _∙_}
 use native.Mathlib.Omega.{arith}
-use Rattle.packer.proofs.Filing.{header-good, pack-file-refused, parts-packed}
+use Rattle.listing_files.proofs.Filing.{header-good, pack-file-refused, parts-packed}
 
 judge-header-requires : tie.Need-judge-header-requires
 judge-header-requires c κs = search needs

@@ -1,10 +1,10 @@
 -- `packer::file::operands_of` meets its contract. Assumes nothing.
 use borrow.Author.Needs.{needs}
-use Rattle.packer.proofs.file.operands_of.Statement.{statement}
-use Rattle.packer.proofs.file.operands_of.Tie as tie
+use Rattle.listing_files.proofs.file.operands_of.Statement.{statement}
+use Rattle.listing_files.proofs.file.operands_of.Tie as tie
 use mathlib.Core.Path.{refl}
 use native.Mathlib.Omega.{arith}
-use Rattle.packer.proofs.Filing.{operands-back}
+use Rattle.listing_files.proofs.Filing.{operands-back}
 use lib.ListN.{replicate}
 use Prim.Native.Nat.{_-_}
 

@@ -1,18 +1,12 @@
--- What a packing rests on between its steps: a file with a good header, and the working arrays before and after the rounds.
+-- The working arrays of a packing before and after the rounds.
 use mathlib.Core.Path.{_≡_}
 use mathlib.Core.List.{List}
-use Prim.Native.Nat.{ℕ, _+_, _*_, _≤_}
+use Prim.Native.Nat.{ℕ}
 use lib.ListN.{length}
 use Rattle.layout.specs.Flags.{Flags, flagged}
 use Rattle.layout.specs.Listing.{listed, entry}
-use Rattle.layout.specs.File.{fileCount}
 use Rattle.layout.specs.Layout.{Laid}
 use Rattle.layout.specs.Packing.{marks as marksOf, layout}
-
--- a file that is as long as its count of items says, with at most 4,096 of them
-pub record Header (file : List ℕ) : Type 0 where
-  pub whole : length file ≡ 8 + 5 * fileCount file
-  pub most : fileCount file ≤ 4096
 
 -- five arrays with one place for each of n items
 pub record Places (n : ℕ) (entries marks ats nexts lefts : List ℕ) : Type 0 where

@@ -4,7 +4,7 @@ ghost use lib.ListN.{length};
 ghost use Rattle.cell.specs.Memory.{cellCount};
 ghost use Rattle.layout.specs.Listing.{listed, Checked};
 ghost use Rattle.layout.specs.Packing.{imageCells};
-ghost use Rattle.packer.specs.Prepared.{Places, Prepared};
+ghost use Rattle.pack_prepare.specs.Prepared.{Places, Prepared};
 use cell::CellCount;
 use listing::entries::find_entries;
 use packing::settle::settle_marks;

@@ -1,9 +1,9 @@
 -- `packer::prepare::count_cells` meets its contract. Assumes nothing.
 use borrow.Author.Needs.{needs}
-use Rattle.packer.proofs.prepare.count_cells.Statement.{statement}
-use Rattle.packer.proofs.prepare.count_cells.Tie as tie
+use Rattle.pack_prepare.proofs.prepare.count_cells.Statement.{statement}
+use Rattle.pack_prepare.proofs.prepare.count_cells.Tie as tie
 use native.Mathlib.Omega.{arith}
-use Rattle.packer.proofs.Judging.{items-most}
+use Rattle.pack_prepare.proofs.Checking.{items-most}
 
 sub-prepare : tie.Need-sub-prepare
 sub-prepare c = search needs

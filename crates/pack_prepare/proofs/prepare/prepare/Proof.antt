@@ -1,7 +1,7 @@
 -- `packer::prepare::prepare` meets its contract. Assumes nothing.
 use borrow.Author.Needs.{needs}
-use Rattle.packer.proofs.prepare.prepare.Statement.{statement}
-use Rattle.packer.proofs.prepare.prepare.Tie as tie
+use Rattle.pack_prepare.proofs.prepare.prepare.Statement.{statement}
+use Rattle.pack_prepare.proofs.prepare.prepare.Tie as tie
 use mathlib.Core.Path.{_∙_}
 
 find-entries-requires : tie.Need-find-entries-requires

@@ -1,0 +1,2 @@
+-- What crate `listing_files` means.
+pub mod Files

@@ -1,0 +1,2 @@
+// The packing of a listing file.
+pub mod file;

@@ -1,0 +1,2 @@
+-- What crate `pack_prepare` means.
+pub mod Prepared
