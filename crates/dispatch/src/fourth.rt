@@ -6,6 +6,9 @@ ghost use Rattle.machine.specs.Commits as commits;
 ghost use Rattle.instruction.specs.Dispatch as dispatch;
 use crate::looping::execute_loop;
 use cell::Fault;
+use commits::commit::commit_none;
+use commits::commit::commit_one;
+use commits::commit::commit_two;
 use flow::control::branch;
 use flow::control::call;
 use flow::control::execute;
@@ -26,9 +29,6 @@ use machine::Outcome;
 use machine::Registers;
 use machine::Step;
 use machine::Then;
-use machine::commit::commit_none;
-use machine::commit::commit_one;
-use machine::commit::commit_two;
 
 pub fn execute_fourth(machine: Machine, memory: &mut [u8], r: Registers, opcode: u32) -> Step
     requires { ⌜ places.Whole (now memory) ⌝ }

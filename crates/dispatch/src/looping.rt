@@ -7,6 +7,7 @@ ghost use Rattle.machine.specs.Effects as effects;
 ghost use Rattle.machine.specs.Commits as commits;
 ghost use Rattle.instruction.specs.Taking as taking;
 ghost use Rattle.instruction.specs.Dispatch as dispatch;
+use commits::commit::commit_maybe;
 use flow::control::turn_loop;
 use flow::control::turn_plus_loop;
 use instruction::Form;
@@ -15,7 +16,6 @@ use machine::Machine;
 use machine::MaybeStore;
 use machine::Registers;
 use machine::Step;
-use machine::commit::commit_maybe;
 
 // The immediate opcode is the odd one.
 fn form_of(opcode: u32) -> Form

@@ -1,4 +1,5 @@
--- The commit of an effect of the code, for any stores: a fault in the reading, a bad place, or all is carried out.
+-- The commit of an effect of the code, for any stores: a fault in the reading, a bad place, or all is carried out. The code in crate `commits`
+-- is proved by it.
 use mathlib.Core.Path.{_≡_, refl}
 use mathlib.Core.List.{List}
 use Prim.Native.Nat.{ℕ, _+_, _%_, _<_, _≤_}

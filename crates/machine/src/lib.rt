@@ -1,10 +1,8 @@
-// The machine below its instructions: places and their accesses, what an instruction asks for, its commit, the throw and NEXT.
+// The machine below its instructions: places and their accesses, what an instruction asks for and what its commit means, the throw and NEXT.
 
-pub mod commit;
 pub mod ending;
 pub mod fixed;
 pub mod places;
-pub mod roll;
 
 use cell::Address;
 use cell::CellCount;

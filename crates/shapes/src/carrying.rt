@@ -4,16 +4,16 @@ ghost use Rattle.machine.specs.Places as places;
 ghost use Rattle.machine.specs.Commits as commits;
 ghost use Rattle.shapes.specs.Shapes as shapes;
 use crate::Shape;
+use commits::commit::commit_byte;
+use commits::commit::commit_maybe;
+use commits::commit::commit_none;
+use commits::commit::commit_one;
+use commits::commit::commit_three;
+use commits::commit::commit_two;
+use commits::roll::commit_roll;
 use machine::Machine;
 use machine::Registers;
 use machine::Step;
-use machine::commit::commit_byte;
-use machine::commit::commit_maybe;
-use machine::commit::commit_none;
-use machine::commit::commit_one;
-use machine::commit::commit_three;
-use machine::commit::commit_two;
-use machine::roll::commit_roll;
 
 pub fn commit_shape(machine: Machine, memory: &mut [u8], r: Registers, shape: Shape) -> Step
     requires { ⌜ places.Whole (now memory) ⌝ }

@@ -12,14 +12,14 @@ use crate::Shape;
 use cell::Address;
 use cell::CellCount;
 use cell::Checked;
+use commits::commit::fault_of;
+use commits::roll::check_roll;
 use machine::Access;
 use machine::Machine;
 use machine::Then;
 use machine::Write;
-use machine::commit::fault_of;
 use machine::places::check_byte_place;
 use machine::places::check_place;
-use machine::roll::check_roll;
 
 // What follows the writes.
 pub fn then_of(shape: Shape) -> Then
