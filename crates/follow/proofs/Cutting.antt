@@ -15,8 +15,8 @@ use Rattle.list_machine.specs.Runs.{Course, goesOn, stoppedBy, stoodOutside, is
 use Rattle.list_machine.specs.Cutting.{joined}
 use Rattle.list_machine.proofs.Lengths.{run-long}
 use Rattle.list_machine.proofs.Cutting.{cut-in-two, stays-over}
-use Rattle.items.specs.Stands.{positionOf}
-use Rattle.items.specs.declared.Stand.{Stand}
+use Rattle.list_judging.specs.Stands.{positionOf}
+use Rattle.list_judging.specs.declared.Stand.{Stand}
 use Rattle.follow.specs.Follow.{judgeFollow, endingNumber, FollowResult, followedTo, endingOf, standOf, ranOf, followIf, resumeIn}
 use Rattle.follow.specs.Cutting.{withCounts, joinedTo, CutAnswer, OverAnswer, Cut}
 use Rattle.follow.specs.declared.Followed.the-variants as followed

@@ -22,10 +22,11 @@ use Rattle.pack_prepare.proofs.Checking.{arrays-checked}
 use Rattle.list_machine.specs.ListMachine.{Position}
 use Rattle.list_machine.specs.Runs.{Course, goesOn, stoppedBy, stoodOutside, Run, runOf, resuming}
 use Rattle.list_machine.proofs.Simulation.{demand3}
-use Rattle.items.specs.Stands.{positionOf, courseOf, runAs}
-use Rattle.items.specs.Tables.{Rows, Settled}
-use Rattle.items.specs.declared.Image.{Image}
-use Rattle.items.specs.declared.Stand.{Stand}
+use Rattle.list_tables.specs.Tables.{Rows, Settled}
+use Rattle.list_tables.specs.declared.Image.{Image}
+use Rattle.list_judging.specs.Stands.{positionOf}
+use Rattle.list_judging.specs.declared.Stand.{Stand}
+use Rattle.items.specs.Outcomes.{courseOf, runAs}
 use Rattle.items.specs.declared.Ending.{Ending}
 use Rattle.items.specs.declared.Ending.the-variants as ending
 use Rattle.items.specs.declared.Ran.{Ran}

@@ -16,8 +16,9 @@ use Rattle.list_machine.specs.Outsides.{outsideNumber}
 use Rattle.list_machine.specs.ListMachine.{Position}
 use Rattle.list_machine.specs.Runs.{Course, goesOn, stoppedBy, stoodOutside, Run, runOf, resuming}
 use Rattle.list_machine.specs.Demand3.{Holds, firstRegisters, Agree}
-use Rattle.items.specs.Stands.{positionOf, runAs}
-use Rattle.items.specs.declared.Stand.{Stand}
+use Rattle.list_judging.specs.Stands.{positionOf}
+use Rattle.list_judging.specs.declared.Stand.{Stand}
+use Rattle.items.specs.Outcomes.{runAs}
 use Rattle.items.specs.declared.Ending.{Ending}
 use Rattle.items.specs.declared.Ending.the-variants as ending
 use Rattle.items.specs.declared.Ran.{Ran}

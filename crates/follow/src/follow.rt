@@ -10,13 +10,13 @@ ghost use Rattle.follow.specs.Follow as follows;
 use crate::Followed;
 use crate::judgement::judge_begin;
 use crate::judgement::judge_image;
-use crate::settle::settle_table;
 use cell::Address;
 use cell::Judged;
-use items::Image;
-use items::Stand;
 use items::running::run_items;
 use layout::ItemNumber;
+use list_judging::Stand;
+use list_tables::Image;
+use list_tables::settle::settle_table;
 use machine::Machine;
 
 // A listing that the input list passed, with a table lent: it is laid out once, its image judged, and the run made.

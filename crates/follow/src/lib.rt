@@ -2,7 +2,6 @@
 pub mod answers;
 pub mod follow;
 pub mod judgement;
-pub mod settle;
 
 use cell::Refusal;
 use items::Ran;

@@ -23,10 +23,10 @@ use Rattle.layout.specs.declared.Entry.{Entry}
 use Rattle.list_machine.specs.declared.Outside.the-variants.{WritesImage, NoEntry, PastEnd}
 use Rattle.list_machine.specs.ListMachine.{Position, Carried, on, outside, isImmediate, actedTo, movedTo, registersAt, handled, ranOn, carriedBy}
 use Rattle.shapes.proofs.Alone.{Alone, bare}
-use Rattle.items.specs.Ways.{toEntry, nextWay, intentBy, along, steppedTo, performed}
-use Rattle.items.specs.declared.Way.the-variants as way
-use Rattle.items.specs.declared.Intent.{Intent}
-use Rattle.items.specs.declared.Intent.the-variants.{Act}
+use Rattle.list_judging.specs.Ways.{toEntry, nextWay, intentBy, along, steppedTo, performed}
+use Rattle.list_judging.specs.declared.Way.the-variants as way
+use Rattle.list_judging.specs.declared.Intent.{Intent}
+use Rattle.list_judging.specs.declared.Intent.the-variants.{Act}
 use Rattle.items.proofs.ThrowingLaws.{transferred-is, throw-is, given-is}
 
 next-of : (b : Bool) (i : ℕ) (ran : Bool) (q : Position)

@@ -16,16 +16,17 @@ use Rattle.list_machine.specs.declared.Outside.the-variants.{PastEnd}
 use Rattle.list_machine.specs.Runs.{stoodOutside, isOver as over, furtherBy, further, runOf, resuming}
 use Rattle.list_machine.proofs.Within.{Within, carry-within}
 use Rattle.list_machine.proofs.Cutting.{run-cut, run-over}
-use Rattle.items.specs.Stands.{positionOf, carriedAs, Left, left, leaves, memoryAfter, courseOf, runAs, begun, counted, isOver}
-use Rattle.items.specs.Tables.{opensIn, Settled}
-use Rattle.items.specs.declared.Image.{Image}
-use Rattle.items.specs.declared.Stand.{Stand}
+use Rattle.list_tables.specs.Tables.{opensIn, Settled}
+use Rattle.list_tables.specs.declared.Image.{Image}
+use Rattle.list_tables.proofs.TableLaws.{open-is}
+use Rattle.list_judging.specs.Stands.{positionOf}
+use Rattle.list_judging.specs.declared.Stand.{Stand}
+use Rattle.items.specs.Outcomes.{carriedAs, Left, left, leaves, memoryAfter, courseOf, runAs, begun, counted, isOver}
 use Rattle.items.specs.declared.Carried as code
 use Rattle.items.specs.declared.Carried.the-variants.{On, Stopped, Outside}
 use Rattle.items.specs.declared.Ending.{Ending}
 use Rattle.items.specs.declared.Ending.the-variants as ending
 use Rattle.items.specs.declared.Ran.{Ran}
-use Rattle.items.proofs.TableLaws.{open-is}
 
 module _ (machine : Machine) (base : ℕ) (l : Listing) where
   -- one item more, by what it came to

@@ -35,9 +35,9 @@ use Rattle.layout.specs.declared.Entry.the-variants.{Item, Nothing}
 use Rattle.list_machine.specs.declared.Outside.{Outside}
 use Rattle.list_machine.specs.declared.Outside.the-variants.{WritesImage, NoHandler}
 use Rattle.list_machine.specs.ListMachine.{Position, Carried, outside, enteredAt, thrownTo, pushOf, registersAt, transferred, handledBy, handled, thrown, writesImage}
-use Rattle.items.specs.Ways.{toEntry, handlerBy, handlerWay, handlerAfter, pushWay, throwWay, givenWay, along}
-use Rattle.items.specs.declared.Way.{Way}
-use Rattle.items.specs.declared.Way.the-variants as way
+use Rattle.list_judging.specs.Ways.{toEntry, handlerBy, handlerWay, handlerAfter, pushWay, throwWay, givenWay, along}
+use Rattle.list_judging.specs.declared.Way.{Way}
+use Rattle.list_judging.specs.declared.Way.the-variants as way
 
 code-below : (f : Fault) → faultCode f < 2 ^ 32
 code-below (Range a) = omega arith

@@ -1,4 +1,2 @@
 -- What crate `items` means.
-pub mod Stands
-pub mod Tables
-pub mod Ways
+pub mod Outcomes

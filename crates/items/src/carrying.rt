@@ -9,19 +9,20 @@ ghost use Rattle.machine.specs.Throws as throws;
 ghost use Rattle.layout.specs.Listing.{listed};
 ghost use Rattle.list_machine.specs.ListMachine as lists;
 ghost use Rattle.shapes.specs.Shapes as shapes;
-ghost use Rattle.items.specs.Stands as stands;
-ghost use Rattle.items.specs.Tables as tables;
-ghost use Rattle.items.specs.Ways as ways;
+ghost use Rattle.list_tables.specs.Tables as tables;
+ghost use Rattle.list_judging.specs.Stands as stands;
+ghost use Rattle.list_judging.specs.Ways as ways;
+ghost use Rattle.items.specs.Outcomes as outcomes;
 use crate::Carried;
-use crate::Cause;
-use crate::Image;
-use crate::Intent;
-use crate::Stand;
-use crate::Way;
-use crate::judging::intent_of;
-use crate::proposing::registers_at;
-use crate::proposing::shape_of;
 use layout::ItemNumber;
+use list_judging::Cause;
+use list_judging::Intent;
+use list_judging::Stand;
+use list_judging::Way;
+use list_judging::judging::intent_of;
+use list_judging::proposing::registers_at;
+use list_judging::proposing::shape_of;
+use list_tables::Image;
 use machine::Ended;
 use machine::Machine;
 use machine::Registers;
@@ -55,7 +56,7 @@ fn act_along(
 ) -> Carried
     requires { ⌜ places.Whole (now memory) ⌝ }
     requires { ⌜ shapes.Fits shape ⌝ }
-    ensures { λ c. ⌜ stands.left (now (memory .exit)) c ≡ stands.leaves (now (memory .entry)) (ways.along way (ways.steppedTo (stands.positionOf (now (memory .entry)) s) (commits.commitOf machine (now (memory .entry)) r (shapes.shapeEffect machine (now (memory .entry)) shape)))) ⌝ }
+    ensures { λ c. ⌜ outcomes.left (now (memory .exit)) c ≡ outcomes.leaves (now (memory .entry)) (ways.along way (ways.steppedTo (stands.positionOf (now (memory .entry)) s) (commits.commitOf machine (now (memory .entry)) r (shapes.shapeEffect machine (now (memory .entry)) shape)))) ⌝ }
 {
     match way {
         Way::To(i, ran) => {
@@ -104,7 +105,7 @@ fn end_along(
 ) -> Carried
     requires { ⌜ places.Whole (now memory) ⌝ }
     requires { ⌜ 16 ≤ length (now memory) ⌝ }
-    ensures { λ c. ⌜ stands.left (now (memory .exit)) c ≡ stands.leaves (now (memory .entry)) (ways.along way (lists.thrownTo (stands.positionOf (now (memory .entry)) s) (ways.endOf machine (now (memory .entry)) r cause))) ⌝ }
+    ensures { λ c. ⌜ outcomes.left (now (memory .exit)) c ≡ outcomes.leaves (now (memory .entry)) (ways.along way (lists.thrownTo (stands.positionOf (now (memory .entry)) s) (ways.endOf machine (now (memory .entry)) r cause))) ⌝ }
 {
     match way {
         Way::To(i, ran) => {
@@ -133,7 +134,7 @@ fn perform(
     requires { ⌜ places.Whole (now memory) ⌝ }
     requires { ⌜ 16 ≤ length (now memory) ⌝ }
     requires { ⌜ shapes.Fits shape ⌝ }
-    ensures { λ c. ⌜ stands.left (now (memory .exit)) c ≡ stands.leaves (now (memory .entry)) (ways.performed machine (stands.positionOf (now (memory .entry)) s) r (shapes.shapeEffect machine (now (memory .entry)) shape) intent) ⌝ }
+    ensures { λ c. ⌜ outcomes.left (now (memory .exit)) c ≡ outcomes.leaves (now (memory .entry)) (ways.performed machine (stands.positionOf (now (memory .entry)) s) r (shapes.shapeEffect machine (now (memory .entry)) shape) intent) ⌝ }
 {
     match intent {
         Intent::Act(way) => act_along(machine, memory, s, r, shape, way),
@@ -154,7 +155,7 @@ pub fn carry_out(
     requires { ⌜ Lent (length (now memory)) ⌝ }
     requires { ⌜ tables.Settled (now kinds) (now operands) (now table) image ⌝ }
     requires { ⌜ s .item .0 < length (now kinds) ⌝ }
-    ensures { λ c. ⌜ stands.left (now (memory .exit)) c ≡ stands.leaves (now (memory .entry)) (lists.carryOut machine (image .base .0) (listed (now (kinds .entry)) (now (operands .entry))) (stands.positionOf (now (memory .entry)) s)) ⌝ }
+    ensures { λ c. ⌜ outcomes.left (now (memory .exit)) c ≡ outcomes.leaves (now (memory .entry)) (lists.carryOut machine (image .base .0) (listed (now (kinds .entry)) (now (operands .entry))) (stands.positionOf (now (memory .entry)) s)) ⌝ }
 {
     let base = image.base;
     let shape = shape_of(machine, memory, kinds, operands, table, image, s);

@@ -7,16 +7,17 @@ ghost use Rattle.cell.specs.Choice.{if};
 ghost use Rattle.cell.specs.Refusals.{Lent};
 ghost use Rattle.layout.specs.Listing.{listed};
 ghost use Rattle.list_machine.specs.Runs as runs;
-ghost use Rattle.items.specs.Stands as stands;
-ghost use Rattle.items.specs.Tables as tables;
+ghost use Rattle.list_tables.specs.Tables as tables;
+ghost use Rattle.list_judging.specs.Stands as stands;
+ghost use Rattle.items.specs.Outcomes as outcomes;
 use crate::Carried;
 use crate::Ending;
-use crate::Image;
 use crate::Ran;
-use crate::Stand;
 use crate::carrying::carry_out;
-use crate::tables::opens_cell;
+use list_judging::Stand;
 use list_machine::Outside;
+use list_tables::Image;
+use list_tables::tables::opens_cell;
 use machine::Machine;
 
 // The cycles that an item counts.
@@ -36,7 +37,7 @@ fn cycles_at(table: &[u32], s: Stand) -> u64
 // The run with one item more, by what the item came to.
 fn count_item(ran: Ran, cycles: u64, c: Carried) -> Ran
     requires { ⌜ (ran .items < 0xFFFFFFFF) × (ran .cycles ≤ 0x200000000) × (cycles ≤ 2) ⌝ }
-    ensures { λ r. ⌜ r ≡ stands.counted ran cycles c ⌝ }
+    ensures { λ r. ⌜ r ≡ outcomes.counted ran cycles c ⌝ }
 {
     match c {
         Carried::On(t) => Ran {
@@ -64,7 +65,7 @@ fn count_item(ran: Ran, cycles: u64, c: Carried) -> Ran
 }
 
 fn is_over(ending: Ending) -> bool
-    ensures { λ r. ⌜ r ≡ stands.isOver ending ⌝ }
+    ensures { λ r. ⌜ r ≡ outcomes.isOver ending ⌝ }
 {
     match ending {
         Ending::GoesOn => false,
@@ -76,7 +77,7 @@ fn is_over(ending: Ending) -> bool
 // In front of an item of a listing of n, with nothing done. An item that the listing does not have stands past the end.
 fn begin_run(n: usize, start: Stand) -> Ran
     requires { ⌜ n ≤ 4096 ⌝ }
-    ensures { λ r. ⌜ r ≡ stands.begun n start ⌝ }
+    ensures { λ r. ⌜ r ≡ outcomes.begun n start ⌝ }
 {
     let item = start.item;
     if item.0 < n as u32 {
@@ -108,7 +109,7 @@ pub fn run_items(
 ) -> Ran
     requires { ⌜ Lent (length (now memory)) ⌝ }
     requires { ⌜ tables.Settled (now kinds) (now operands) (now table) image ⌝ }
-    ensures { λ r. ⌜ stands.runAs (now (memory .exit)) r ≡ runs.runOf machine (image .base .0) (listed (now (kinds .entry)) (now (operands .entry))) items (runs.resuming (listed (now (kinds .entry)) (now (operands .entry))) (stands.positionOf (now (memory .entry)) start)) ⌝ }
+    ensures { λ r. ⌜ outcomes.runAs (now (memory .exit)) r ≡ runs.runOf machine (image .base .0) (listed (now (kinds .entry)) (now (operands .entry))) items (runs.resuming (listed (now (kinds .entry)) (now (operands .entry))) (stands.positionOf (now (memory .entry)) start)) ⌝ }
 {
     let mut ran = begin_run(kinds.len(), start);
     let first = ran.ending;

@@ -13,7 +13,7 @@ use Rattle.cell.proofs.JudgementLaws.{both-pass}
 use Rattle.processor.specs.Answers.{machineOf}
 use Rattle.layout.specs.Listing.{listed}
 use Rattle.layout.specs.Packing.{imageCells, judgedPlace}
-use Rattle.items.specs.declared.Stand.{Stand}
+use Rattle.list_judging.specs.declared.Stand.{Stand}
 use Rattle.items.specs.declared.Ran.{Ran}
 use Rattle.follow.specs.Follow.{judgeBegin, judgeImage, judgeFollow, FollowResult, followedTo, followIf, resumeIn}
 use Rattle.follow.specs.declared.Followed.{Followed}

@@ -6,7 +6,7 @@ use Prim.Native.Nat.{ℕ, _/_, _%_, _^_, _≤_}
 use lib.ListN.{length, getD}
 use Rattle.cell.specs.declared.Judged.{Judged}
 use Rattle.cell.specs.declared.Judged.the-variants.{Passed}
-use Rattle.items.specs.declared.Stand.{Stand}
+use Rattle.list_judging.specs.declared.Stand.{Stand}
 use Rattle.follow.specs.Follow.{FollowResult, followedTo, standAt, resumeIn}
 use Rattle.follow.specs.declared.Followed.{Followed}
 use Rattle.follow.specs.declared.Followed.the-variants as followed

@@ -18,8 +18,8 @@ use follow::answers::ending_number;
 use follow::answers::ending_reason;
 use follow::follow::follow_within;
 use items::Ran;
-use items::Stand;
 use layout::ItemNumber;
+use list_judging::Stand;
 
 // The number at a place of a lent array, or 0 where it has no such place.
 fn number_at(lent: &[u32], at: usize) -> u32

@@ -2,8 +2,8 @@
 use mathlib.Core.Path.{ap, _∙_}
 use native.Mathlib.Omega.{arith}
 use denote.Ref.{now}
-use Rattle.items.specs.Stands.{leaves}
-use Rattle.items.proofs.TableLaws.{in-rows, is-near, image-near, next-near}
+use Rattle.list_tables.proofs.TableLaws.{in-rows, is-near, image-near, next-near}
+use Rattle.items.specs.Outcomes.{leaves}
 use Rattle.items.proofs.CarryLaws.{carry-is}
 use borrow.Author.Needs.{needs}
 use Rattle.items.proofs.carrying.carry_out.Statement.{statement}

@@ -6,8 +6,8 @@ use native.Mathlib.Omega.{arith}
 use denote.Ref.{now}
 use lib.ListN.{length}
 use Rattle.layout.specs.Listing.{listed}
-use Rattle.items.specs.Tables.{opensIn}
-use Rattle.items.proofs.TableLaws.{in-rows, few-items}
+use Rattle.list_tables.specs.Tables.{opensIn}
+use Rattle.list_tables.proofs.TableLaws.{in-rows, few-items}
 use Rattle.items.proofs.RunLaws.{Going, begun-there, from-there, run-past, run-begins, run-ends, run-stops, run-turns, cycles-is, few-cycles}
 use Rattle.items.proofs.running.run_items.Statement.{statement}
 use Rattle.items.proofs.running.run_items.Tie as tie

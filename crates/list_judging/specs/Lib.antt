@@ -1,0 +1,3 @@
+-- What crate `list_judging` means.
+pub mod Stands
+pub mod Ways

@@ -1,0 +1,2 @@
+-- What crate `list_tables` means.
+pub mod Tables
