@@ -18,7 +18,7 @@ use Rattle.layout.proofs.Packing.{size-is}
 use Rattle.packer.specs.Judgement.{judgeOrder, judgeRoom, judgeAll, judgePack}
 use Rattle.packer.specs.Pack.{PackResult, packIf, packOf}
 use Rattle.listing_files.specs.Files.{judgePackFile, packFileOf}
-use Rattle.packer.proofs.Judging.{arrays-checked}
+use Rattle.pack_prepare.proofs.Checking.{arrays-checked}
 use Rattle.approved.specs.Approved.{Cells, Packs, ofArrays, ofFile}
 
 -- the listing is legal at the base, and the output begins with the bytes of its image

@@ -24,6 +24,7 @@ unfoldable pub judgeHeader : ℕ → List ℕ → Judged
 judgeHeader order file =
     inOrder (judgeOrder order ∷ judgedLength file ∷ judge (manyItems (fileCount file) ∷ []) ∷ [])
 
+-- a packing of the file into an output of `size` bytes
 unfoldable pub judgePackFile : ℕ → List ℕ → ℕ → Judged
 judgePackFile order file size = judgeAll order (judgedFile file) (fileBase file) (filed file) size
 

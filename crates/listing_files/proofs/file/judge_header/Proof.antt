@@ -1,4 +1,4 @@
--- `packer::file::judge_header` meets its contract. Assumes nothing.
+-- `listing_files::file::judge_header` meets its contract. Assumes nothing.
 use borrow.Author.Needs.{needs}
 use Rattle.listing_files.proofs.file.judge_header.Statement.{statement}
 use Rattle.listing_files.proofs.file.judge_header.Tie as tie

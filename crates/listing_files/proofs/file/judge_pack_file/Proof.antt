@@ -1,4 +1,4 @@
--- `packer::file::judge_pack_file` meets its contract. Assumes nothing.
+-- `listing_files::file::judge_pack_file` meets its contract. Assumes nothing.
 use borrow.Author.Needs.{needs}
 use Rattle.listing_files.proofs.file.judge_pack_file.Statement.{statement}
 use Rattle.listing_files.proofs.file.judge_pack_file.Tie as tie

@@ -1,4 +1,4 @@
--- `packer::file::operands_of` meets its contract. Assumes nothing.
+-- `listing_files::file::operands_of` meets its contract. Assumes nothing.
 use borrow.Author.Needs.{needs}
 use Rattle.listing_files.proofs.file.operands_of.Statement.{statement}
 use Rattle.listing_files.proofs.file.operands_of.Tie as tie

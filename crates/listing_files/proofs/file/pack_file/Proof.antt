@@ -1,4 +1,4 @@
--- `packer::file::pack_file` meets its contract. Assumes nothing.
+-- `listing_files::file::pack_file` meets its contract. Assumes nothing.
 use borrow.Author.Needs.{needs}
 use Rattle.listing_files.proofs.file.pack_file.Statement.{statement}
 use Rattle.listing_files.proofs.file.pack_file.Tie as tie

@@ -1,4 +1,4 @@
--- `packer::prepare::count_cells` meets its contract. Assumes nothing.
+-- `pack_prepare::prepare::count_cells` meets its contract. Assumes nothing.
 use borrow.Author.Needs.{needs}
 use Rattle.pack_prepare.proofs.prepare.count_cells.Statement.{statement}
 use Rattle.pack_prepare.proofs.prepare.count_cells.Tie as tie

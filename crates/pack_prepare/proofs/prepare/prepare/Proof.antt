@@ -1,4 +1,4 @@
--- `packer::prepare::prepare` meets its contract. Assumes nothing.
+-- `pack_prepare::prepare::prepare` meets its contract. Assumes nothing.
 use borrow.Author.Needs.{needs}
 use Rattle.pack_prepare.proofs.prepare.prepare.Statement.{statement}
 use Rattle.pack_prepare.proofs.prepare.prepare.Tie as tie
