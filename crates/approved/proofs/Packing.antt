@@ -1,21 +1,20 @@
 -- What an accepted packing is: a legal listing, and its image in the output.
-use mathlib.Core.Path.{_≡_, refl, sym, ap, _∙_}
-use mathlib.Core.List.{List, [], _∷_, _++_}
-use Prim.Native.Nat.{ℕ, zero, suc, _+_, _*_, _^_, _<_}
+use mathlib.Core.Path.{_≡_, refl, sym}
+use mathlib.Core.List.{List, [], _∷_}
+use Prim.Native.Nat.{ℕ, zero, suc, _+_, _*_, _<_}
 use native.Mathlib.Omega.{arith}
 use lib.ListN.{length, getD, drop, List·getD-append}
 use Rattle.cell.specs.Memory.{Bytewise}
-use Rattle.cell.specs.Refusals.{judge, after, inOrder}
 use Rattle.cell.specs.declared.Judged.{Judged}
 use Rattle.cell.specs.declared.Judged.the-variants as judged
 use Rattle.cell.proofs.JudgementLaws.{both-pass, refusal-some}
 use Rattle.cell.proofs.MemoryLaws.{cell-below}
 use Rattle.layout.specs.Listing.{Listing, listed, judgedArrays}
-use Rattle.layout.specs.File.{filed, fileBase, fileCount, fileKinds, fileOperands, cellsFrom, judgedFile, judgedLength}
+use Rattle.layout.specs.File.{fileBase, fileCount, fileKinds, fileOperands, cellsFrom, judgedFile, judgedLength}
 use Rattle.layout.specs.Output.{bytesOf, written}
 use Rattle.layout.specs.Packing.{image, imageCells, judgedPlace, Legal}
 use Rattle.layout.proofs.Packing.{size-is}
-use Rattle.packer.specs.Judgement.{judgeOrder, judgeRoom, judgeAll, judgePack}
+use Rattle.packer.specs.Judgement.{judgeOrder, judgeAll, judgePack}
 use Rattle.packer.specs.Pack.{PackResult, packIf, packOf}
 use Rattle.listing_files.specs.Files.{judgePackFile, packFileOf}
 use Rattle.pack_prepare.proofs.Checking.{arrays-checked}

@@ -1,16 +1,16 @@
 -- A start at the base of an image in memory.
-use mathlib.Core.Path.{_≡_, refl, sym, ap, _∙_}
+use mathlib.Core.Path.{_≡_, sym, ap, _∙_}
 use mathlib.Core.List.{List}
-use mathlib.Core.Logic.{_⊎_, inl, inr}
-use Prim.Native.Nat.{ℕ, _+_, _-_, _*_, _≤_, _<_}
+use mathlib.Core.Logic.{inl}
+use Prim.Native.Nat.{ℕ, _+_, _-_, _*_, _≤_}
 use native.Mathlib.Omega.{arith}
-use lib.ListN.{length, getD}
-use Rattle.cell.specs.Memory.{cellAt, storeCell, Alike}
+use lib.ListN.{length}
+use Rattle.cell.specs.Memory.{cellAt, Alike}
 use Rattle.cell.specs.Refusals.{judgeMachine}
 use Rattle.cell.specs.declared.Judged.the-variants.{Passed}
 use Rattle.cell.specs.Number.{sum}
 use Rattle.cell.specs.declared.Fetched.the-variants.{Cell}
-use Rattle.cell.proofs.MemoryLaws.{cell-frame, cell-alike, alike-trans, store-length}
+use Rattle.cell.proofs.MemoryLaws.{cell-frame, alike-trans, store-length}
 use Rattle.machine.specs.Places.{fetchOf}
 use Rattle.machine.specs.Throws.{nextOf, handlerCell, memoryCell, badCell, addressCell}
 use Rattle.machine.specs.declared.Access.the-variants.{Stream}
@@ -19,7 +19,7 @@ use Rattle.processor.specs.Cycles.{fourCells, startOf}
 use Rattle.processor.specs.Answers.{machineOf, startedTo, startAnswer}
 use Rattle.processor.specs.declared.Started.the-variants.{Ready}
 use Rattle.layout.specs.Listing.{Listing}
-use Rattle.layout.specs.Packing.{image, imageCells, Legal}
+use Rattle.layout.specs.Packing.{imageCells, Legal}
 use Rattle.layout.proofs.Listing.{some-item}
 use Rattle.layout.proofs.Packing.{placed, at-inside}
 use Rattle.list_machine.specs.Demand3.{Holds, firstRegisters}

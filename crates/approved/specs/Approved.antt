@@ -15,7 +15,7 @@ use Rattle.layout.specs.Listing.{Listing, listed}
 use Rattle.layout.specs.File.{filed, fileBase}
 use Rattle.packer.specs.Pack.{PackResult, packOf}
 use Rattle.listing_files.specs.Files.{packFileOf}
-use Rattle.module.specs.Answers.{SaveResult, saveOf, LoadResult, loadOf}
+use Rattle.module.specs.Answers.{saveOf, LoadResult, loadOf}
 use Rattle.module.specs.Conditions.{GoodPlace}
 use Rattle.module.specs.Theorems.{savedFile}
 use Rattle.list_machine.specs.Runs.{runOf, beginning}

@@ -1,6 +1,6 @@
 -- The three divisions. Document 01, The processor: floored for /, MOD and /MOD, symmetric for S/REM, of unsigned numbers for U/MOD. The quotient of
 -- -2^31 and -1 wraps to -2^31. The divisor is not 0: the instructions raise -10 before they divide.
-use mathlib.Core.Bool.{Bool, true, false, not, _&&_}
+use mathlib.Core.Bool.{Bool, not, _&&_}
 use Prim.Native.Nat.{ℕ, _/_, _%_}
 use lib.Dec.{eqb}
 use Rattle.cell.specs.Choice.{if}

@@ -1,6 +1,6 @@
 -- Cells as numbers. Document 01, The processor: a cell has 32 bits; arithmetic and steps of addresses wrap around at 2^32; true is FFFFFFFFh
 -- and false 0. A negative number n stands as 2^32 + n.
-use mathlib.Core.Bool.{Bool, true, false}
+use mathlib.Core.Bool.{Bool}
 use Prim.Native.Nat.{ℕ, _+_, _-_, _*_, _/_, _%_, _^_}
 use lib.Dec.{leb, ltb, eqb}
 use lib.Bits.{bitXor}

@@ -1,7 +1,6 @@
 -- The check of a place and the fetch. Document 01, The processor: a fetch gives the cell or the fault that kept it from being read;
 -- -9 and -23 carry the address that was asked for, and an address that is both outside and unaligned is -9.
 use mathlib.Core.Path.{_≡_}
-use mathlib.Core.Bool.{Bool, true, false}
 use mathlib.Core.List.{List}
 use Prim.Native.Nat.{ℕ, _-_, _%_, _^_}
 use lib.Dec.{ltb, eqb}

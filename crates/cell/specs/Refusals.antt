@@ -1,7 +1,7 @@
 -- Refusals: their numbers, and the first that applies. Document 01, Turned back for the input, Turned back for the state, and
 -- the order below them: what a call is lent comes first, then its input, then places, and the room of outputs last.
 use mathlib.Core.Path.{_≡_}
-use mathlib.Core.Bool.{Bool, true, false, not, _||_}
+use mathlib.Core.Bool.{Bool, not, _||_}
 use mathlib.Core.List.{List, [], _∷_}
 use Prim.Native.Nat.{ℕ, _-_, _%_, _^_, _≤_}
 use lib.Dec.{ltb, eqb}

@@ -2,7 +2,7 @@
 // in bytes that are no memory, as those of a file, it has a position.
 ghost use mathlib.Core.Path.{_≡_};
 ghost use Prim.Native.Nat.{_+_, _≤_};
-ghost use lib.ListN.{length, set};
+ghost use lib.ListN.{length};
 ghost use Rattle.cell.specs.Memory as mem;
 use crate::Address;
 

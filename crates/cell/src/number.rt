@@ -2,8 +2,6 @@
 ghost use mathlib.Core.Path.{_≡_};
 ghost use Rattle.cell.specs.Shift as shift;
 ghost use Rattle.cell.specs.Number as number;
-ghost use lib.Bits as bits;
-ghost use lib.Dec as dec;
 use std::num::wrapping_add_u32;
 use std::num::wrapping_sub_u32;
 

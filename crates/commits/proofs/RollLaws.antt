@@ -1,7 +1,7 @@
 -- The loops of ROLL: the places that are still to be judged decide for all; and what is still to be stored, with the values of the start, gives the
 -- memory that is asked for.
 use mathlib.Core.Path.{_≡_, refl, sym, _∙_, ap}
-use mathlib.Core.List.{List, []}
+use mathlib.Core.List.{List}
 use mathlib.Core.Logic.{inr}
 use Prim.Native.Nat.{ℕ, zero, suc, _+_, _-_, _*_, _%_, _<_, _≤_}
 use native.Mathlib.Omega.{arith}

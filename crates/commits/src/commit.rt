@@ -1,12 +1,11 @@
 // The commit of each shape of effect: every place is checked in the order of the writes, and only then are the writes made.
 ghost use mathlib.Core.Path.{_≡_};
-ghost use Prim.Native.Nat.{_+_, _≤_, _<_};
-ghost use lib.ListN.{length, set};
+ghost use Prim.Native.Nat.{_+_, _≤_};
+ghost use lib.ListN.{length};
 ghost use Rattle.cell.specs.Memory as mem;
 ghost use Rattle.machine.specs.Places as places;
 ghost use Rattle.machine.specs.Effects as effects;
 ghost use Rattle.machine.specs.Commits as commits;
-use cell::Address;
 use cell::Checked;
 use cell::memory::store;
 use machine::Access;

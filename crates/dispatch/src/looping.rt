@@ -1,7 +1,6 @@
 // Opcodes 4Ch to 4Fh: the loops. Their two forms share one call of each effect, so that the compiler lays it into the dispatch.
 ghost use mathlib.Core.Path.{_≡_};
-ghost use Prim.Native.Nat.{_≤_, _/_};
-ghost use lib.ListN.{length};
+ghost use Prim.Native.Nat.{_/_};
 ghost use Rattle.machine.specs.Places as places;
 ghost use Rattle.machine.specs.Effects as effects;
 ghost use Rattle.machine.specs.Commits as commits;

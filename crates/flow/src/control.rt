@@ -7,7 +7,6 @@ ghost use Rattle.instruction.specs.Taking as taking;
 use cell::Address;
 use cell::Fetched;
 use cell::number::add;
-use cell::number::flag;
 use cell::number::subtract;
 use instruction::Form;
 use instruction::Instruction;

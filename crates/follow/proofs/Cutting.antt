@@ -12,13 +12,12 @@ use Rattle.machine.specs.declared.Machine.{Machine}
 use Rattle.processor.specs.Answers.{machineOf}
 use Rattle.layout.specs.Listing.{Listing, listed}
 use Rattle.list_machine.specs.Runs.{Course, goesOn, stoppedBy, stoodOutside, isOver, Run, runOf, resuming}
-use Rattle.list_machine.specs.Cutting.{joined}
 use Rattle.list_machine.proofs.Lengths.{run-long}
 use Rattle.list_machine.proofs.Cutting.{cut-in-two, stays-over}
 use Rattle.list_judging.specs.Stands.{positionOf}
 use Rattle.list_judging.specs.declared.Stand.{Stand}
-use Rattle.follow.specs.Follow.{judgeFollow, endingNumber, FollowResult, followedTo, endingOf, standOf, ranOf, followIf, resumeIn}
-use Rattle.follow.specs.Cutting.{withCounts, joinedTo, CutAnswer, OverAnswer, Cut}
+use Rattle.follow.specs.Follow.{judgeFollow, endingNumber, followedTo, endingOf, ranOf, followIf, resumeIn}
+use Rattle.follow.specs.Cutting.{joinedTo, Cut}
 use Rattle.follow.specs.declared.Followed.the-variants as followed
 
 -- 0 is a run that goes on, any other number one that is over

@@ -3,7 +3,7 @@ use mathlib.Core.Path.{_≡_, refl, sym, ap, _∙_}
 use mathlib.Core.Bool.{false}
 use mathlib.Core.List.{List}
 use Prim.{tt}
-use Prim.Native.Nat.{ℕ, _*_, _^_, _≤_, _<_}
+use Prim.Native.Nat.{ℕ, _*_, _^_, _<_}
 use native.Mathlib.Omega.{arith}
 use lib.ListN.{length, getD}
 use Rattle.cell.specs.Memory.{cellCount}
@@ -19,7 +19,6 @@ use Rattle.processor.proofs.EntryLaws.{passed}
 use Rattle.layout.specs.Listing.{Listing, listed, judgedArrays, Checked}
 use Rattle.layout.specs.Packing.{imageCells, judgedPlace}
 use Rattle.pack_prepare.proofs.Checking.{arrays-checked}
-use Rattle.list_machine.specs.ListMachine.{Position}
 use Rattle.list_machine.specs.Runs.{Course, goesOn, stoppedBy, stoodOutside, Run, runOf, resuming}
 use Rattle.list_machine.proofs.Simulation.{demand3}
 use Rattle.list_tables.specs.Tables.{Rows, Settled}
@@ -30,7 +29,7 @@ use Rattle.items.specs.Outcomes.{courseOf, runAs}
 use Rattle.items.specs.declared.Ending.{Ending}
 use Rattle.items.specs.declared.Ending.the-variants as ending
 use Rattle.items.specs.declared.Ran.{Ran}
-use Rattle.follow.specs.Follow.{judgeBegin, judgeImage, judgeFollow, FollowResult, followedTo, standAt, endingOf, standOf, ranOf, followIf, resumeIn, followOf, AsPacked}
+use Rattle.follow.specs.Follow.{judgeBegin, judgeImage, judgeFollow, FollowResult, followedTo, standAt, endingOf, ranOf, followIf, resumeIn, followOf, AsPacked}
 use Rattle.follow.specs.declared.Followed.{Followed}
 use Rattle.follow.specs.declared.Followed.the-variants as followed
 

@@ -1,5 +1,5 @@
 -- The opcodes that raise -256.
-use mathlib.Core.Path.{_≡_, refl}
+use mathlib.Core.Path.{_≡_}
 use mathlib.Core.Logic.{_⊎_, inl, inr}
 use Prim.Native.Nat.{ℕ, suc, _/_, _<_, _≤_}
 use native.Mathlib.Decide.{decLe, decLt}

@@ -2,12 +2,11 @@
 -- Document 01, The processor: what is read comes from the data stack, the top item first, then from the return stack, then from the cells that those
 -- items name; a divisor of 0 is found after that. What is written goes to the data stack, the return stack and the named cell in this order, and on
 -- each stack the deepest place comes first; an item that stays where it was is not written again. EP is given for the calls alone; what follows an instruction is its `Control`.
-use mathlib.Core.Bool.{Bool, true, false, not, _&&_, _||_}
+use mathlib.Core.Bool.{not}
 use mathlib.Core.List.{List, [], _∷_}
-use Prim.Native.Nat.{ℕ, _+_, _*_, _%_, _^_, _/_}
+use Prim.Native.Nat.{ℕ, _+_, _*_, _%_, _^_}
 use lib.Bits.{bitAnd, bitOr, bitXor}
 use lib.Dec.{ltb, eqb}
-use lib.ListN.{length}
 use Rattle.cell.specs.Choice.{if}
 use Rattle.cell.specs.Number.{sum, difference, product, negated, less, magnitude, greater, lesser, flag, inverted, shiftedLeft, shiftedRight, halved, byteAddress}
 use Rattle.cell.specs.Division.{unsignedOf, symmetricOf, flooredOf}

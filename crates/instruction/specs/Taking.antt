@@ -1,23 +1,22 @@
 -- The instructions that take an operand from the instruction stream, each in two forms: the operand in the cell at EP, or in what is left of A.
 -- For a branch the operand is the address it leads to; for a literal its value. The operand is given as the answer of a fetch.
-use mathlib.Core.Bool.{Bool, true, false, not, _&&_, _||_}
+use mathlib.Core.Bool.{Bool, not, _&&_, _||_}
 use mathlib.Core.List.{List, [], _∷_}
 use Prim.Native.Nat.{ℕ, _+_, _*_, _%_, _^_}
 use lib.Dec.{eqb}
 use Rattle.cell.specs.Choice.{if}
 use Rattle.cell.specs.Number.{sum, difference, less}
 use Rattle.cell.specs.declared.Fetched.{Fetched}
-use Rattle.cell.specs.declared.Fetched.the-variants.{Cell, Failed}
+use Rattle.cell.specs.declared.Fetched.the-variants.{Cell}
 use Rattle.machine.specs.Places.{fetchOf}
-use Rattle.machine.specs.Effects.{cellStore, goOn, jump, Effect, act, raise, fetched}
-use Rattle.machine.specs.Commits.{Stepped, stepped}
+use Rattle.machine.specs.Effects.{cellStore, goOn, jump, Effect, fetched}
 use Rattle.machine.specs.declared.Machine.{Machine}
 use Rattle.machine.specs.declared.Registers.{Registers}
 use Rattle.machine.specs.declared.Step.{Step}
 use Rattle.machine.specs.declared.Outcome.{Outcome}
 use Rattle.machine.specs.declared.Outcome.the-variants.{Went, Next, Raise, Halt, Throw}
 use Rattle.machine.specs.declared.Access.the-variants.{Stream, ReturnWrite}
-use Rattle.instruction.specs.Plain.{action, pushes, data1, return1, return2}
+use Rattle.instruction.specs.Plain.{action, pushes, data1, return2}
 use Rattle.instruction.specs.declared.Form.{Form}
 use Rattle.instruction.specs.declared.Form.the-variants.{InCell, Immediate}
 

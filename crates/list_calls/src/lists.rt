@@ -3,7 +3,6 @@ ghost use mathlib.Core.Path.{_≡_};
 ghost use mathlib.Core.List.{[], _∷_};
 ghost use Prim.Native.Nat.{_≤_};
 ghost use lib.ListN.{length, getD};
-ghost use Rattle.follow.specs.Follow as follows;
 ghost use Rattle.follow.specs.declared.Followed.the-variants as followed;
 ghost use Rattle.calls.specs.Lending as lending;
 ghost use Rattle.calls.specs.Machines as machines;

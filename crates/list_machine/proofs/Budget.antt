@@ -1,5 +1,5 @@
 -- `run` with a budget of the counted cycles.
-use mathlib.Core.Path.{_≡_, refl, sym, ap, _∙_}
+use mathlib.Core.Path.{_≡_, refl, ap, _∙_}
 use mathlib.Core.List.{List}
 use Prim.Native.Nat.{ℕ}
 use lib.ListN.{length}
@@ -10,9 +10,9 @@ use Rattle.machine.specs.declared.Registers.{Registers}
 use Rattle.machine.specs.declared.Ended.{Ended}
 use Rattle.machine.specs.declared.Ended.the-variants.{Went, Threw, Stopped}
 use Rattle.processor.specs.Cycles.{cyclesOf}
-use Rattle.processor.specs.Answers.{machineOf, begun, ranAs, ranTo, runFor, runAnswer, doneOf}
+use Rattle.processor.specs.Answers.{machineOf, begun, ranAs, ranTo, runAnswer}
 use Rattle.list_machine.specs.Runs.{Run, runOf, beginning}
-use Rattle.list_machine.specs.Demand3.{Stop, stopOf, stopIn, firstRegisters, Agree, ranWith, RunAgrees, RunFollows}
+use Rattle.list_machine.specs.Demand3.{Stop, stopOf, firstRegisters, Agree, ranWith, RunAgrees, RunFollows}
 use Rattle.list_machine.proofs.Simulation.{demand3}
 
 ran-as : (r : Registers) (n : ℕ) (e : Ended) → ranAs r n e ≡ ranWith (stopOf e) r n

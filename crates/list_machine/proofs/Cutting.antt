@@ -1,7 +1,6 @@
 -- Runs in two parts: a run that goes on is taken up where it stands, and one that is over stays.
 use mathlib.Core.Path.{_≡_, refl, sym, ap, _∙_}
 use mathlib.Core.Bool.{Bool, true, false, true≢false}
-use Prim.{tt}
 use Prim.Native.Nat.{ℕ, zero, suc, _+_, _<_}
 use native.Mathlib.Nat.{add-zero, add-assoc, add-suc}
 use native.Mathlib.Omega.{arith}

@@ -1,21 +1,19 @@
 -- The image in memory: its cells are fetched, NEXT at a cell enters the item that opens it, and stores elsewhere leave it there.
-use mathlib.Core.Path.{_≡_, refl, sym, ap, _∙_}
-use mathlib.Core.Bool.{Bool, true, false}
+use mathlib.Core.Path.{_≡_, ap, _∙_}
+use mathlib.Core.Bool.{true}
 use mathlib.Core.List.{List}
-use Prim.Native.Nat.{ℕ, suc, _+_, _*_, _%_, _^_, _≤_, _<_}
+use Prim.Native.Nat.{ℕ, _+_, _*_, _%_, _<_}
 use native.Mathlib.Omega.{arith}
 use borrow.Author.Tests.{lt-ltb, eq-eqb}
-use lib.Dec.{ltb, eqb}
 use lib.ListN.{length, getD}
 use Rattle.cell.specs.Memory.{cellAt, Alike}
 use Rattle.cell.specs.Number.{sum}
-use Rattle.cell.specs.Place.{checkCell, read}
+use Rattle.cell.specs.Place.{checkCell}
 use Rattle.cell.specs.declared.Checked.the-variants.{Good}
-use Rattle.cell.specs.declared.Fetched.{Fetched}
 use Rattle.cell.specs.declared.Fetched.the-variants.{Cell}
 use Rattle.cell.proofs.MemoryLaws.{cell-alike}
-use Rattle.machine.specs.Places.{oneCell, placeOf, fetchOf}
-use Rattle.machine.specs.Throws.{turned, entered, nexted, nextOf}
+use Rattle.machine.specs.Places.{placeOf, fetchOf}
+use Rattle.machine.specs.Throws.{turned, nextOf}
 use Rattle.machine.specs.declared.Machine.{Machine}
 use Rattle.machine.specs.declared.Registers.{Registers}
 use Rattle.machine.specs.declared.Access.{Access}
@@ -24,7 +22,7 @@ use Rattle.machine.specs.declared.Ended.the-variants.{Went}
 use Rattle.layout.specs.Listing.{Listing}
 use Rattle.layout.specs.Layout.{opens, mid}
 use Rattle.layout.specs.Packing.{layout, imageCells, image, addressOf, epValue, register, Legal}
-use Rattle.layout.proofs.Packing.{placed, at-inside, ep-inside}
+use Rattle.layout.proofs.Packing.{placed, at-inside}
 use Rattle.layout.proofs.Meet.{enter}
 use Rattle.list_machine.specs.Demand3.{Holds}
 

@@ -30,7 +30,7 @@ use Rattle.layout.specs.declared.Entry.{Entry}
 use Rattle.layout.specs.declared.Entry.the-variants.{Item, Nothing}
 use Rattle.list_machine.specs.declared.Outside.{Outside}
 use Rattle.list_machine.specs.declared.Outside.the-variants.{WritesImage, NoEntry, NoHandler, PastEnd}
-use Rattle.list_machine.specs.ListMachine.{Position, Carried, on, stopped, outside, isImmediate, pushOf, thrownTo, actedTo, movedTo, enteredAt, effectAt, writesImage, transferred, registersAt, handledBy, handled, thrown, ranOn, followed, acted, carriedBy, carryOut}
+use Rattle.list_machine.specs.ListMachine.{Position, Carried, on, stopped, outside, isImmediate, pushOf, thrownTo, actedTo, movedTo, enteredAt, effectAt, writesImage, registersAt, handledBy, handled, thrown, followed, acted, carriedBy, carryOut}
 use Rattle.list_machine.specs.Runs.{Course, goesOn, stoppedBy, stoodOutside, Run, furtherBy, furtherIn, further, runOf}
 
 -- what an item comes to has a memory of n bytes

@@ -1,8 +1,7 @@
 -- How the processor stands when the list machine is in front of an item, and what a cycle has to come to by what the item comes to.
-use mathlib.Core.Path.{_≡_, refl, sym, ap, _∙_}
+use mathlib.Core.Path.{_≡_, refl}
 use mathlib.Core.Bool.{Bool, true, false, _&&_}
-use mathlib.Core.List.{List}
-use Prim.Native.Nat.{ℕ, suc, _+_, _*_, _<_}
+use Prim.Native.Nat.{ℕ, _<_}
 use Rattle.cell.specs.Number.{sum}
 use Rattle.cell.specs.declared.Fetched.the-variants.{Cell}
 use Rattle.machine.specs.Places.{fetchOf}
@@ -18,11 +17,10 @@ use Rattle.layout.specs.Layout.{opens}
 use Rattle.layout.specs.Packing.{layout, addressOf, epValue, register, entryAt, Legal}
 use Rattle.layout.specs.declared.Entry.{Entry}
 use Rattle.layout.specs.declared.Entry.the-variants.{Item, Nothing}
-use Rattle.layout.specs.declared.ItemNumber.{ItemNumber}
 use Rattle.layout.proofs.Placing.{entry-opens}
 use Rattle.layout.proofs.Finding.{found}
 use Rattle.list_machine.specs.declared.Outside.{Outside}
-use Rattle.list_machine.specs.ListMachine.{Position, Carried, on, stopped, outside, movedTo, enteredAt, transferred}
+use Rattle.list_machine.specs.ListMachine.{Position, Carried, on, stopped, outside, enteredAt, transferred}
 use Rattle.list_machine.specs.Demand3.{Holds}
 use Rattle.list_machine.proofs.Image.{atItem, entry-cell, ep-after}
 

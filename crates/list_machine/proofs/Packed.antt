@@ -1,17 +1,16 @@
 -- The packer's bytes in memory are the image's cells.
-use mathlib.Core.Path.{_≡_, refl, sym, ap, _∙_}
+use mathlib.Core.Path.{_≡_, _∙_}
 use mathlib.Core.List.{List, [], _∷_}
 use Prim.Native.Nat.{ℕ, zero, suc, _+_, _*_, _^_, _<_}
 use native.Mathlib.Omega.{arith}
 use lib.ListN.{length, getD}
-use Rattle.cell.specs.Memory.{cellBytes, joined, cellAt, byte0, byte1, byte2, byte3}
+use Rattle.cell.specs.Memory.{cellAt, byte0, byte1, byte2, byte3}
 use Rattle.cell.proofs.BytesLaws.{join-bytes}
-use Rattle.machine.specs.declared.Machine.{Machine}
 use Rattle.layout.specs.Listing.{Listing}
 use Rattle.layout.specs.Output.{bytesOf}
 use Rattle.layout.specs.Packing.{imageCells, image, Legal}
 use Rattle.layout.proofs.Packing.{image-below, size-is}
-use Rattle.list_machine.specs.Demand3.{Holds, HoldsBytes, PackedHolds}
+use Rattle.list_machine.specs.Demand3.{PackedHolds}
 
 -- a cell behind the first one
 past-first : (order a b c d : ℕ) (rest : List ℕ) (j : ℕ) → cellAt order (a ∷ b ∷ c ∷ d ∷ rest) (4 * suc j) ≡ cellAt order rest (4 * j)

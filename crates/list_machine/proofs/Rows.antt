@@ -1,5 +1,5 @@
 -- The runs of specs/Worked, computed in both byte orders.
-use mathlib.Core.Path.{_≡_, refl}
+use mathlib.Core.Path.{refl}
 use Rattle.cell.specs.Memory.{cellAt, storeCell}
 use Rattle.cell.specs.Number.{sum, difference}
 use Rattle.cell.specs.Shift.{asr8}

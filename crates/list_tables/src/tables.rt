@@ -1,7 +1,6 @@
 // The table of a settled layout, read by the number of an item. specs/Tables.antt says what a row holds.
 ghost use mathlib.Core.Path.{_≡_};
 ghost use Prim.Native.Nat.{_≤_, _<_};
-ghost use lib.ListN.{length};
 ghost use Rattle.cell.specs.Memory.{cellCount};
 ghost use Rattle.list_tables.specs.Tables as tables;
 use cell::CellCount;

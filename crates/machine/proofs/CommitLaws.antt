@@ -3,7 +3,6 @@
 use mathlib.Core.Path.{_≡_, refl}
 use mathlib.Core.List.{List}
 use Prim.Native.Nat.{ℕ, _+_, _%_, _<_, _≤_}
-use native.Mathlib.Omega.{arith}
 use lib.ListN.{length}
 use Rattle.cell.specs.declared.Fault.{Fault}
 use Rattle.cell.specs.declared.Checked.{Checked}
@@ -12,7 +11,7 @@ use Rattle.cell.proofs.PlaceLaws.{room, good-byte}
 use Rattle.machine.specs.Places.{oneByte, oneCell, placeOf}
 use Rattle.machine.specs.declared.Access.{Access}
 use Rattle.machine.specs.Effects.{Store, effectOf}
-use Rattle.machine.specs.Commits.{firstBad, placesOf, storedOf, stepped, raisedOf, settledOf, faultOf, commitOf, raised}
+use Rattle.machine.specs.Commits.{firstBad, placesOf, storedOf, stepped, settledOf, faultOf, commitOf, raised}
 use Rattle.machine.specs.declared.Machine.{Machine}
 use Rattle.machine.specs.declared.Registers.{Registers}
 use Rattle.machine.specs.declared.Then.{Then}

@@ -1,7 +1,7 @@
 -- The commit of an effect. Document 01, The processor: all places that an effect writes are judged before any is written, and the
 -- first bad one in that order is the fault; an instruction with a fault has changed neither memory nor SP, RP and EP.
 use mathlib.Core.List.{List, [], _∷_}
-use mathlib.Core.Bool.{Bool, true, false, _&&_, _||_}
+use mathlib.Core.Bool.{Bool, false, _&&_, _||_}
 use Prim.Native.Nat.{ℕ, _+_}
 use lib.Dec.{ltb}
 use lib.ListN.{length, set}

@@ -1,6 +1,5 @@
 -- What an instruction asks for, before anything is written. Document 01, The processor: an instruction reads its operands, and
 -- then has the places that it writes judged; whichever fails first is its fault.
-use mathlib.Core.Bool.{Bool, true, false}
 use mathlib.Core.List.{List, [], _∷_}
 use Prim.Native.Nat.{ℕ, zero, suc, _+_, _*_, _<_, _^_}
 use Rattle.cell.specs.Choice.{if}

@@ -1,6 +1,5 @@
 -- NEXT, the throw and the stops. Document 01, The processor, on throws: the address goes to -ADDRESS where the fault has one, the code to the data
 -- stack, EP to 'BAD; then the machine goes on at the address in 'THROW, by a NEXT there. Where one of these cannot be done, it stops.
-use mathlib.Core.Bool.{Bool, true, false}
 use mathlib.Core.List.{List}
 use Prim.Native.Nat.{ℕ, _-_, _%_, _^_}
 use lib.Dec.{eqb}
@@ -16,11 +15,10 @@ use Rattle.cell.specs.declared.Checked.the-variants.{Good, Bad}
 use Rattle.cell.specs.declared.Fetched.{Fetched}
 use Rattle.cell.specs.declared.Fetched.the-variants.{Cell, Failed}
 use Rattle.machine.specs.Places.{oneCell, placeOf, fetchOf}
-use Rattle.machine.specs.Commits.{Stepped, stepped}
+use Rattle.machine.specs.Commits.{Stepped}
 use Rattle.machine.specs.declared.Machine.{Machine}
 use Rattle.machine.specs.declared.Registers.{Registers}
 use Rattle.machine.specs.declared.Access.the-variants.{Stream, Push}
-use Rattle.machine.specs.declared.Step.{Step}
 use Rattle.machine.specs.declared.Outcome.{Outcome}
 use Rattle.machine.specs.declared.Outcome.the-variants as outcome
 use Rattle.machine.specs.declared.Ended.{Ended}

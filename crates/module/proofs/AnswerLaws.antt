@@ -1,9 +1,9 @@
 -- What the two calls leave and answer, from what their parts do.
 use mathlib.Core.Path.{_≡_, refl, sym, ap, _∙_}
-use mathlib.Core.List.{List, _++_, append-assoc}
-use Prim.Native.Nat.{ℕ, zero, suc, _+_, _*_, _≤_, _<_}
+use mathlib.Core.List.{List, _++_}
+use Prim.Native.Nat.{ℕ, zero, suc, _+_, _*_}
 use native.Mathlib.Omega.{arith}
-use lib.ListN.{length, take, drop, length-append, length-drop}
+use lib.ListN.{length, drop, length-append, length-drop}
 use lib.Seq.{paste, take-at, drop-append-add, drop-drop}
 use Rattle.cell.specs.Memory.{Bytewise, cellCount}
 use Rattle.cell.specs.declared.CellCount.{CellCount}

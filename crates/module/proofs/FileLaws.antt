@@ -1,11 +1,11 @@
 -- A module as a file: what a saved one says, and what a good one is made of.
 use mathlib.Core.Path.{_≡_, refl, sym, ap, _∙_}
-use mathlib.Core.List.{List, [], _∷_, _++_, append-assoc}
+use mathlib.Core.List.{List, [], _∷_, _++_}
 use Prim.Native.Nat.{ℕ, zero, suc, _+_, _-_, _*_, _^_, _≤_, _<_}
 use native.Mathlib.Omega.{arith}
-use lib.ListN.{length, getD, take, drop, length-append, length-drop, take-append-drop}
-use lib.Seq.{take-at, drop-at, drop-cons, take-add, take-all, length-take-le, getD-take, getD-drop}
-use Rattle.cell.specs.Memory.{cellBytes, cellAt, Bytewise}
+use lib.ListN.{length, getD, take, drop, length-append, length-drop}
+use lib.Seq.{drop-at, drop-cons, take-add, length-take-le, getD-take, getD-drop}
+use Rattle.cell.specs.Memory.{cellAt, Bytewise}
 use Rattle.cell.proofs.BytesLaws.{join-bytes}
 use Rattle.module.specs.Format.{title, orderOf, countOf, codeOf, headerOf, moduleOf}
 use Rattle.module.specs.Conditions.{GoodFile}

@@ -1,11 +1,11 @@
 -- The header as save_object writes it.
-use mathlib.Core.Path.{_≡_, refl, _∙_}
+use mathlib.Core.Path.{_≡_}
 use mathlib.Core.List.{List, [], _∷_, _++_}
 use Prim.Native.Nat.{ℕ, zero, suc, _+_, _≤_}
 use native.Mathlib.Omega.{arith}
-use lib.ListN.{length, drop, set}
+use lib.ListN.{length, drop}
 use lib.Seq.{sets, sets-eq}
-use Rattle.cell.specs.Memory.{byte0, byte1, byte2, byte3, storeCell}
+use Rattle.cell.specs.Memory.{storeCell}
 use Rattle.module.specs.Format.{title, headerOf}
 
 -- an output with the title and the order byte at its start

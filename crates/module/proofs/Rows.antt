@@ -1,6 +1,5 @@
 -- The worked example computes.
 use mathlib.Core.Path.{_≡_, refl}
-use Prim.Native.Nat.{ℕ}
 use Rattle.cell.specs.Memory.{cellAt, storeCell}
 use Rattle.module.specs.Format.{countOf}
 use Rattle.module.specs.Grounds.{judgeLoad}

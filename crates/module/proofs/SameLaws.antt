@@ -1,9 +1,9 @@
 -- A copy between equal byte orders: the bytes as they stand.
-use mathlib.Core.Path.{_≡_, refl, sym, ap, _∙_}
-use mathlib.Core.List.{List, [], _∷_, _++_}
-use Prim.Native.Nat.{ℕ, zero, suc, _+_, _*_, _≤_, _<_}
+use mathlib.Core.Path.{_≡_, refl, ap, _∙_}
+use mathlib.Core.List.{List, [], _∷_}
+use Prim.Native.Nat.{ℕ, zero, suc, _+_, _*_, _≤_}
 use native.Mathlib.Omega.{arith}
-use lib.ListN.{length, getD, take, drop, set}
+use lib.ListN.{length, getD, take, drop}
 use lib.Seq.{getD-drop, paste, paste-zero, paste-suc}
 use Rattle.cell.specs.Memory.{cellBytes, put, cellAt, storeCell, Bytewise}
 use Rattle.cell.proofs.BytesLaws.{bytes-joined}

@@ -4,9 +4,9 @@ use mathlib.Core.List.{List, _++_, append-assoc}
 use mathlib.Core.Logic.{inl, inr}
 use Prim.Native.Nat.{ℕ, _+_, _*_, _^_, _≤_, _<_}
 use native.Mathlib.Omega.{arith}
-use lib.ListN.{length, take, drop, take-append-drop, length-take, length-drop}
+use lib.ListN.{length, take, drop, take-append-drop, length-drop}
 use lib.Seq.{paste, take-at, drop-at, take-all, length-take-le}
-use Rattle.cell.specs.Memory.{cellAt, Bytewise}
+use Rattle.cell.specs.Memory.{Bytewise}
 use Rattle.cell.specs.Refusals.{GoodMachine}
 use Rattle.cell.proofs.JudgementLaws.{refusal-some}
 use Rattle.cell.specs.declared.Judged.{Judged}
@@ -16,8 +16,8 @@ use Rattle.module.specs.Format.{orderOf, countOf, codeOf, headerOf, modu
 use Rattle.module.specs.Grounds.{judgeLoad, judgeSave}
 use Rattle.module.specs.Copies.{copied}
 use Rattle.module.specs.Answers.{loadIf, loadOf, saveIf, savedTo, saveOf}
-use Rattle.module.specs.Conditions.{GoodFile, GoodPlace, Loadable, Savable}
-use Rattle.module.specs.Theorems.{Exactly, AcceptedExactly, SavedExactly, savedFile, SameCells, SavedLoads, LoadedSaves}
+use Rattle.module.specs.Conditions.{GoodPlace, Loadable, Savable}
+use Rattle.module.specs.Theorems.{AcceptedExactly, SavedExactly, savedFile, SameCells, SavedLoads, LoadedSaves}
 use Rattle.module.proofs.ConditionLaws.{load-good, good-load, save-good, good-save}
 use Rattle.module.proofs.CopyLaws.{copied-length, copied-apart, copied-cell}
 use Rattle.module.proofs.SameLaws.{copied-same, drop-bytewise, take-bytewise}

@@ -1,6 +1,6 @@
 -- What turns a load or a save back. Document 01, Turned back for the input, Turned back for the state, and the order below them. Every sum
 -- is exact: a count of FFFFFFFFh or an address near 2^32 refuses, and never wraps.
-use mathlib.Core.Bool.{Bool, true, false, not, _||_, _&&_}
+use mathlib.Core.Bool.{Bool, true, not, _||_, _&&_}
 use mathlib.Core.List.{List, [], _∷_}
 use Prim.Native.Nat.{ℕ, suc, _+_, _*_, _%_}
 use lib.Dec.{leb, ltb, eqb}

@@ -1,11 +1,10 @@
 -- Any number of cycles: cutting, and that a stop is final.
-use mathlib.Core.Path.{_≡_, refl, sym, _∙_, ap}
+use mathlib.Core.Path.{_≡_, refl, sym}
 use Prim.Native.Nat.{ℕ, zero, suc, _+_}
 use native.Mathlib.Nat.{zero-add, suc-add}
 use mathlib.Core.Bool.{true, false, true≢false}
-use Rattle.machine.specs.Throws.{Turned, turnedTo}
+use Rattle.machine.specs.Throws.{Turned}
 use Rattle.machine.specs.declared.Machine.{Machine}
-use Rattle.machine.specs.declared.Turn.{Turn}
 use Rattle.machine.specs.declared.Ended.{Ended}
 use Rattle.machine.specs.declared.Ended.the-variants.{Went, Threw, Stopped}
 use Rattle.processor.specs.Cycles.{cycleOf, advanced, advance, cyclesOf}

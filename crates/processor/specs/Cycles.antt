@@ -4,7 +4,7 @@ use Prim.Native.Nat.{ℕ, zero, suc, _-_, _%_}
 use lib.ListN.{length}
 use Rattle.cell.specs.Memory.{storeCell}
 use Rattle.cell.specs.Shift.{asr8}
-use Rattle.machine.specs.Throws.{Turned, turned, finishOf, nextOf, handlerCell, memoryCell, badCell, addressCell}
+use Rattle.machine.specs.Throws.{Turned, finishOf, nextOf, handlerCell, memoryCell, badCell, addressCell}
 use Rattle.machine.specs.declared.Machine.{Machine}
 use Rattle.machine.specs.declared.Registers.{Registers}
 use Rattle.machine.specs.declared.Ended.{Ended}

@@ -6,7 +6,7 @@ use Rattle.machine.proofs.CommitLaws.{commit-raising, commit-bad, commit-good, 
 use Rattle.machine.specs.Commits as commits
 use Rattle.machine.specs.Effects as effects
 use denote.Ref.{now}
-use mathlib.Core.Path.{sym, _∙_, refl}
+use mathlib.Core.Path.{sym, _∙_}
 
 fault-of-requires : tie.Need-fault-of-requires
 fault-of-requires c κs = search needs

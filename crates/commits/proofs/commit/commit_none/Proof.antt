@@ -4,9 +4,8 @@ use Rattle.commits.proofs.commit.commit_none.Statement.{statement}
 use Rattle.commits.proofs.commit.commit_none.Tie as tie
 use Rattle.machine.proofs.CommitLaws.{commit-raising, commit-good}
 use Rattle.machine.specs.Commits as commits
-use Rattle.machine.specs.Effects as effects
 use denote.Ref.{now}
-use mathlib.Core.List.{[], _∷_}
+use mathlib.Core.List.{[]}
 use mathlib.Core.Path.{sym, _∙_, refl}
 
 fault-of-requires : tie.Need-fault-of-requires

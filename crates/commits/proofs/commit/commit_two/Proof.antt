@@ -7,7 +7,7 @@ use Rattle.machine.specs.Commits as commits
 use Rattle.machine.specs.Effects as effects
 use denote.Ref.{now}
 use mathlib.Core.List.{[], _∷_}
-use mathlib.Core.Path.{sym, _∙_, refl}
+use mathlib.Core.Path.{sym, _∙_}
 use lib.ListN.{length}
 use native.Mathlib.Omega.{arith}
 

@@ -2,14 +2,9 @@
 use borrow.Author.Needs.{needs}
 use Rattle.dispatch.proofs.looping.execute_loop.Statement.{statement}
 use Rattle.dispatch.proofs.looping.execute_loop.Tie as tie
-use Rattle.dispatch.proofs.looping.form_of.Reads as form-of-reads
-use Rattle.dispatch.proofs.looping.turn.Reads as turn-reads
-use Rattle.instruction.proofs.shape.onward.Reads as onward-reads
-use Rattle.commits.proofs.commit.commit_maybe.Reads as commit-maybe-reads
 use denote.Ref.{now}
 use mathlib.Core.Path.{_∙_, ap}
 use Rattle.machine.specs.Commits as commits
-use Rattle.instruction.specs.Taking as taking
 use Rattle.instruction.specs.Dispatch as dispatch
 use Rattle.instruction.proofs.OpcodeLaws.{loop-is}
 

@@ -2,8 +2,6 @@
 use borrow.Author.Needs.{needs}
 use Rattle.dispatch.proofs.looping.turn.Statement.{statement}
 use Rattle.dispatch.proofs.looping.turn.Tie as tie
-use Rattle.flow.proofs.control.turn_loop.Reads as turn-loop-reads
-use Rattle.flow.proofs.control.turn_plus_loop.Reads as turn-plus-loop-reads
 use borrow.Author.Tests.{lt-ltb, le-ltb}
 
 -- src/looping.rt:36:9

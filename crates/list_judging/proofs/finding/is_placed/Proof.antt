@@ -1,7 +1,6 @@
 -- `is_placed` meets its contract.
 use mathlib.Core.Path.{sym, _∙_, ap}
 use native.Mathlib.Omega.{arith}
-use Prim.Native.Nat.{_+_, _*_}
 use Rattle.cell.specs.declared.CellCount.{CellCount}
 use borrow.Author.Needs.{needs}
 use Rattle.list_judging.proofs.finding.is_placed.Statement.{statement}

@@ -4,7 +4,7 @@ use Rattle.machine.proofs.places.fetch_byte.Statement.{statement}
 use Rattle.machine.proofs.places.fetch_byte.Tie as tie
 use Rattle.machine.specs.Places as places
 use Rattle.machine.proofs.CommitLaws.{room-byte}
-use mathlib.Core.Path.{sym, _∙_, refl}
+use mathlib.Core.Path.{sym, _∙_}
 use native.Mathlib.Omega.{arith}
 
 cast-a : tie.Need-cast-a

@@ -5,10 +5,6 @@ use Prim.Native.Nat.{_<_, _≤_, _-_}
 use native.Mathlib.Omega.{arith}
 use borrow.Author.Needs.{needs}
 use Rattle.module.proofs.CopyLaws.{Copying, copy-begins, copy-turns, copy-ends}
-use Rattle.module.proofs.copying.copy_cells.Reads as reads
-use Rattle.module.proofs.copying.copy_cells.Lts as lts
-use Rattle.cell.proofs.memory.load_at.Reads as load-at-reads
-use Rattle.cell.proofs.memory.store_at.Reads as store-at-reads
 
 abbrev Inv-loop : tie.InvT-loop
 Inv-loop theirs ours code memory₀ at n k₀ memory k = Copying theirs ours code memory₀ at n memory k

@@ -4,9 +4,6 @@ use Rattle.module.proofs.judgement.count_of.Tie as tie
 use mathlib.Core.Path.{ap}
 use Rattle.cell.specs.Memory.{cellCount}
 use Rattle.module.specs.Format as format
-use Rattle.module.proofs.judgement.count_of.Reads as reads
-use Rattle.module.proofs.judgement.count_of.Lts as lts
-use Rattle.cell.proofs.memory.load_at.Reads as load-at-reads
 
 shared-slice-read-load-at : tie.Need-shared-slice-read-load-at
 shared-slice-read-load-at c = search needs

@@ -4,8 +4,6 @@ use Rattle.module.proofs.judgement.is_titled.Tie as tie
 use mathlib.Core.Path.{sym}
 use mathlib.Core.Bool.{and-true}
 use borrow.Author.Tests.{eq-eqb, ne-eqb}
-use Rattle.module.proofs.judgement.is_titled.Reads as reads
-use Rattle.module.proofs.judgement.is_titled.Lts as lts
 
 shared-slice-read-if1 : tie.Need-shared-slice-read-if1
 shared-slice-read-if1 c = search needs

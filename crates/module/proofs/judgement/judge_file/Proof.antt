@@ -2,14 +2,9 @@ use borrow.Author.Needs.{needs}
 use Rattle.module.proofs.judgement.judge_file.Statement.{statement}
 use Rattle.module.proofs.judgement.judge_file.Tie as tie
 use borrow.Author.Tests.{lt-ltb, le-ltb, eq-eqb, ne-eqb, not-true, not-false}
-use Prim.Native.Nat.{ℕ, _+_, _*_}
-use mathlib.Core.Path.{ap, sym, _∙_, _≡_}
+use mathlib.Core.Path.{ap, sym, _∙_}
 use Rattle.cell.specs.declared.CellCount.{CellCount}
 use Rattle.module.specs.Grounds as grounds
-use Rattle.module.proofs.judgement.judge_file.Reads as reads
-use Rattle.module.proofs.judgement.judge_file.Lts as lts
-use Rattle.module.proofs.judgement.count_of.Reads as count-of-reads
-use Rattle.module.proofs.judgement.is_titled.Reads as is-titled-reads
 
 returns : tie.Need-returns
 unfolding grounds.judgeFile

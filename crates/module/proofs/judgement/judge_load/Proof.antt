@@ -7,12 +7,6 @@ use native.Mathlib.Omega.{arith}
 use mathlib.Core.Path.{ap, sym, _∙_}
 use Rattle.module.proofs.ConditionLaws.{file-good}
 use Rattle.module.proofs.JudgeLaws.{load-parts}
-use Rattle.module.proofs.judgement.judge_load.Reads as reads
-use Rattle.module.proofs.judgement.judge_load.Lts as lts
-use Rattle.cell.proofs.judgement.judge_machine.Reads as judge-machine-reads
-use Rattle.module.proofs.judgement.count_of.Reads as count-of-reads
-use Rattle.module.proofs.judgement.judge_file.Reads as judge-file-reads
-use Rattle.module.proofs.judgement.judge_place.Reads as judge-place-reads
 
 judge-machine-requires : tie.Need-judge-machine-requires
 judge-machine-requires c κs = search needs

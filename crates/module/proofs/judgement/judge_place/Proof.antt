@@ -3,8 +3,6 @@ use Rattle.module.proofs.judgement.judge_place.Statement.{statement}
 use Rattle.module.proofs.judgement.judge_place.Tie as tie
 use Rattle.module.specs.Grounds as grounds
 use borrow.Author.Tests.{lt-ltb, le-ltb, le-leb, lt-leb, eq-eqb, ne-eqb}
-use Rattle.module.proofs.judgement.judge_place.Reads as reads
-use Rattle.module.proofs.judgement.judge_place.Lts as lts
 
 returns : tie.Need-returns
 unfolding grounds.judgePlace

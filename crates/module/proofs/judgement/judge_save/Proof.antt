@@ -2,12 +2,8 @@ use borrow.Author.Needs.{needs}
 use Rattle.module.proofs.judgement.judge_save.Statement.{statement}
 use Rattle.module.proofs.judgement.judge_save.Tie as tie
 use borrow.Author.Tests.{lt-ltb, le-ltb}
-use mathlib.Core.Path.{ap, sym, _∙_}
+use mathlib.Core.Path.{sym, _∙_}
 use Rattle.module.proofs.JudgeLaws.{save-parts}
-use Rattle.module.proofs.judgement.judge_save.Reads as reads
-use Rattle.module.proofs.judgement.judge_save.Lts as lts
-use Rattle.cell.proofs.judgement.judge_machine.Reads as judge-machine-reads
-use Rattle.module.proofs.judgement.judge_place.Reads as judge-place-reads
 
 judge-machine-requires : tie.Need-judge-machine-requires
 judge-machine-requires c κs = search needs

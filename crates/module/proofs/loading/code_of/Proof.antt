@@ -5,8 +5,6 @@ use Prim.Native.Nat.{_-_}
 use lib.ListN.{length, drop, length-drop}
 use native.Mathlib.Omega.{arith}
 use lib.Seq.{take-all}
-use Rattle.module.proofs.loading.code_of.Reads as reads
-use Rattle.module.proofs.loading.code_of.Lts as lts
 
 sub-result : tie.Need-sub-result
 sub-result c = search needs

@@ -3,16 +3,10 @@ use Rattle.module.proofs.loading.load_object.Statement.{statement}
 use Rattle.module.proofs.loading.load_object.Tie as tie
 use lib.ListN.{length-drop}
 use native.Mathlib.Omega.{arith}
-use mathlib.Core.Path.{ap, sym, _∙_}
+use mathlib.Core.Path.{sym, _∙_}
 use Rattle.module.proofs.AnswerLaws.{load-result}
 use Rattle.module.proofs.ConditionLaws.{load-good}
 use Rattle.module.specs.Answers as answers
-use Rattle.module.proofs.loading.load_object.Reads as reads
-use Rattle.module.proofs.loading.load_object.Lts as lts
-use Rattle.module.proofs.copying.copy_cells.Reads as copy-cells-reads
-use Rattle.module.proofs.judgement.count_of.Reads as count-of-reads
-use Rattle.module.proofs.judgement.judge_load.Reads as judge-load-reads
-use Rattle.module.proofs.loading.code_of.Reads as code-of-reads
 
 judge-load-requires : tie.Need-judge-load-requires
 judge-load-requires c κs = search needs

@@ -5,16 +5,11 @@ use Prim.Native.Nat.{_-_}
 use lib.Seq.{take-all}
 use lib.ListN.{length, drop, length-drop}
 use native.Mathlib.Omega.{arith}
-use mathlib.Core.Path.{ap, sym, _∙_}
+use mathlib.Core.Path.{sym, _∙_}
 use Rattle.cell.specs.Memory as mem
 use Rattle.module.proofs.AnswerLaws.{save-result}
 use Rattle.module.proofs.ConditionLaws.{save-good}
 use Rattle.module.specs.Answers as answers
-use Rattle.module.proofs.saving.save_object.Reads as reads
-use Rattle.module.proofs.saving.save_object.Lts as lts
-use Rattle.module.proofs.copying.copy_cells.Reads as copy-cells-reads
-use Rattle.module.proofs.judgement.judge_save.Reads as judge-save-reads
-use Rattle.module.proofs.saving.write_header.Reads as write-header-reads
 
 judge-save-requires : tie.Need-judge-save-requires
 judge-save-requires c κs = search needs

@@ -5,9 +5,6 @@ use Rattle.module.proofs.HeaderLaws.{header-written}
 use mathlib.Core.Path.{_∙_}
 use native.Mathlib.Omega.{arith}
 use lib.ListN.{length-set}
-use Rattle.module.proofs.saving.write_header.Reads as reads
-use Rattle.module.proofs.saving.write_header.Lts as lts
-use Rattle.cell.proofs.memory.store_at.Reads as store-at-reads
 
 slice-write-output : tie.Need-slice-write-output
 slice-write-output c = search needs

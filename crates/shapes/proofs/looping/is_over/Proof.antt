@@ -2,7 +2,6 @@
 use borrow.Author.Needs.{needs}
 use Rattle.shapes.proofs.looping.is_over.Statement.{statement}
 use Rattle.shapes.proofs.looping.is_over.Tie as tie
-use Rattle.instruction.proofs.shape.is_crossed.Reads as is-crossed-reads
 
 -- src/looping.rt:27:9
 is-crossed-requires : tie.Need-is-crossed-requires

@@ -2,8 +2,6 @@
 use borrow.Author.Needs.{needs}
 use Rattle.shapes.proofs.looping.propose_loop.Statement.{statement}
 use Rattle.shapes.proofs.looping.propose_loop.Tie as tie
-use Rattle.cell.proofs.number.add.Reads as add-reads
-use Rattle.shapes.proofs.looping.propose_turn.Reads as propose-turn-reads
 use denote.Ref.{now}
 use Rattle.shapes.proofs.LoopingLaws.{loop-is}
 

@@ -2,11 +2,6 @@
 use borrow.Author.Needs.{needs}
 use Rattle.shapes.proofs.looping.propose_turn.Statement.{statement}
 use Rattle.shapes.proofs.looping.propose_turn.Tie as tie
-use Rattle.cell.proofs.number.add.Reads as add-reads
-use Rattle.instruction.proofs.shape.fail_maybe.Reads as fail-maybe-reads
-use Rattle.instruction.proofs.shape.maybe_not.Reads as maybe-not-reads
-use Rattle.machine.proofs.places.fetch.Reads as fetch-reads
-use Rattle.shapes.proofs.looping.is_over.Reads as is-over-reads
 use mathlib.Core.Path.{_∙_, sym, ap}
 use denote.Ref.{now}
 use Rattle.instruction.specs.Plain as plain
