@@ -52,7 +52,7 @@ impl Failure {
     }
 }
 
-/// What a refusal's number means (document 01, the two lists of what is turned back).
+/// What a refusal's number means (document 01, the two lists of refusals).
 pub fn meaning(refusal: i32) -> &'static str {
     match refusal {
         -1 => "the module's address is MEMORY or more, or its cells pass MEMORY",

@@ -9,7 +9,7 @@ use crate::{files, listing, text};
 pub const HELP: &str = "\
 beetle assemble RULE.txt -o RULE.lst
 
-Turns a rule's text into a listing file. The packer then judges the listing, and a
+Makes a listing file of a rule's text. The packer then judges the listing, and a
 listing that it refuses is not written.
 
 The text is words between spaces. An item may have a line for itself or share one.

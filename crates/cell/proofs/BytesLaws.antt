@@ -26,28 +26,28 @@ pub bytes-joined : (a b c d : ℕ) → a < 256 → b < 256 → c < 256 → d < 2
 bytes-joined a b c d ha hb hc hd =
     record { zeroth = omega arith; first = omega arith; second = omega arith; third = omega arith }
 
--- a cell loaded least byte first and turned is the cell in the machine's order
-pub turn-loaded : (order : ℕ) (m : List ℕ) (a y : ℕ) → ((i : ℕ) → getD m i 0 < 256) → y ≡ cellAt 0 m a
+-- a cell loaded least byte first and reversed is the cell in the machine's order
+pub reverse-loaded : (order : ℕ) (m : List ℕ) (a y : ℕ) → ((i : ℕ) → getD m i 0 < 256) → y ≡ cellAt 0 m a
     → joined order (byte0 y) (byte1 y) (byte2 y) (byte3 y) ≡ cellAt order m a
 unfolding cellAt
-turn-loaded order m a y low e =
+reverse-loaded order m a y low e =
     let s : Bytes y (getD m a 0) (getD m (a + 1) 0) (getD m (a + 2) 0) (getD m (a + 3) 0) =
     rw e (bytes-joined (getD m a 0) (getD m (a + 1) 0) (getD m (a + 2) 0) (getD m (a + 3) 0) (low a) (low (a + 1)) (low (a + 2)) (low (a + 3)))
     in
     rw (s .zeroth, s .first, s .second, s .third)
 
--- a cell turned and stored least byte first is stored in the machine's order
-pub turn-stored : (order : ℕ) (m : List ℕ) (a x : ℕ) → x < 2 ^ 32
+-- a cell reversed and stored least byte first is stored in the machine's order
+pub reverse-stored : (order : ℕ) (m : List ℕ) (a x : ℕ) → x < 2 ^ 32
     → storeCell 0 m a (joined order (byte0 x) (byte1 x) (byte2 x) (byte3 x)) ≡ storeCell order m a x
 unfolding storeCell
-turn-stored zero m a x h = rw (join-bytes x h)
-turn-stored (suc order) m a x h =
+reverse-stored zero m a x h = rw (join-bytes x h)
+reverse-stored (suc order) m a x h =
     let s = bytes-joined (byte3 x) (byte2 x) (byte1 x) (byte0 x) (omega arith) (omega arith) (omega arith) (omega arith) in
     rw (s .zeroth, s .first, s .second, s .third)
 
 -- the bytes of x the other way round
-pub turn-other : (order x : ℕ) → (order ≡ 0 → ⊥) → x < 2 ^ 32
+pub reverse-other : (order x : ℕ) → (order ≡ 0 → ⊥) → x < 2 ^ 32
     → x % 256 * 16777216 + x / 256 % 256 * 65536 + x / 65536 % 256 * 256 + x / 16777216
     ≡ joined order (byte0 x) (byte1 x) (byte2 x) (byte3 x)
-turn-other zero x n h = absurd (n refl)
-turn-other (suc order) x n h = omega (arith, top x h)
+reverse-other zero x n h = absurd (n refl)
+reverse-other (suc order) x n h = omega (arith, top x h)

@@ -19,7 +19,7 @@ pub both-pass : (i j : Judged) → after i j ≡ Passed → (i ≡ Passed) × (j
 both-pass Passed j e = (refl, e)
 both-pass (Refused r) j e = absurd (let z : _≡_ {A = ℕ} 0 1 = cc in omega arith)
 
--- a ground that does not turn back does not apply
+-- a ground that does not refuse does not apply
 pub one-clear : (t : Bool) (r : Refusal) (j : Judged) → if t (Refused r) j ≡ Passed → (t ≡ false) × (j ≡ Passed)
 one-clear true r j e = absurd (let z : _≡_ {A = ℕ} 0 1 = cc in omega arith)
 one-clear false r j e = (refl, e)

@@ -36,11 +36,11 @@ good-byte len a = go (ltb a len) refl
     go true p e = ltb-true a len p
     go false p e = absurd (let z : _≡_ {A = ℕ} 0 1 = cc in omega arith)
 
--- `check_cell` turns an address right by two bits out of 64 and holds it against the count of cells: in a length that 64 bits hold, an aligned
+-- `check_cell` rotates an address right by two bits out of 64 and holds it against the count of cells: in a length that 64 bits hold, an aligned
 -- address inside memory passes
-pub turned-good : (len a : ℕ) → len < 2 ^ 64 → a / 4 + a % 4 * 0x4000000000000000 < len / 4 + (len % 4 + 3) / 4 → Place len a
-turned-good len a l e = record { inside = omega (arith, l, e); aligned = omega (arith, l, e) }
+pub rotated-good : (len a : ℕ) → len < 2 ^ 64 → a / 4 + a % 4 * 0x4000000000000000 < len / 4 + (len % 4 + 3) / 4 → Place len a
+rotated-good len a l e = record { inside = omega (arith, l, e); aligned = omega (arith, l, e) }
 
 -- and one that does not pass, yet lies inside memory, is not aligned
-pub turned-bad : (len a : ℕ) → len / 4 + (len % 4 + 3) / 4 ≤ a / 4 + a % 4 * 0x4000000000000000 → a < len → a % 4 ≡ 0 → ⊥
-turned-bad len a e i t = omega (arith, e, i, t)
+pub rotated-bad : (len a : ℕ) → len / 4 + (len % 4 + 3) / 4 ≤ a / 4 + a % 4 * 0x4000000000000000 → a < len → a % 4 ≡ 0 → ⊥
+rotated-bad len a e i t = omega (arith, e, i, t)

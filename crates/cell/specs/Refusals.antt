@@ -41,7 +41,7 @@ abbrev pub after : Judged → Judged → Judged
 after Passed j = j
 after (Refused r) j = Refused r
 
--- of judgements in order, the first that turns back
+-- of judgements in order, the first that refuses
 abbrev pub inOrder : List Judged → Judged
 inOrder [] = Passed
 inOrder (j ∷ js) = after j (inOrder js)
@@ -59,7 +59,7 @@ byteOrder order = record { applies = ltb 1 order; refusal = ByteOrder }
 unfoldable pub judgeMachine : ℕ → ℕ → Judged
 judgeMachine len order = judge (memoryLength len ∷ byteOrder order ∷ [])
 
--- a memory's length that -4101 does not turn back
+-- a memory's length that -4101 does not refuse
 pub record Lent (len : ℕ) : Type 0 where
   pub whole : len % 4 ≡ 0
   pub least : 1024 ≤ len

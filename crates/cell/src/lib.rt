@@ -43,7 +43,7 @@ pub struct Quotient {
     pub remainder: u32,
 }
 
-// Why a call is turned back. specs/Refusals.antt has the number of each.
+// Why a call is refused. specs/Refusals.antt has the number of each.
 pub enum Refusal {
     MemoryLength,
     ByteOrder,

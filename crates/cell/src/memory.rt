@@ -1,4 +1,4 @@
-// Cells in bytes. A cell is loaded and stored least byte first, and its value is turned where the order is 1. In memory a cell has an address;
+// Cells in bytes. A cell is loaded and stored least byte first, and its bytes are reversed where the order is 1. In memory a cell has an address;
 // in bytes that are no memory, as those of a file, it has a position.
 ghost use mathlib.Core.Path.{_≡_};
 ghost use Prim.Native.Nat.{_+_, _≤_};
@@ -13,7 +13,7 @@ fn join(a: u8, b: u8, c: u8, d: u8) -> u32
 }
 
 // The bytes of x in the other order, where the order is not 0.
-fn turn(order: u8, x: u32) -> u32
+fn reverse(order: u8, x: u32) -> u32
     ensures { λ r. ⌜ r ≡ mem.joined order (mem.byte0 x) (mem.byte1 x) (mem.byte2 x) (mem.byte3 x) ⌝ }
 {
     if order == 0 {
@@ -35,7 +35,7 @@ pub fn load_at(order: u8, bytes: &[u8], at: usize) -> u32
     requires { ⌜ at + 4 ≤ length (now bytes) ⌝ }
     ensures { λ r. ⌜ r ≡ mem.cellAt order (now (bytes .entry)) at ⌝ }
 {
-    turn(order, load_least(bytes, at))
+    reverse(order, load_least(bytes, at))
 }
 
 // The cell at an address inside memory.
@@ -61,7 +61,7 @@ pub fn store_at(order: u8, bytes: &mut [u8], at: usize, x: u32)
     requires { ⌜ at + 4 ≤ length (now bytes) ⌝ }
     ensures { λ r. ⌜ now (bytes .exit) ≡ mem.storeCell order (now (bytes .entry)) at x ⌝ }
 {
-    store_least(bytes, at, turn(order, x))
+    store_least(bytes, at, reverse(order, x))
 }
 
 // Memory with x at an address inside it.

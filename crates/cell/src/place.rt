@@ -28,7 +28,7 @@ pub fn check_byte(length: usize, address: Address) -> Checked
     }
 }
 
-// One comparison finds a good place: the address, turned right by two bits, is the number of its cell, or past every number if it is not aligned.
+// One comparison finds a good place: the address, rotated right by two bits, is the number of its cell, or past every number if it is not aligned.
 pub fn check_cell(length: usize, address: Address) -> Checked
     ensures { λ r. ⌜ r ≡ place.checkCell length (address .0) ⌝ }
 {

@@ -30,10 +30,10 @@ module _ (machine : Machine) (m0 : List ℕ) (top depth last : ℕ) where
   pub roll-begins : Rolling machine m0 top depth last m0 depth
   roll-begins = record { within = omega arith; long = refl; kept = alike-refl top (top + 4 * depth + 4) m0; ahead = refl }
 
-  pub roll-turns : (m : List ℕ) (k x : ℕ) → x ≡ cellAt (machine .order) m (top + 4 * k) → Rolling machine m0 top depth last m (suc k)
+  pub roll-goes-on : (m : List ℕ) (k x : ℕ) → x ≡ cellAt (machine .order) m (top + 4 * k) → Rolling machine m0 top depth last m (suc k)
       → Rolling machine m0 top depth last (storeCell (machine .order) m (top + 4 * suc k) x) k
   unfolding storedOf rollStores
-  roll-turns m k x e s =
+  roll-goes-on m k x e s =
       record {
         within = omega (arith, s .within);
         long = store-length (machine .order) m (top + 4 * suc k) x ∙ s .long;
@@ -57,7 +57,7 @@ pub rolled-some : (order : ℕ) (m : List ℕ) (top depth : ℕ) → (depth ≡ 
 rolled-some order m top zero n = absurd (n refl)
 rolled-some order m top (suc u) n = refl
 
--- one turn, as the code counts
+-- one step, as the code counts
 pub roll-again : (machine : Machine) (m0 : List ℕ) (top depth last : ℕ) (m : List ℕ) (k x : ℕ) (m2 : List ℕ) → 0 < k
     → x ≡ cellAt (machine .order) m (top + 4 * (k - 1)) → m2 ≡ storeCell (machine .order) m (top + 4 * k) x
     → Rolling machine m0 top depth last m k → Rolling machine m0 top depth last m2 (k - 1)
@@ -65,9 +65,9 @@ roll-again machine m0 top depth last m k x m2 h e q s =
     let n : k ≡ suc (k - 1) = omega arith in
     rw q
     (rw (ap (λ (j : ℕ). storeCell (machine .order) m (top + 4 * j) x) n)
-    (roll-turns machine m0 top depth last m (k - 1) x e (rw n at s)))
+    (roll-goes-on machine m0 top depth last m (k - 1) x e (rw n at s)))
 
--- after the last turn
+-- after the last step
 pub roll-done : (machine : Machine) (m0 : List ℕ) (top depth last : ℕ) (m : List ℕ) (k : ℕ) (m2 : List ℕ) → (depth ≡ 0 → ⊥)
     → last ≡ cellAt (machine .order) m0 (top + 4 * depth) → k ≤ 0 → m2 ≡ storeCell (machine .order) m top last
     → Rolling machine m0 top depth last m k → m2 ≡ storedOf machine m0 (rolled (machine .order) m0 top depth)

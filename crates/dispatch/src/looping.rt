@@ -7,9 +7,9 @@ ghost use Rattle.machine.specs.Commits as commits;
 ghost use Rattle.instruction.specs.Taking as taking;
 ghost use Rattle.instruction.specs.Dispatch as dispatch;
 use commits::commit::commit_maybe;
-use flow::control::turn_loop;
-use flow::control::turn_plus_loop;
-use instruction::Form;
+use flow::control::step_loop;
+use flow::control::step_plus_loop;
+use instruction::OperandForm;
 use instruction::shape::onward;
 use machine::Machine;
 use machine::MaybeStore;
@@ -17,24 +17,30 @@ use machine::Registers;
 use machine::Step;
 
 // The immediate opcode is the odd one.
-fn form_of(opcode: u32) -> Form
+fn form_of(opcode: u32) -> OperandForm
     ensures { λ f. ⌜ f ≡ dispatch.formOf opcode ⌝ }
 {
     if opcode % 2 == 0 {
-        return Form::InCell;
+        return OperandForm::InCell;
     }
-    Form::Immediate
+    OperandForm::Immediate
 }
 
 // (LOOP) or (+LOOP).
-fn turn(machine: Machine, memory: &[u8], r: Registers, form: Form, opcode: u32) -> MaybeStore
+fn loop_effect(
+    machine: Machine,
+    memory: &[u8],
+    r: Registers,
+    form: OperandForm,
+    opcode: u32,
+) -> MaybeStore
     requires { ⌜ places.Whole (now memory) ⌝ }
     ensures { λ e. ⌜ effects.maybeStore e ≡ taking.takingAt machine form (dispatch.loopOf opcode) (now (memory .entry)) r ⌝ }
 {
     if opcode < 0x4E {
-        return turn_loop(machine, memory, r, form);
+        return step_loop(machine, memory, r, form);
     }
-    turn_plus_loop(machine, memory, r, form)
+    step_plus_loop(machine, memory, r, form)
 }
 
 pub fn execute_loop(machine: Machine, memory: &mut [u8], r: Registers, opcode: u32) -> Step
@@ -43,7 +49,7 @@ pub fn execute_loop(machine: Machine, memory: &mut [u8], r: Registers, opcode: u
     ensures { λ s. ⌜ commits.stepped (now (memory .exit)) s ≡ dispatch.executeOf machine (now (memory .entry)) r (dispatch.decodeOf opcode) ⌝ }
 {
     let form = form_of(opcode);
-    let e = turn(
+    let e = loop_effect(
         machine,
         memory,
         Registers {

@@ -27,10 +27,10 @@ module _ (machine : Machine) (m : List ℕ) (sp rp after index limit : ℕ) (fir
   unfolding takingOf
   loop-fails operand f e q = rw (first, second, e, q)
 
-  pub loop-turns : (operand : Fetched) (to : ℕ) → eqb (sum index 1) limit ≡ false → operand ≡ Cell to
+  pub loop-goes-on : (operand : Fetched) (to : ℕ) → eqb (sum index 1) limit ≡ false → operand ≡ Cell to
       → takingOf machine loop m sp rp operand after ≡ action sp rp (cellStore ReturnWrite rp (sum index 1) ∷ []) (jump to)
   unfolding takingOf
-  loop-turns operand to e q = rw (first, second, e, q)
+  loop-goes-on operand to e q = rw (first, second, e, q)
 
   module _ (n : ℕ) (top : fetchOf machine DataRead m sp ≡ Cell n) where
     pub plus-loop-ends : (operand : Fetched) → crosses index (sum index n) limit ≡ true
@@ -43,8 +43,8 @@ module _ (machine : Machine) (m : List ℕ) (sp rp after index limit : ℕ) (fir
     unfolding takingOf
     plus-loop-fails operand f e q = rw (top, first, second, e, q)
 
-    pub plus-loop-turns : (operand : Fetched) (to : ℕ) → crosses index (sum index n) limit ≡ false → operand ≡ Cell to
+    pub plus-loop-goes-on : (operand : Fetched) (to : ℕ) → crosses index (sum index n) limit ≡ false → operand ≡ Cell to
         → takingOf machine plusLoop m sp rp operand after
         ≡ action (sum sp 4) rp (cellStore ReturnWrite rp (sum index n) ∷ []) (jump to)
     unfolding takingOf
-    plus-loop-turns operand to e q = rw (top, first, second, e, q)
+    plus-loop-goes-on operand to e q = rw (top, first, second, e, q)

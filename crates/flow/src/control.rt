@@ -8,17 +8,17 @@ use cell::Address;
 use cell::Fetched;
 use cell::number::add;
 use cell::number::subtract;
-use instruction::Form;
 use instruction::Instruction;
+use instruction::OperandForm;
 use instruction::shape::branch_operand;
 use instruction::shape::fail_maybe;
 use instruction::shape::fail_none;
 use instruction::shape::fail_one;
 use instruction::shape::fail_two;
 use instruction::shape::is_crossed;
-use instruction::shape::maybe_not;
 use instruction::shape::push;
 use instruction::shape::return_address;
+use instruction::shape::write_nothing;
 use machine::Access;
 use machine::Machine;
 use machine::MaybeStore;
@@ -31,7 +31,7 @@ use machine::Write;
 use machine::places::fetch;
 
 // 42h BRANCH, 43h BRANCHI ( -- )
-pub fn branch(machine: Machine, memory: &[u8], r: Registers, form: Form) -> NoStore
+pub fn branch(machine: Machine, memory: &[u8], r: Registers, form: OperandForm) -> NoStore
     requires { ⌜ places.Whole (now memory) ⌝ }
     ensures { λ e. ⌜ effects.noStore e ≡ taking.takingAt machine form taking.branch (now (memory .entry)) r ⌝ }
 {
@@ -47,7 +47,7 @@ pub fn branch(machine: Machine, memory: &[u8], r: Registers, form: Form) -> NoSt
 }
 
 // 44h ?BRANCH, 45h ?BRANCHI ( flag -- )
-pub fn question_branch(machine: Machine, memory: &[u8], r: Registers, form: Form) -> NoStore
+pub fn question_branch(machine: Machine, memory: &[u8], r: Registers, form: OperandForm) -> NoStore
     requires { ⌜ places.Whole (now memory) ⌝ }
     ensures { λ e. ⌜ effects.noStore e ≡ taking.takingAt machine form taking.questionBranch (now (memory .entry)) r ⌝ }
 {
@@ -120,7 +120,7 @@ pub fn fetch_execute(machine: Machine, memory: &[u8], r: Registers) -> OneStore
 }
 
 // 48h CALL, 49h CALLI ( -- ) R: ( -- a-addr )
-pub fn call(machine: Machine, memory: &[u8], r: Registers, form: Form) -> OneStore
+pub fn call(machine: Machine, memory: &[u8], r: Registers, form: OperandForm) -> OneStore
     requires { ⌜ places.Whole (now memory) ⌝ }
     ensures { λ e. ⌜ effects.oneStore e ≡ taking.takingAt machine form taking.call (now (memory .entry)) r ⌝ }
 {
@@ -188,7 +188,7 @@ pub fn start_loop(machine: Machine, memory: &[u8], r: Registers) -> TwoStores
 }
 
 // 4Ch (LOOP), 4Dh (LOOP)I R: ( n1 n2 -- | n1 n3 )
-pub fn turn_loop(machine: Machine, memory: &[u8], r: Registers, form: Form) -> MaybeStore
+pub fn step_loop(machine: Machine, memory: &[u8], r: Registers, form: OperandForm) -> MaybeStore
     requires { ⌜ places.Whole (now memory) ⌝ }
     ensures { λ e. ⌜ effects.maybeStore e ≡ taking.takingAt machine form taking.loop (now (memory .entry)) r ⌝ }
 {
@@ -202,7 +202,7 @@ pub fn turn_loop(machine: Machine, memory: &[u8], r: Registers, form: Form) -> M
     };
     let next = add(index, 1);
     if next == limit {
-        return maybe_not(r.sp, add(r.rp, 8));
+        return write_nothing(r.sp, add(r.rp, 8));
     }
     let got3 = branch_operand(machine, memory, r, form);
     let Fetched::Cell(to) = got3 else {
@@ -222,7 +222,12 @@ pub fn turn_loop(machine: Machine, memory: &[u8], r: Registers, form: Form) -> M
 }
 
 // 4Eh (+LOOP), 4Fh (+LOOP)I ( n -- ) R: ( n2 n3 -- | n2 n4 )
-pub fn turn_plus_loop(machine: Machine, memory: &[u8], r: Registers, form: Form) -> MaybeStore
+pub fn step_plus_loop(
+    machine: Machine,
+    memory: &[u8],
+    r: Registers,
+    form: OperandForm,
+) -> MaybeStore
     requires { ⌜ places.Whole (now memory) ⌝ }
     ensures { λ e. ⌜ effects.maybeStore e ≡ taking.takingAt machine form taking.plusLoop (now (memory .entry)) r ⌝ }
 {
@@ -240,7 +245,7 @@ pub fn turn_plus_loop(machine: Machine, memory: &[u8], r: Registers, form: Form)
     };
     let next = add(index, n);
     if is_crossed(index, next, limit) {
-        return maybe_not(add(r.sp, 4), add(r.rp, 8));
+        return write_nothing(add(r.sp, 4), add(r.rp, 8));
     }
     let got4 = branch_operand(machine, memory, r, form);
     let Fetched::Cell(to) = got4 else {

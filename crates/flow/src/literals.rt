@@ -4,7 +4,7 @@ ghost use Rattle.machine.specs.Places as places;
 ghost use Rattle.machine.specs.Effects as effects;
 ghost use Rattle.instruction.specs.Taking as taking;
 use cell::Fetched;
-use instruction::Form;
+use instruction::OperandForm;
 use instruction::shape::fail_one;
 use instruction::shape::literal_operand;
 use instruction::shape::push;
@@ -13,7 +13,7 @@ use machine::OneStore;
 use machine::Registers;
 
 // 52h (LITERAL), 53h (LITERAL)I ( -- x )
-pub fn literal(machine: Machine, memory: &[u8], r: Registers, form: Form) -> OneStore
+pub fn literal(machine: Machine, memory: &[u8], r: Registers, form: OperandForm) -> OneStore
     requires { ⌜ places.Whole (now memory) ⌝ }
     ensures { λ e. ⌜ effects.oneStore e ≡ taking.takingAt machine form taking.literal (now (memory .entry)) r ⌝ }
 {

@@ -42,14 +42,14 @@ module _ (machine : Machine) (base : ℕ) (l : Listing) (m : List ℕ) (start : 
       (followIf j machine base l (followIf j machine base l m start a .memory) (followIf j machine base l m start a .stand) b)
   cut-if (Refused r) e = absurd (refusal-some r e)
   cut-if Passed e =
-      ap (λ (r : Run). followedTo (r .position .memory) start (followed.Ran (ranOf r)))
+      ap (λ (r : Run). followedTo (r .position .memory) start (followed.Run (ranOf r)))
       (cut-in-two machine base l (positionOf m start) a b (goes-on (run a .course) e))
 
   over-if : (j : Judged) → followIf j machine base l m start a .number ≢ 0
       → followIf j machine base l m start (a + b) ≡ followIf j machine base l m start a
   over-if (Refused r) h = refl
   over-if Passed h =
-      ap (λ (r : Run). followedTo (r .position .memory) start (followed.Ran (ranOf r)))
+      ap (λ (r : Run). followedTo (r .position .memory) start (followed.Run (ranOf r)))
       (stays-over machine base l (positionOf m start) a b (is-over (run a .course) h))
 
   -- a call leaves the memory's length

@@ -28,7 +28,7 @@ use Rattle.list_judging.specs.declared.Stand.{Stand}
 use Rattle.items.specs.Outcomes.{courseOf, runAs}
 use Rattle.items.specs.declared.Ending.{Ending}
 use Rattle.items.specs.declared.Ending.the-variants as ending
-use Rattle.items.specs.declared.Ran.{Ran}
+use Rattle.items.specs.declared.ItemRun.{ItemRun}
 use Rattle.follow.specs.Follow.{judgeBegin, judgeImage, judgeFollow, FollowResult, followedTo, standAt, endingOf, ranOf, followIf, resumeIn, followOf, AsPacked}
 use Rattle.follow.specs.declared.Followed.{Followed}
 use Rattle.follow.specs.declared.Followed.the-variants as followed
@@ -68,25 +68,25 @@ course-back goesOn = refl
 course-back (stoppedBy x) = refl
 course-back (stoodOutside why) = refl
 
-run-back : (m : List ℕ) (x : Ran) → ranOf (runAs m x) ≡ x
+run-back : (m : List ℕ) (x : ItemRun) → ranOf (runAs m x) ≡ x
 run-back m x = ap (λ (e : Ending). record { stand = x .stand; items = x .items; cycles = x .cycles; ending = e }) (ending-back (x .ending))
 
 pub run-there : (r : Run) → runAs (r .position .memory) (ranOf r) ≡ r
 run-there r = ap (λ (c : Course). record { position = r .position; items = r .items; cycles = r .cycles; course = c }) (course-back (r .course))
 
--- an answer after the layout: turned back, or the run
+-- an answer after the layout: a refusal, or the run
 module _ (machine : Machine) (base : ℕ) (l : Listing) (m : List ℕ) (start : Stand) (items : ℕ) (cells : CellCount) (size : cells ≡ cellCount (imageCells l))
     (room : Judged) where
   pub image-refused : (r : Refusal) → judgeImage base (cells .0) room ≡ Refused r
       → followedTo m start (followed.Refused r) ≡ followIf (judgeImage base (imageCells l) room) machine base l m start items
   image-refused r e = rw (← ap (λ (x : CellCount). x .0) size, e)
 
-  pub image-ran : judgeImage base (cells .0) room ≡ Passed → (m2 : List ℕ) (x : Ran)
+  pub image-ran : judgeImage base (cells .0) room ≡ Passed → (m2 : List ℕ) (x : ItemRun)
       → runAs m2 x ≡ runOf machine base l items (resuming l (positionOf m start))
-      → followedTo m2 start (followed.Ran x) ≡ followIf (judgeImage base (imageCells l) room) machine base l m start items
+      → followedTo m2 start (followed.Run x) ≡ followIf (judgeImage base (imageCells l) room) machine base l m start items
   image-ran e m2 x ran =
       rw (← ap (λ (x : CellCount). x .0) size, e, ← ran)
-      (ap (λ (y : Ran). followedTo m2 start (followed.Ran y)) (sym (run-back m2 x)))
+      (ap (λ (y : ItemRun). followedTo m2 start (followed.Run y)) (sym (run-back m2 x)))
 
 -- an answer from the judgement before the layout on
 module _ (room : Judged) (order : ℕ) (kinds operands : List ℕ) (base : ℕ) (m : List ℕ) (start : Stand) (items : ℕ) where
@@ -106,16 +106,16 @@ module _ (order : ℕ) (kinds operands : List ℕ) (base : ℕ) (m : List ℕ) (
   abbrev run : Run
   run = runOf (machineOf order) base (listed kinds operands) items (resuming (listed kinds operands) (positionOf m (standAt 0 false sp rp)))
 
-  ran-packed : (m2 : List ℕ) (x : Ran) (j : Judged) → judgeFollow (length m) order kinds operands base Passed ≡ j
-      → followedTo m2 (standAt 0 false sp rp) (followed.Ran x)
+  ran-packed : (m2 : List ℕ) (x : ItemRun) (j : Judged) → judgeFollow (length m) order kinds operands base Passed ≡ j
+      → followedTo m2 (standAt 0 false sp rp) (followed.Run x)
       ≡ followIf j (machineOf order) base (listed kinds operands) m (standAt 0 false sp rp) items
-      → AsPacked order base (listed kinds operands) m sp rp m2 (followed.Ran x)
+      → AsPacked order base (listed kinds operands) m sp rp m2 (followed.Run x)
   unfolding judgeFollow judgeImage
   ran-packed m2 x (Refused r) q e holds =
-      absurd (let f : followed.Ran x ≡ followed.Refused r = ap (λ (s : FollowResult). s .answer) e in let z : _≡_ {A = ℕ} 0 1 = cc in omega arith)
+      absurd (let f : followed.Run x ≡ followed.Refused r = ap (λ (s : FollowResult). s .answer) e in let z : _≡_ {A = ℕ} 0 1 = cc in omega arith)
   ran-packed m2 x Passed q e holds =
       let p = both-pass (judgeBegin (length m) order kinds operands) (after (judgedPlace base (imageCells (listed kinds operands))) Passed) q in
-      let f : followed.Ran x ≡ followed.Ran (ranOf run) = ap (λ (s : FollowResult). s .answer) e in
+      let f : followed.Run x ≡ followed.Run (ranOf run) = ap (λ (s : FollowResult). s .answer) e in
       let g : x ≡ ranOf run = cc in
       let h : m2 ≡ run .position .memory = ap (λ (s : FollowResult). s .memory) e in
       rw (h, g, run-there run)
@@ -131,4 +131,4 @@ module _ (order : ℕ) (kinds operands : List ℕ) (base : ℕ) (m : List ℕ) (
       → AsPacked order base (listed kinds operands) m sp rp m2 a
   unfolding resumeIn
   as-packed m2 (followed.Refused r) e = tt
-  as-packed m2 (followed.Ran x) e = ran-packed m2 x (judgeFollow (length m) order kinds operands base Passed) refl e
+  as-packed m2 (followed.Run x) e = ran-packed m2 x (judgeFollow (length m) order kinds operands base Passed) refl e

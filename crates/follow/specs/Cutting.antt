@@ -1,4 +1,4 @@
--- A run in two calls. Document 01, Listings: a run is the items that the machine carries out, in turn; so it may be cut at any item.
+-- A run in two calls. Document 01, Listings: a run is the items that the machine carries out, one after the other; so it may be cut at any item.
 use mathlib.Core.Path.{_≡_}
 use mathlib.Core.Logic.{_≢_}
 use mathlib.Core.List.{List}
@@ -11,8 +11,8 @@ use Rattle.follow.specs.Follow.{FollowResult, followedTo, resumeOf}
 -- an answer, with the items and cycles of the call before it
 abbrev pub withCounts : ℕ → ℕ → Followed → Followed
 withCounts items cycles (followed.Refused r) = followed.Refused r
-withCounts items cycles (followed.Ran x) =
-    followed.Ran (record { stand = x .stand; items = items + x .items; cycles = cycles + x .cycles; ending = x .ending })
+withCounts items cycles (followed.Run x) =
+    followed.Run (record { stand = x .stand; items = items + x .items; cycles = cycles + x .cycles; ending = x .ending })
 
 -- two calls as one: what the second left, with the counts of both
 abbrev pub joinedTo : Stand → FollowResult → FollowResult → FollowResult

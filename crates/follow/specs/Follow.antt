@@ -1,4 +1,4 @@
--- A run of the list machine on a lent memory: what turns it back, what it leaves, and the number and values of each answer. Document 01, Listings, and
+-- A run of the list machine on a lent memory: what refuses it, what it leaves, and the number and values of each answer. Document 01, Listings, and
 -- the order of its refusals.
 use mathlib.Core.Bool.{Bool, false}
 use mathlib.Core.List.{List}
@@ -21,7 +21,7 @@ use Rattle.list_judging.specs.declared.Stand.{Stand}
 use Rattle.items.specs.Outcomes.{runAs}
 use Rattle.items.specs.declared.Ending.{Ending}
 use Rattle.items.specs.declared.Ending.the-variants as ending
-use Rattle.items.specs.declared.Ran.{Ran}
+use Rattle.items.specs.declared.ItemRun.{ItemRun}
 use Rattle.follow.specs.declared.Followed.{Followed}
 use Rattle.follow.specs.declared.Followed.the-variants as followed
 
@@ -52,23 +52,23 @@ endingReason (ending.Outside why) = outsideNumber why
 -- the number of each answer, and its values: a refusal leaves the stand as it was given, with no items and no cycles
 abbrev pub followNumber : Followed → ℕ
 followNumber (followed.Refused r) = refusalNumber r
-followNumber (followed.Ran x) = endingNumber (x .ending)
+followNumber (followed.Run x) = endingNumber (x .ending)
 
 abbrev pub followReason : Followed → ℕ
 followReason (followed.Refused r) = 0
-followReason (followed.Ran x) = endingReason (x .ending)
+followReason (followed.Run x) = endingReason (x .ending)
 
 abbrev pub followStand : Stand → Followed → Stand
 followStand start (followed.Refused r) = start
-followStand start (followed.Ran x) = x .stand
+followStand start (followed.Run x) = x .stand
 
 abbrev pub followItems : Followed → ℕ
 followItems (followed.Refused r) = 0
-followItems (followed.Ran x) = x .items
+followItems (followed.Run x) = x .items
 
 abbrev pub followCycles : Followed → ℕ
 followCycles (followed.Refused r) = 0
-followCycles (followed.Ran x) = x .cycles
+followCycles (followed.Run x) = x .cycles
 
 -- the memory after a call, and its answer; stand holds the item, SP and RP
 pub record FollowResult : Type 0 where
@@ -105,15 +105,15 @@ endingOf (stoodOutside why) = ending.Outside why
 abbrev pub standOf : Position → Stand
 standOf p = standAt (p .item) (p .ran) (p .sp) (p .rp)
 
-abbrev pub ranOf : Run → Ran
+abbrev pub ranOf : Run → ItemRun
 ranOf r = record { stand = standOf (r .position); items = r .items; cycles = r .cycles; ending = endingOf (r .course) }
 
--- turned back, with memory as it was; or the run
+-- refused, with memory as it was; or the run
 abbrev pub followIf : Judged → Machine → ℕ → Listing → List ℕ → Stand → ℕ → FollowResult
 followIf (judged.Refused r) machine base l m start items = followedTo m start (followed.Refused r)
 followIf judged.Passed machine base l m start items =
     let r = runOf machine base l items (resuming l (positionOf m start)) in
-    followedTo (r .position .memory) start (followed.Ran (ranOf r))
+    followedTo (r .position .memory) start (followed.Run (ranOf r))
 
 -- a run taken up at an item, with room judged last
 unfoldable pub resumeIn : Judged → ℕ → List ℕ → List ℕ → ℕ → List ℕ → Stand → ℕ → FollowResult
@@ -131,5 +131,5 @@ followOf order kinds operands base m sp rp items = resumeOf order kinds operands
 -- demand 3, of this answer: where the memory m held the image, the processor's counted cycles leave what the list machine left
 abbrev pub AsPacked : ℕ → ℕ → Listing → List ℕ → ℕ → ℕ → List ℕ → Followed → Type 0
 AsPacked order base l m sp rp after (followed.Refused r) = Unit {0}
-AsPacked order base l m sp rp after (followed.Ran x) =
+AsPacked order base l m sp rp after (followed.Run x) =
     Holds (machineOf order) base l m → Agree (machineOf order) (begun m (firstRegisters (machineOf order) base m sp rp)) (runAs after x)

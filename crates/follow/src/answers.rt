@@ -33,7 +33,7 @@ pub fn follow_number(answer: Followed) -> u32
 {
     match answer {
         Followed::Refused(r) => refusal_number(r),
-        Followed::Ran(ran) => {
+        Followed::Run(ran) => {
             let ending = ran.ending;
             ending_number(ending)
         }

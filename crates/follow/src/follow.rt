@@ -44,7 +44,7 @@ fn follow_checked(
                 base: base,
                 cells: cells,
             };
-            Followed::Ran(run_items(machine, memory, kinds, operands, table, image, start, items))
+            Followed::Run(run_items(machine, memory, kinds, operands, table, image, start, items))
         }
     }
 }

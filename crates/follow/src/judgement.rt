@@ -1,4 +1,4 @@
-// What turns a run of the list machine back, in document 01's order.
+// What refuses a run of the list machine, in document 01's order.
 ghost use mathlib.Core.Path.{_≡_};
 ghost use Prim.Native.Nat.{_≤_};
 ghost use Rattle.follow.specs.Follow as follows;

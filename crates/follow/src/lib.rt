@@ -4,10 +4,10 @@ pub mod follow;
 pub mod judgement;
 
 use cell::Refusal;
-use items::Ran;
+use items::ItemRun;
 
 // What a run of the list machine answers. specs/Follow.antt has the number and the values of each case.
 pub enum Followed {
     Refused(Refusal),
-    Ran(Ran),
+    Run(ItemRun),
 }

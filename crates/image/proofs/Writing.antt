@@ -1,4 +1,4 @@
--- Stores of cells, and one turn of the image pass.
+-- Stores of cells, and one step of the image pass.
 -- Assumes nothing.
 use Rattle.cell.specs.Memory.{cellBytes}
 use mathlib.Core.Path.{_≡_, refl, sym, ap, ap₂, _∙_}
@@ -14,13 +14,13 @@ use lib.Seq.{sets, sets-eq, length-take-le, take-append-le, take-take, drop-at}
 use Rattle.cell.specs.Choice.{if}
 use Rattle.cell.specs.declared.Judged.the-variants.{Passed}
 use Rattle.layout.specs.declared.Class.{Class}
-use Rattle.layout.specs.declared.Form.{Form}
+use Rattle.layout.specs.declared.ItemForm.{ItemForm}
 use Rattle.layout.specs.Bytes.{pack}
 use Rattle.layout.specs.declared.Class.the-variants.{Plain as plain, Literal as literal, Branch as branch, NoKind as noKind}
 use Rattle.layout.specs.Kinds.{classOf, isBranch}
 use Rattle.layout.specs.Flags.{bit, flagged}
 use Rattle.layout.specs.Listing.{Listing, judgedListing}
-use Rattle.layout.specs.declared.Form.the-variants.{Alone as alone, Immediate as immediate, InCell as inCell}
+use Rattle.layout.specs.declared.ItemForm.the-variants.{Alone as alone, Immediate as immediate, InCell as inCell}
 use Rattle.layout.specs.Layout.{Spot, begin, extra, Plan, cur, opens, mid, left, formAt, Laid}
 use Rattle.layout.specs.Image.{byteOf, above, opened, joined, word, cells}
 use Rattle.layout.specs.Packing.{formOf, branchValue, valueOf, marks, layout, value, image, imageCells}
@@ -79,7 +79,7 @@ store-front order o cells end a x h =
     prepend o (bytesOf order cells ++ end) a h order x
     ∙ ap (λ (s : List ℕ). take (4 * a) o ++ s) (sym (append-assoc (cellBytes order x) (bytesOf order cells) end))
 
-pub operand-front : (g : Form) (order : ℕ) (o cells end : List ℕ) (a x : ℕ) → 4 * (a + extra g) ≤ length o
+pub operand-front : (g : ItemForm) (order : ℕ) (o cells end : List ℕ) (a x : ℕ) → 4 * (a + extra g) ≤ length o
     → joinedAt g order (from order (a + extra g) cells o end) a x ≡ from order a (joined g x cells) o end
 operand-front alone order o cells end a x h = rw add-zero
 operand-front immediate order o cells end a x h = rw add-zero
@@ -90,7 +90,7 @@ pub open-front : (b : Bool) (order : ℕ) (o cells end : List ℕ) (c : Spot) (w
 open-front true order o cells end c w h = store-front order o cells end (c .next) w h
 open-front false order o cells end c w h = refl
 
-above-rest : (g : Form) (o : Bool) (v w : ℕ) → above g false v (if o 0 w) ≡ above g o v w
+above-rest : (g : ItemForm) (o : Bool) (v w : ℕ) → above g false v (if o 0 w) ≡ above g o v w
 above-rest alone o v w = refl
 above-rest immediate o v w = refl
 above-rest inCell o v w = refl
@@ -100,7 +100,7 @@ nothing-above true = refl
 nothing-above false = refl
 
 -- what the pass keeps when the items from i on are written
-pub record WriteTurn (order base : ℕ) (l : Listing) (o out : List ℕ) (rest i : ℕ) : Type 0 where
+pub record WriteStep (order base : ℕ) (l : Listing) (o out : List ℕ) (rest i : ℕ) : Type 0 where
   pub inside : i ≤ l .count
   pub size : length out ≡ length o
   pub above-is : rest ≡ if (opens (layout l) i) 0 (word (layout l) (l .kind) (value base l) (l .count - i) i)
@@ -108,7 +108,7 @@ pub record WriteTurn (order base : ℕ) (l : Listing) (o out : List ℕ) (rest i
       ≡ from order (cur (layout l) i .next) (cells (layout l) (l .kind) (value base l) (l .count - i) i) o (drop (4 * imageCells l) o)
 
 module _ (order base : ℕ) (l : Listing) (o : List ℕ) (room : 4 * imageCells l ≤ length o) where
-  pub write-start : WriteTurn order base l o o 0 (l .count)
+  pub write-start : WriteStep order base l o o 0 (l .count)
   unfolding word cells bytesOf
   write-start =
       let e : l .count - l .count ≡ 0 = omega arith in
@@ -119,7 +119,7 @@ module _ (order base : ℕ) (l : Listing) (o : List ℕ) (room : 4 * imageCells 
         out-is = rw e (sym (take-append-drop (4 * imageCells l) o));
       }
 
-  module _ (out : List ℕ) (rest j : ℕ) (h : j < l .count) (t : WriteTurn order base l o out rest (suc j)) where
+  module _ (out : List ℕ) (rest j : ℕ) (h : j < l .count) (t : WriteStep order base l o out rest (suc j)) where
     abbrev p : Plan
     p = layout l
 
@@ -135,10 +135,10 @@ module _ (order base : ℕ) (l : Listing) (o : List ℕ) (room : 4 * imageCells 
     ends-inside : mid p j .next + extra (formAt p j) ≤ imageCells l
     ends-inside = reach p j (l .count) h
 
-    pub turn-out : openedAt (opens p j) order (joinedAt (formAt p j) order out (mid p j .next) (value base l j)) (mid p j .at) wordAt
+    pub step-out : openedAt (opens p j) order (joinedAt (formAt p j) order out (mid p j .next) (value base l j)) (mid p j .at) wordAt
         ≡ from order (cur p j .next) (cells p (l .kind) (value base l) (l .count - j) j) o (drop (4 * imageCells l) o)
     unfolding cells
-    turn-out =
+    step-out =
         let e : l .count - j ≡ suc (l .count - suc j) = omega arith in
         ap (λ (s : List ℕ). openedAt (opens p j) order s (mid p j .at) wordAt)
         (ap (λ (s : List ℕ). joinedAt (formAt p j) order s (mid p j .next) (value base l j)) (t .out-is ∙ front)
@@ -151,12 +151,12 @@ module _ (order base : ℕ) (l : Listing) (o : List ℕ) (room : 4 * imageCells 
         front =
             ap (λ (a : ℕ). from order a (cells p (l .kind) (value base l) (l .count - suc j) (suc j)) o (drop (4 * imageCells l) o)) (next-after p j)
 
-    -- the turn, over what the code has
-    pub write-turn : (g : Form) (v f at next w r : ℕ) (out1 out2 : List ℕ) → g ≡ formAt p j → v ≡ value base l j → f ≡ left p j
+    -- the step, over what the code has
+    pub write-step : (g : ItemForm) (v f at next w r : ℕ) (out1 out2 : List ℕ) → g ≡ formAt p j → v ≡ value base l j → f ≡ left p j
         → at ≡ mid p j .at → next ≡ mid p j .next → w ≡ pack (byteOf g (l .kind j)) (above g false v rest)
         → r ≡ if (eqb f 3) 0 w → out1 ≡ joinedAt g order out next v → out2 ≡ openedAt (eqb f 3) order out1 at w
-        → length out2 ≡ length out → WriteTurn order base l o out2 r j
-    write-turn g v f at next w r out1 out2 qg qv qf qa qe qw qr q1 q2 z =
+        → length out2 ≡ length out → WriteStep order base l o out2 r j
+    write-step g v f at next w r out1 out2 qg qv qf qa qe qw qr q1 q2 z =
         let b : eqb f 3 ≡ opens p j = ap (λ (k : ℕ). eqb k 3) qf ∙ sym (opens-is p j) in
         let y : w ≡ wordAt = qw ∙ rw (qg, qv) word-is in
         record {
@@ -167,11 +167,11 @@ module _ (order base : ℕ) (l : Listing) (o : List ℕ) (room : 4 * imageCells 
               q2
               ∙ ap₂ (λ (b : Bool) (k : ℕ). openedAt b order out1 at k) b y
               ∙ ap₂ (λ (s : List ℕ) (a : ℕ). openedAt (opens p j) order s a wordAt) (q1 ∙ rw (qg, qe, qv)) qa
-              ∙ turn-out;
+              ∙ step-out;
         }
 
     -- there is room for the cells of the item
-    pub operand-room : (g : Form) (next : ℕ) → l .count ≤ 4096 → g ≡ formAt p j → next ≡ mid p j .next
+    pub operand-room : (g : ItemForm) (next : ℕ) → l .count ≤ 4096 → g ≡ formAt p j → next ≡ mid p j .next
         → (next ≤ 8192) × (4 * (next + extra g) ≤ length out)
     operand-room g next m qg qe =
         rw (qg, qe) (omega (arith, ends-inside, at-most p (l .count)), omega (arith, ends-inside, t .size))
@@ -182,13 +182,13 @@ module _ (order base : ℕ) (l : Listing) (o : List ℕ) (room : 4 * imageCells 
       omega (arith, at-before p j, ends-inside, t .size, bit-most (eqb f 3)),
     )
 
-  pub write-end : (out : List ℕ) (rest i : ℕ) → i ≡ 0 → WriteTurn order base l o out rest i → out ≡ written order (image base l) o
+  pub write-end : (out : List ℕ) (rest i : ℕ) → i ≡ 0 → WriteStep order base l o out rest i → out ≡ written order (image base l) o
   unfolding cur image
   write-end out rest i e t =
       (rw e at (t .out-is))
       ∙ rw (let z : l .count - 0 ≡ l .count = omega arith in z, image-size (layout l) (l .kind) (value base l) (l .count))
 
-value-same : (c : Class) (g : Form) (x next to goal base : ℕ) → (c ≡ branch → to ≡ goal) → valueOf c g x next to base ≡ valueOf c g x next goal base
+value-same : (c : Class) (g : ItemForm) (x next to goal base : ℕ) → (c ≡ branch → to ≡ goal) → valueOf c g x next to base ≡ valueOf c g x next goal base
 value-same plain g x next to goal base h = refl
 value-same literal g x next to goal base h = refl
 value-same branch g x next to goal base h = ap (λ (k : ℕ). branchValue g next k base) (h refl)
@@ -200,7 +200,7 @@ module _ (base : ℕ) (l : Listing) (ok : judgedListing l ≡ Passed) (flags ats
   pub form-is : formOf (classOf (l .kind j)) (flagged flags j) (l .operand j) (getD lefts j 0) ≡ formAt (layout l) j
   form-is = rw (laid .left j h) (ap (λ (m : ℕ → Bool). formOf (classOf (l .kind j)) (m j) (l .operand j) (left (layout l) j)) marked)
 
-  pub value-is : (g : Form) → g ≡ formAt (layout l) j
+  pub value-is : (g : ItemForm) → g ≡ formAt (layout l) j
       → valueOf (classOf (l .kind j)) g (l .operand j) (getD nexts j 0)
       (if (isBranch (classOf (l .kind j))) (getD ats (l .operand j) 0) 0) base
       ≡ value base l j
@@ -221,12 +221,12 @@ pub if-most : (b : Bool) (a m : ℕ) → (b ≡ true → a ≤ m) → if b a 0 �
 if-most true a m h = h refl
 if-most false a m h = omega arith
 
-pub byte-small : (g : Form) (k : ℕ) → k < 255 → byteOf g k < 256
+pub byte-small : (g : ItemForm) (k : ℕ) → k < 255 → byteOf g k < 256
 byte-small alone k h = omega arith
 byte-small immediate k h = omega arith
 byte-small inCell k h = omega arith
 
 -- the loop counts down
-pub turn-down : (order base : ℕ) (l : Listing) (o out : List ℕ) (rest i : ℕ) → 0 < i → WriteTurn order base l o out rest i
-    → WriteTurn order base l o out rest (suc (i - 1))
-turn-down order base l o out rest i h t = rw (let e : i ≡ suc (i - 1) = omega arith in e) at t
+pub step-down : (order base : ℕ) (l : Listing) (o out : List ℕ) (rest i : ℕ) → 0 < i → WriteStep order base l o out rest i
+    → WriteStep order base l o out rest (suc (i - 1))
+step-down order base l o out rest i h t = rw (let e : i ≡ suc (i - 1) = omega arith in e) at t

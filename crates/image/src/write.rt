@@ -1,7 +1,7 @@
 // Cells of an image, and their bytes in a lent output.
 use cell::Address;
 use cell::CellCount;
-use layout::Form;
+use layout::ItemForm;
 use layout::ItemNumber;
 use listing::entries::is_branch;
 use listing::kinds::class_of;
@@ -61,25 +61,25 @@ fn put_cell(order: u8, out: &mut [u8], index: CellCount, x: u32)
 }
 
 // An item's opcode.
-fn byte_of(g: Form, kind: u32) -> u32
+fn byte_of(g: ItemForm, kind: u32) -> u32
     requires { ⌜ kind < 256 ⌝ }
     ensures { λ r. ⌜ r ≡ byteOf g kind ⌝ }
 {
     match g {
-        Form::Alone => kind,
-        Form::Immediate => kind + 1,
-        Form::InCell => kind,
+        ItemForm::Alone => kind,
+        ItemForm::Immediate => kind + 1,
+        ItemForm::InCell => kind,
     }
 }
 
 // What stands above an item's opcode: v its value, rest what the next item put there.
-fn above_of(g: Form, v: u32, rest: u32) -> u32
+fn above_of(g: ItemForm, v: u32, rest: u32) -> u32
     ensures { λ r. ⌜ r ≡ above g false v rest ⌝ }
 {
     match g {
-        Form::Alone => rest,
-        Form::Immediate => v,
-        Form::InCell => rest,
+        ItemForm::Alone => rest,
+        ItemForm::Immediate => v,
+        ItemForm::InCell => rest,
     }
 }
 
@@ -103,14 +103,14 @@ fn target_of(kind: u8, x: u32, ats: &[u32]) -> CellCount
 }
 
 // Stores the operand cell of an item that has one.
-fn put_operand(order: u8, out: &mut [u8], g: Form, next: CellCount, v: u32)
+fn put_operand(order: u8, out: &mut [u8], g: ItemForm, next: CellCount, v: u32)
     requires { ⌜ (next .0 ≤ 8192) × (4 * (next .0 + extra g) ≤ length (now out)) ⌝ }
     ensures { λ r. ⌜ now (out .exit) ≡ joinedAt g order (now (out .entry)) (next .0) v ⌝ }
 {
     match g {
-        Form::Alone => {}
-        Form::Immediate => {}
-        Form::InCell => put_cell(order, out, next, v),
+        ItemForm::Alone => {}
+        ItemForm::Immediate => {}
+        ItemForm::InCell => put_cell(order, out, next, v),
     }
 }
 
@@ -128,7 +128,7 @@ fn put_opened(order: u8, out: &mut [u8], opens: bool, at: CellCount, w: u32) -> 
 
 // An item as it is packed: its form and its value.
 struct Packed {
-    form: Form,
+    form: ItemForm,
     value: u32,
 }
 
@@ -153,7 +153,7 @@ fn pack_item(
 }
 
 // The open cell from an item's byte up.
-fn word_of(kind: u8, g: Form, v: u32, rest: u32) -> u32
+fn word_of(kind: u8, g: ItemForm, v: u32, rest: u32) -> u32
     requires { ⌜ kind < 255 ⌝ }
     ensures { λ r. ⌜ r ≡ pack (byteOf g kind) (above g false v rest) ⌝ }
 {

@@ -7,7 +7,7 @@ use native.Mathlib.Omega.{arith}
 use borrow.Author.Tests.{ne-eqb}
 use lib.ListN.{List·getD-eq-default}
 use Rattle.instruction.specs.declared.Instruction.the-variants.{Illegal}
-use Rattle.instruction.specs.Dispatch.{opcodes, decodeOf, taking, classOf, formOf, loopOf}
+use Rattle.instruction.specs.Dispatch.{opcodes, decodeOf, taking, operandClass, formOf, loopOf}
 
 -- 56h, and 58h up but for FFh
 pub record Unused (n : ℕ) : Type 0 where
@@ -28,11 +28,11 @@ pub past : {n : ℕ} (k : ℕ) → k ≤ n → (n ≡ k → ⊥) → suc k ≤ n
 past k h e = omega arith
 
 -- 4Ch to 4Fh
-pub loop-is : (n : ℕ) → n / 4 ≡ 0x13 → classOf (decodeOf n) ≡ taking (formOf n) (loopOf n)
+pub loop-is : (n : ℕ) → n / 4 ≡ 0x13 → operandClass (decodeOf n) ≡ taking (formOf n) (loopOf n)
 unfolding decodeOf
 loop-is n h = go (decLt n 0x4D) (decLt n 0x4E) (decLt n 0x4F)
   where
-    go : Dec (n < 0x4D) → Dec (n < 0x4E) → Dec (n < 0x4F) → classOf (decodeOf n) ≡ taking (formOf n) (loopOf n)
+    go : Dec (n < 0x4D) → Dec (n < 0x4E) → Dec (n < 0x4F) → operandClass (decodeOf n) ≡ taking (formOf n) (loopOf n)
     go (yes a) b d = let e : n ≡ 0x4C = omega arith in rw e
     go (no a) (yes b) d = let e : n ≡ 0x4D = omega arith in rw e
     go (no a) (no b) (yes d) = let e : n ≡ 0x4E = omega arith in rw e

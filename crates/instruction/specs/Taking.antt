@@ -17,8 +17,8 @@ use Rattle.machine.specs.declared.Outcome.{Outcome}
 use Rattle.machine.specs.declared.Outcome.the-variants.{Went, Next, Raise, Halt, Throw}
 use Rattle.machine.specs.declared.Access.the-variants.{Stream, ReturnWrite}
 use Rattle.instruction.specs.Plain.{action, pushes, data1, return2}
-use Rattle.instruction.specs.declared.Form.{Form}
-use Rattle.instruction.specs.declared.Form.the-variants.{InCell, Immediate}
+use Rattle.instruction.specs.declared.OperandForm.{OperandForm}
+use Rattle.instruction.specs.declared.OperandForm.the-variants.{InCell, Immediate}
 
 pub data Taking : Type 0 where
   branch questionBranch call loop plusLoop literal : Taking
@@ -55,16 +55,16 @@ takingOf machine plusLoop m sp rp operand after =
 takingOf machine literal m sp rp operand after = fetched operand (λ x. pushes sp rp x)
 
 -- where a branch leads: the cell at EP, or EP + 4 A
-abbrev pub branchOperand : Machine → Form → List ℕ → ℕ → ℕ → Fetched
+abbrev pub branchOperand : Machine → OperandForm → List ℕ → ℕ → ℕ → Fetched
 branchOperand machine InCell m ep a = fetchOf machine Stream m ep
 branchOperand machine Immediate m ep a = Cell ((ep + 4 * a) % 2 ^ 32)
 
 -- a literal's value: the cell at EP, or A
-abbrev pub literalOperand : Machine → Form → List ℕ → ℕ → ℕ → Fetched
+abbrev pub literalOperand : Machine → OperandForm → List ℕ → ℕ → ℕ → Fetched
 literalOperand machine InCell m ep a = fetchOf machine Stream m ep
 literalOperand machine Immediate m ep a = Cell a
 
-abbrev pub operandOf : Machine → Form → Taking → List ℕ → ℕ → ℕ → Fetched
+abbrev pub operandOf : Machine → OperandForm → Taking → List ℕ → ℕ → ℕ → Fetched
 operandOf machine form branch m ep a = branchOperand machine form m ep a
 operandOf machine form questionBranch m ep a = branchOperand machine form m ep a
 operandOf machine form call m ep a = branchOperand machine form m ep a
@@ -73,26 +73,26 @@ operandOf machine form plusLoop m ep a = branchOperand machine form m ep a
 operandOf machine form literal m ep a = literalOperand machine form m ep a
 
 -- the address that a call leaves
-abbrev pub afterOf : Form → ℕ → ℕ
+abbrev pub afterOf : OperandForm → ℕ → ℕ
 afterOf InCell ep = sum ep 4
 afterOf Immediate ep = ep
 
 -- at the registers of a cycle, A shifted
-abbrev pub takingAt : Machine → Form → Taking → List ℕ → Registers → Effect
+abbrev pub takingAt : Machine → OperandForm → Taking → List ℕ → Registers → Effect
 takingAt machine form t m r =
     takingOf machine t m (r .sp) (r .rp) (operandOf machine form t m (r .ep) (r .a)) (afterOf form (r .ep))
 
 -- where nothing was taken: past the operand cell; or NEXT, since the rest of A was the operand
-abbrev pub passed : Form → Registers → Step
+abbrev pub passed : OperandForm → Registers → Step
 passed InCell r = record { registers = record { ep = sum (r .ep) 4; a = r .a; sp = r .sp; rp = r .rp }; outcome = Went }
 passed Immediate r = record { registers = r; outcome = Next }
 
-abbrev pub onward : Form → Step → Outcome → Step
+abbrev pub onward : OperandForm → Step → Outcome → Step
 onward form s Went = passed form (s .registers)
 onward form s Next = s
 onward form s (Raise f) = s
 onward form s (Halt x) = s
 onward form s Throw = s
 
-abbrev pub onwardOf : Form → Step → Step
+abbrev pub onwardOf : OperandForm → Step → Step
 onwardOf form s = onward form s (s .outcome)

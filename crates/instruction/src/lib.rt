@@ -183,7 +183,7 @@ pub enum Instruction {
 }
 
 // Where an instruction's operand stands: in the cell at EP, or in what is left of A.
-pub enum Form {
+pub enum OperandForm {
     InCell,
     Immediate,
 }

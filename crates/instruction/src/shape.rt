@@ -7,7 +7,7 @@ ghost use Rattle.machine.specs.Places as places;
 ghost use Rattle.machine.specs.Effects as effects;
 ghost use Rattle.instruction.specs.Plain as plain;
 ghost use Rattle.instruction.specs.Taking as taking;
-use crate::Form;
+use crate::OperandForm;
 use cell::Address;
 use cell::CellCount;
 use cell::Fault;
@@ -105,7 +105,7 @@ pub fn replace_both(r: Registers, q: Quotient) -> TwoStores
 }
 
 // The stack pointers alone.
-pub fn maybe_not(sp: u32, rp: u32) -> MaybeStore
+pub fn write_nothing(sp: u32, rp: u32) -> MaybeStore
     ensures { λ e. ⌜ effects.maybeStore e ≡ plain.moved sp rp ⌝ }
 {
     MaybeStore {
@@ -262,34 +262,34 @@ pub fn fetch_deep(machine: Machine, memory: &[u8], sp: Address, depth: CellCount
 }
 
 // The address that a branch leads to.
-pub fn branch_operand(machine: Machine, memory: &[u8], r: Registers, form: Form) -> Fetched
+pub fn branch_operand(machine: Machine, memory: &[u8], r: Registers, form: OperandForm) -> Fetched
     requires { ⌜ places.Whole (now memory) ⌝ }
     ensures { λ f. ⌜ f ≡ taking.branchOperand machine form (now (memory .entry)) (r .ep) (r .a) ⌝ }
 {
     match form {
-        Form::InCell => fetch(machine, Access::Stream, memory, Address(r.ep)),
-        Form::Immediate => Fetched::Cell(add(r.ep, r.a % 0x40000000 * 4)),
+        OperandForm::InCell => fetch(machine, Access::Stream, memory, Address(r.ep)),
+        OperandForm::Immediate => Fetched::Cell(add(r.ep, r.a % 0x40000000 * 4)),
     }
 }
 
 // The value of a literal.
-pub fn literal_operand(machine: Machine, memory: &[u8], r: Registers, form: Form) -> Fetched
+pub fn literal_operand(machine: Machine, memory: &[u8], r: Registers, form: OperandForm) -> Fetched
     requires { ⌜ places.Whole (now memory) ⌝ }
     ensures { λ f. ⌜ f ≡ taking.literalOperand machine form (now (memory .entry)) (r .ep) (r .a) ⌝ }
 {
     match form {
-        Form::InCell => fetch(machine, Access::Stream, memory, Address(r.ep)),
-        Form::Immediate => Fetched::Cell(r.a),
+        OperandForm::InCell => fetch(machine, Access::Stream, memory, Address(r.ep)),
+        OperandForm::Immediate => Fetched::Cell(r.a),
     }
 }
 
 // The address that a call leaves.
-pub fn return_address(r: Registers, form: Form) -> u32
+pub fn return_address(r: Registers, form: OperandForm) -> u32
     ensures { λ a. ⌜ a ≡ taking.afterOf form (r .ep) ⌝ }
 {
     match form {
-        Form::InCell => add(r.ep, 4),
-        Form::Immediate => r.ep,
+        OperandForm::InCell => add(r.ep, 4),
+        OperandForm::Immediate => r.ep,
     }
 }
 
@@ -305,14 +305,14 @@ pub fn is_crossed(old: u32, new: u32, limit: u32) -> bool
 }
 
 // Where nothing was taken: past the operand cell, or NEXT.
-pub fn onward(form: Form, s: Step) -> Step
+pub fn onward(form: OperandForm, s: Step) -> Step
     ensures { λ t. ⌜ t ≡ taking.onwardOf form s ⌝ }
 {
     let outcome = s.outcome;
     let r = s.registers;
     match outcome {
         Outcome::Went => match form {
-            Form::InCell => Step {
+            OperandForm::InCell => Step {
                 registers: Registers {
                     ep: add(r.ep, 4),
                     a: r.a,
@@ -321,7 +321,7 @@ pub fn onward(form: Form, s: Step) -> Step
                 },
                 outcome: Outcome::Went,
             },
-            Form::Immediate => Step {
+            OperandForm::Immediate => Step {
                 registers: r,
                 outcome: Outcome::Next,
             },

@@ -9,7 +9,7 @@ use Rattle.cell.specs.declared.Fetched.the-variants.{Cell}
 use Rattle.machine.specs.Commits.{placesOf}
 use Rattle.machine.specs.declared.Machine.{Machine}
 use Rattle.machine.specs.declared.Registers.{Registers}
-use Rattle.instruction.specs.Dispatch.{decodeOf, Class, next, plain, taking, classOf}
+use Rattle.instruction.specs.Dispatch.{decodeOf, OperandClass, next, plain, taking, operandClass}
 use Rattle.layout.specs.Listing.{Listing, listed}
 use Rattle.layout.specs.Packing.{epValue, behind}
 use Rattle.list_machine.specs.ListMachine.{Position, operandAt, effectAs, effectAt, carriedBy, carryOut}
@@ -27,7 +27,7 @@ use Rattle.list_judging.proofs.ProposeLaws.{regs, regs-is}
 use Rattle.items.proofs.IntentLaws.{intent-is}
 
 -- an effect moves only the stack pointers, and none of them where it raises or throws
-effect-alone : (machine : Machine) (base : ℕ) (l : Listing) (p : Position) (c : Class) → Alone (p .sp) (p .rp) (effectAs machine base l c p)
+effect-alone : (machine : Machine) (base : ℕ) (l : Listing) (p : Position) (c : OperandClass) → Alone (p .sp) (p .rp) (effectAs machine base l c p)
 effect-alone machine base l p next = raises
 effect-alone machine base l p plain =
     plain-alone machine (p .memory) (epValue base l (p .item)) (p .sp) (p .rp) (decodeOf (l .kind (p .item)))
@@ -38,7 +38,7 @@ module _ (kinds operands table : List ℕ) (image : Image) (s : Settled kinds op
     (st : Stand) (h : st .item .0 < length kinds) (n : Lent (length m)) (shape : Shape)
     (asked : shapeEffect machine m shape ≡ effectAt machine (image .base .0) (listed kinds operands) (positionOf m st)) where
   alone : Alone (st .sp) (st .rp) (shapeEffect machine m shape)
-  alone = rw asked (effect-alone machine (image .base .0) (listed kinds operands) (positionOf m st) (classOf (decodeOf (getD kinds (st .item .0) 0))))
+  alone = rw asked (effect-alone machine (image .base .0) (listed kinds operands) (positionOf m st) (operandClass (decodeOf (getD kinds (st .item .0) 0))))
 
   pub carry-is : (i : Intent)
       → i ≡ intentOf machine m (entryBelow table (image .base .0) (rows table)) (image .base .0) (image .base .0 + 4 * image .cells .0)

@@ -34,7 +34,7 @@ next-of : (b : Bool) (i : ℕ) (ran : Bool) (q : Position)
 next-of true i ran q = refl
 next-of false i ran q = refl
 
--- the items go in turn
+-- the items go one after the other
 ran-on-is : (machine : Machine) (base : ℕ) (l : Listing) (q : Position)
     → along (nextWay (l .count) (q .item) (isImmediate (formAt (layout l) (q .item)))) q ≡ ranOn machine base l q
 ran-on-is machine base l q =

@@ -20,7 +20,7 @@ use Rattle.cell.proofs.MemoryLaws.{store-length, cell-back, cell-frame, cell-al
 use Rattle.cell.proofs.PlaceLaws.{Place, good-place}
 use Rattle.machine.specs.Places.{oneCell, placeOf, fetchOf}
 use Rattle.machine.specs.Commits.{touches}
-use Rattle.machine.specs.Throws.{Turned, turned, badStack, badCell, handlerCell, handed, handlerOf, noted, pushed, throwOf, throwingOf}
+use Rattle.machine.specs.Throws.{CycleState, cycleState, badStack, badCell, handlerCell, handed, handlerOf, noted, pushed, throwOf, throwingOf}
 use Rattle.machine.specs.declared.Machine.{Machine}
 use Rattle.machine.specs.declared.Registers.{Registers}
 use Rattle.machine.specs.declared.Access.the-variants.{Push, Stream}
@@ -95,7 +95,7 @@ module _ (machine : Machine) (base : ℕ) (l : Listing) (find : ℕ → Entry) (
   module _ (p : Position) where
     -- a handler whose address is h and whose place was judged
     handed-is : (m : List ℕ) (r : Registers) (e : Ended) (h x : ℕ) (c : Checked)
-        → ((t : Turned) → handledBy machine base l p t e ≡ transferred machine base l NoHandler (cellAt (machine .order) (t .memory) handlerCell) (thrownTo p t))
+        → ((t : CycleState) → handledBy machine base l p t e ≡ transferred machine base l NoHandler (cellAt (machine .order) (t .memory) handlerCell) (thrownTo p t))
         → cellAt (machine .order) m handlerCell ≡ h
         → along (handlerBy (find h) c) (thrownTo p (handed m r e h (read c x))) ≡ handled machine base l p (handed m r e h (read c x))
     handed-is m r e h x Good g q =
@@ -105,7 +105,7 @@ module _ (machine : Machine) (base : ℕ) (l : Listing) (find : ℕ → Entry) (
     handed-is m r e h x (Bad f) g q = refl
 
     handler-is : (m : List ℕ) (r : Registers) (e : Ended) (h : ℕ)
-        → ((t : Turned) → handledBy machine base l p t e ≡ transferred machine base l NoHandler (cellAt (machine .order) (t .memory) handlerCell) (thrownTo p t))
+        → ((t : CycleState) → handledBy machine base l p t e ≡ transferred machine base l NoHandler (cellAt (machine .order) (t .memory) handlerCell) (thrownTo p t))
         → length m ≡ length (p .memory)
         → cellAt (machine .order) (storeCell (machine .order) m badCell (r .ep)) handlerCell ≡ h
         → along (handlerWay machine (p .memory) find h) (thrownTo p (handlerOf machine m r e)) ≡ handled machine base l p (handlerOf machine m r e)
@@ -150,8 +150,8 @@ module _ (machine : Machine) (base : ℕ) (l : Listing) (find : ℕ → Entry) (
       where
         go : (b : Bool)
             → along (if b (handlerWay machine (p .memory) find (cellAt (machine .order) (p .memory) handlerCell)) (way.Halt badStack))
-            (thrownTo p (if b (handlerOf machine (p .memory) (registersAt machine base l p) Went) (turned (p .memory) (registersAt machine base l p) (Stopped badStack))))
-            ≡ handled machine base l p (if b (handlerOf machine (p .memory) (registersAt machine base l p) Went) (turned (p .memory) (registersAt machine base l p) (Stopped badStack)))
+            (thrownTo p (if b (handlerOf machine (p .memory) (registersAt machine base l p) Went) (cycleState (p .memory) (registersAt machine base l p) (Stopped badStack))))
+            ≡ handled machine base l p (if b (handlerOf machine (p .memory) (registersAt machine base l p) Went) (cycleState (p .memory) (registersAt machine base l p) (Stopped badStack)))
         go true =
             handler-is p (p .memory) (registersAt machine base l p) Went (cellAt (machine .order) (p .memory) handlerCell) (λ t. refl) refl
             (kept (machine .order) (p .memory) badCell _ (omega arith))

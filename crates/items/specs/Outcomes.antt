@@ -13,7 +13,7 @@ use Rattle.items.specs.declared.Carried.{Carried}
 use Rattle.items.specs.declared.Carried.the-variants.{On, Stopped, Outside}
 use Rattle.items.specs.declared.Ending.{Ending}
 use Rattle.items.specs.declared.Ending.the-variants as ending
-use Rattle.items.specs.declared.Ran.{Ran}
+use Rattle.items.specs.declared.ItemRun.{ItemRun}
 
 -- what an item comes to, with the memory m
 abbrev pub carriedAs : List ℕ → Carried → lists.Carried
@@ -45,16 +45,16 @@ courseOf (ending.Stopped x) = runs.stoppedBy x
 courseOf (ending.Outside why) = runs.stoodOutside why
 
 -- a run, with the memory m
-abbrev pub runAs : List ℕ → Ran → runs.Run
+abbrev pub runAs : List ℕ → ItemRun → runs.Run
 runAs m r = record { position = positionOf m (r .stand); items = r .items; cycles = r .cycles; course = courseOf (r .ending) }
 
 -- nothing is done yet, in a listing of n items
-abbrev pub begun : ℕ → Stand → Ran
+abbrev pub begun : ℕ → Stand → ItemRun
 begun n s =
     record { stand = s; items = 0; cycles = 0; ending = if (ltb (s .item .0) n) ending.GoesOn (ending.Outside PastEnd) }
 
 -- the run with one item more, which counts so many cycles; an item in front of which the machine stands outside counts none
-abbrev pub counted : Ran → ℕ → Carried → Ran
+abbrev pub counted : ItemRun → ℕ → Carried → ItemRun
 counted r k (On s) = record { stand = s; items = r .items + 1; cycles = r .cycles + k; ending = ending.GoesOn }
 counted r k (Stopped s x) = record { stand = s; items = r .items + 1; cycles = r .cycles + k; ending = ending.Stopped x }
 counted r k (Outside why) = record { stand = r .stand; items = r .items; cycles = r .cycles; ending = ending.Outside why }

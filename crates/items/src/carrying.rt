@@ -23,10 +23,10 @@ use list_judging::judging::intent_of;
 use list_judging::proposing::registers_at;
 use list_judging::proposing::shape_of;
 use list_tables::Image;
+use machine::CycleResult;
 use machine::Ended;
 use machine::Machine;
 use machine::Registers;
-use machine::Turn;
 use machine::ending::handle;
 use machine::ending::throw;
 use machine::fixed::BAD_STACK;
@@ -75,10 +75,10 @@ fn act_along(
 }
 
 // A throw, made. It does not go by the machine's `finish`, whose only call is to stay in the processor's loop.
-fn end(machine: Machine, memory: &mut [u8], r: Registers, cause: Cause) -> Turn
+fn end(machine: Machine, memory: &mut [u8], r: Registers, cause: Cause) -> CycleResult
     requires { ⌜ places.Whole (now memory) ⌝ }
     requires { ⌜ 16 ≤ length (now memory) ⌝ }
-    ensures { λ t. ⌜ throws.turnedTo (now (memory .exit)) t ≡ ways.endOf machine (now (memory .entry)) r cause ⌝ }
+    ensures { λ t. ⌜ throws.withResult (now (memory .exit)) t ≡ ways.endOf machine (now (memory .entry)) r cause ⌝ }
 {
     match cause {
         Cause::Raised(f) => throw(machine, memory, r, f),
@@ -86,7 +86,7 @@ fn end(machine: Machine, memory: &mut [u8], r: Registers, cause: Cause) -> Turn
             if r.sp % 4 == 0 {
                 return handle(machine, memory, r, Ended::Went);
             }
-            Turn {
+            CycleResult {
                 registers: r,
                 ended: Ended::Stopped(BAD_STACK),
             }

@@ -20,7 +20,7 @@ pub enum Ending {
 }
 
 // A run: where it stands, the items carried out, the cycles counted.
-pub struct Ran {
+pub struct ItemRun {
     pub stand: Stand,
     pub items: u32,
     pub cycles: u64,

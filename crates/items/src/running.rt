@@ -12,7 +12,7 @@ ghost use Rattle.list_judging.specs.Stands as stands;
 ghost use Rattle.items.specs.Outcomes as outcomes;
 use crate::Carried;
 use crate::Ending;
-use crate::Ran;
+use crate::ItemRun;
 use crate::carrying::carry_out;
 use list_judging::Stand;
 use list_machine::Outside;
@@ -35,18 +35,18 @@ fn cycles_at(table: &[u32], s: Stand) -> u64
 }
 
 // The run with one item more, by what the item came to.
-fn count_item(ran: Ran, cycles: u64, c: Carried) -> Ran
+fn count_item(ran: ItemRun, cycles: u64, c: Carried) -> ItemRun
     requires { ⌜ (ran .items < 0xFFFFFFFF) × (ran .cycles ≤ 0x200000000) × (cycles ≤ 2) ⌝ }
     ensures { λ r. ⌜ r ≡ outcomes.counted ran cycles c ⌝ }
 {
     match c {
-        Carried::On(t) => Ran {
+        Carried::On(t) => ItemRun {
             stand: t,
             items: ran.items + 1,
             cycles: ran.cycles + cycles,
             ending: Ending::GoesOn,
         },
-        Carried::Stopped(t, x) => Ran {
+        Carried::Stopped(t, x) => ItemRun {
             stand: t,
             items: ran.items + 1,
             cycles: ran.cycles + cycles,
@@ -54,7 +54,7 @@ fn count_item(ran: Ran, cycles: u64, c: Carried) -> Ran
         },
         Carried::Outside(why) => {
             let s = ran.stand;
-            Ran {
+            ItemRun {
                 stand: s,
                 items: ran.items,
                 cycles: ran.cycles,
@@ -75,20 +75,20 @@ fn is_over(ending: Ending) -> bool
 }
 
 // In front of an item of a listing of n, with nothing done. An item that the listing does not have stands past the end.
-fn begin_run(n: usize, start: Stand) -> Ran
+fn begin_run(n: usize, start: Stand) -> ItemRun
     requires { ⌜ n ≤ 4096 ⌝ }
     ensures { λ r. ⌜ r ≡ outcomes.begun n start ⌝ }
 {
     let item = start.item;
     if item.0 < n as u32 {
-        return Ran {
+        return ItemRun {
             stand: start,
             items: 0,
             cycles: 0,
             ending: Ending::GoesOn,
         };
     }
-    Ran {
+    ItemRun {
         stand: start,
         items: 0,
         cycles: 0,
@@ -106,7 +106,7 @@ pub fn run_items(
     image: Image,
     start: Stand,
     items: u32,
-) -> Ran
+) -> ItemRun
     requires { ⌜ Lent (length (now memory)) ⌝ }
     requires { ⌜ tables.Settled (now kinds) (now operands) (now table) image ⌝ }
     ensures { λ r. ⌜ outcomes.runAs (now (memory .exit)) r ≡ runs.runOf machine (image .base .0) (listed (now (kinds .entry)) (now (operands .entry))) items (runs.resuming (listed (now (kinds .entry)) (now (operands .entry))) (stands.positionOf (now (memory .entry)) start)) ⌝ }

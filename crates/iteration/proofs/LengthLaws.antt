@@ -19,7 +19,7 @@ use Rattle.cell.proofs.MemoryLaws.{store-length}
 use Rattle.machine.specs.Places.{Width, oneByte, oneCell, placeOf, fetchOf}
 use Rattle.machine.specs.Effects.{Store, Action, Effect, act, raise}
 use Rattle.machine.specs.Commits.{Stepped, putStore, storedOf, placesOf, carriedOut, commitOf}
-use Rattle.machine.specs.Throws.{turned, handlerCell, badCell, badStack, handed, handlerOf, noted, pushed, throwOf, throwingOf, nexted, nextOf, finished, finishOf}
+use Rattle.machine.specs.Throws.{cycleState, handlerCell, badCell, badStack, handed, handlerOf, noted, pushed, throwOf, throwingOf, nexted, nextOf, finished, finishOf}
 use Rattle.machine.specs.declared.Machine.{Machine}
 use Rattle.machine.specs.declared.Registers.{Registers}
 use Rattle.machine.specs.declared.Access.the-variants.{Stream, Push}
@@ -80,7 +80,7 @@ module _ (machine : Machine) where
   unfolding throwingOf
   throwing-length m r = go (eqb (r .sp % 4) 0)
     where
-      go : (t : Bool) → length ((if t (handlerOf machine m r Went) (turned m r (Stopped badStack))) .memory) ≡ length m
+      go : (t : Bool) → length ((if t (handlerOf machine m r Went) (cycleState m r (Stopped badStack))) .memory) ≡ length m
       go true = handler-length m r Went
       go false = refl
 

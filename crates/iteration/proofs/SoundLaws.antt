@@ -18,7 +18,7 @@ use Rattle.cell.proofs.MemoryLaws.{set-bytewise, store-bytewise}
 use Rattle.machine.specs.Places.{Width, oneByte, oneCell, placeOf, fetchOf}
 use Rattle.machine.specs.Effects.{Store, Control, goOn, jump, halt, throwing, Action, Effect, act, raise}
 use Rattle.machine.specs.Commits.{Stepped, putStore, storedOf, placesOf, controlled, carriedOut, commitOf}
-use Rattle.machine.specs.Throws.{turned, handlerCell, badCell, addressCell, badStack, handed, handlerOf, noted, pushed, throwOf, throwingOf, nexted, nextOf, finished, finishOf}
+use Rattle.machine.specs.Throws.{cycleState, handlerCell, badCell, addressCell, badStack, handed, handlerOf, noted, pushed, throwOf, throwingOf, nexted, nextOf, finished, finishOf}
 use Rattle.machine.specs.declared.Machine.{Machine}
 use Rattle.machine.specs.declared.Registers.{Registers}
 use Rattle.machine.specs.declared.Access.the-variants.{Stream, Push}
@@ -26,7 +26,7 @@ use Rattle.machine.specs.declared.Outcome.{Outcome}
 use Rattle.machine.specs.declared.Outcome.the-variants as outcome
 use Rattle.machine.specs.declared.Ended.{Ended}
 use Rattle.machine.specs.declared.Ended.the-variants.{Went, Stopped}
-use Rattle.iteration.specs.Soundness.{Sound, SoundStepped, SoundTurned, Below, Holds, AllHold, Leads, Limited, Bounded, acts}
+use Rattle.iteration.specs.Soundness.{Sound, SoundStepped, SoundState, Below, FitsWidth, AllHold, Leads, Limited, Bounded, acts}
 use Rattle.iteration.proofs.NumberBounds.{sum-below, difference-below}
 use Rattle.iteration.proofs.EffectBounds.{fetch-below}
 
@@ -41,7 +41,7 @@ controlled-sound (halt x) m r h s = s
 controlled-sound throwing m r h s = s
 
 module _ (machine : Machine) where
-  put-bytewise : (m : List ℕ) (w : Width) (a x : ℕ) → Holds w x → Bytewise m → Bytewise (putStore machine m w a x)
+  put-bytewise : (m : List ℕ) (w : Width) (a x : ℕ) → FitsWidth w x → Bytewise m → Bytewise (putStore machine m w a x)
   put-bytewise m oneByte a x h b = set-bytewise m a x b h
   put-bytewise m oneCell a x h b = store-bytewise (machine .order) m a x b
 
@@ -62,11 +62,11 @@ module _ (machine : Machine) where
   commit-sound m r (raise f) b s = s
   commit-sound m r (act x) (acts l) s = carried-sound m r x (placesOf machine (length m) (x .stores)) l s
 
-  handed-sound : (m : List ℕ) (r : Registers) (e : Ended) (h : ℕ) (g : Fetched) → Below g → Sound m r → SoundTurned (handed m r e h g)
+  handed-sound : (m : List ℕ) (r : Registers) (e : Ended) (h : ℕ) (g : Fetched) → Below g → Sound m r → SoundState (handed m r e h g)
   handed-sound m r e h (Cell x) b s = record { bytes = s .bytes; ep = sum-below h 4; a = b; sp = s .sp; rp = s .rp }
   handed-sound m r e h (Failed f) b s = s
 
-  handler-sound : (m : List ℕ) (r : Registers) (e : Ended) → Sound m r → SoundTurned (handlerOf machine m r e)
+  handler-sound : (m : List ℕ) (r : Registers) (e : Ended) → Sound m r → SoundState (handlerOf machine m r e)
   unfolding handlerOf
   handler-sound m r e s =
       let stored : List ℕ = storeCell (machine .order) m badCell (r .ep) in
@@ -82,41 +82,41 @@ module _ (machine : Machine) where
   noted-bytewise m Library b = b
 
   pushed-sound : (m : List ℕ) (r : Registers) (f : Fault) (sp : ℕ) (c : Checked) → sp < 2 ^ 32 → Sound m r
-      → SoundTurned (pushed machine m r f sp c)
+      → SoundState (pushed machine m r f sp c)
   pushed-sound m r f sp (Bad g) h s = s
   pushed-sound m r f sp Good h s =
       let b = store-bytewise (machine .order) (noted machine m f) sp (faultCode f) (noted-bytewise m f (s .bytes)) in
       handler-sound _ _ _ (record { bytes = b; ep = s .ep; a = s .a; sp = h; rp = s .rp })
 
-  throw-sound : (m : List ℕ) (r : Registers) (f : Fault) → Sound m r → SoundTurned (throwOf machine m r f)
+  throw-sound : (m : List ℕ) (r : Registers) (f : Fault) → Sound m r → SoundState (throwOf machine m r f)
   unfolding throwOf
   throw-sound m r f s =
       let sp : ℕ = difference (r .sp) 4 in
       pushed-sound m r f sp (placeOf machine oneCell Push (length m) sp) (difference-below (r .sp) 4) s
 
-  throwing-sound : (m : List ℕ) (r : Registers) → Sound m r → SoundTurned (throwingOf machine m r)
+  throwing-sound : (m : List ℕ) (r : Registers) → Sound m r → SoundState (throwingOf machine m r)
   unfolding throwingOf
   throwing-sound m r s = go (eqb (r .sp % 4) 0)
     where
-      go : (t : Bool) → SoundTurned (if t (handlerOf machine m r Went) (turned m r (Stopped badStack)))
+      go : (t : Bool) → SoundState (if t (handlerOf machine m r Went) (cycleState m r (Stopped badStack)))
       go true = handler-sound m r Went s
       go false = s
 
-  nexted-sound : (m : List ℕ) (r : Registers) (g : Fetched) → Below g → Sound m r → SoundTurned (nexted machine m r g)
+  nexted-sound : (m : List ℕ) (r : Registers) (g : Fetched) → Below g → Sound m r → SoundState (nexted machine m r g)
   nexted-sound m r (Cell x) b s = record { bytes = s .bytes; ep = sum-below (r .ep) 4; a = b; sp = s .sp; rp = s .rp }
   nexted-sound m r (Failed f) b s = throw-sound m r f s
 
-  pub next-sound : (m : List ℕ) (r : Registers) → Sound m r → SoundTurned (nextOf machine m r)
+  pub next-sound : (m : List ℕ) (r : Registers) → Sound m r → SoundState (nextOf machine m r)
   unfolding nextOf
   next-sound m r s = nexted-sound m r (fetchOf machine Stream m (r .ep)) (fetch-below machine m (s .bytes) Stream (r .ep)) s
 
-  finished-sound : (m : List ℕ) (r : Registers) (o : Outcome) → Sound m r → SoundTurned (finished machine m r o)
+  finished-sound : (m : List ℕ) (r : Registers) (o : Outcome) → Sound m r → SoundState (finished machine m r o)
   finished-sound m r outcome.Went s = s
   finished-sound m r outcome.Next s = next-sound m r s
   finished-sound m r (outcome.Raise f) s = throw-sound m r f s
   finished-sound m r (outcome.Halt x) s = s
   finished-sound m r outcome.Throw s = throwing-sound m r s
 
-  pub finish-sound : (s : Stepped) → SoundStepped s → SoundTurned (finishOf machine s)
+  pub finish-sound : (s : Stepped) → SoundStepped s → SoundState (finishOf machine s)
   unfolding finishOf
   finish-sound s h = finished-sound (s .memory) (s .step .registers) (s .step .outcome) h

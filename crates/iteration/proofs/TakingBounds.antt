@@ -11,8 +11,8 @@ use Rattle.machine.specs.declared.Machine.{Machine}
 use Rattle.machine.specs.declared.Registers.{Registers}
 use Rattle.machine.specs.declared.Access.the-variants.{Stream, DataRead, ReturnRead}
 use Rattle.instruction.specs.Taking.{Taking, branch, questionBranch, call, loop, plusLoop, literal, crosses, takingOf, takingAt, branchOperand, literalOperand, operandOf, afterOf}
-use Rattle.instruction.specs.declared.Form.{Form}
-use Rattle.instruction.specs.declared.Form.the-variants.{InCell, Immediate}
+use Rattle.instruction.specs.declared.OperandForm.{OperandForm}
+use Rattle.instruction.specs.declared.OperandForm.the-variants.{InCell, Immediate}
 use Rattle.iteration.specs.Soundness.{Sound, Below, Bounded}
 use Rattle.iteration.proofs.NumberBounds.{sum-below, difference-below}
 use Rattle.iteration.proofs.EffectBounds.{acting, either, fetched-bounded, fetch-below, read1, read2}
@@ -40,15 +40,15 @@ module _ (machine : Machine) (m : List ℕ) (low : Bytewise m) where
     taking-bounded literal = fetched-bounded operand h (λ x k. acting (difference-below sp 4) hr (tt, tt) tt)
 
   module _ (ep a : ℕ) (ha : a < 2 ^ 32) where
-    branch-below : (form : Form) → Below (branchOperand machine form m ep a)
+    branch-below : (form : OperandForm) → Below (branchOperand machine form m ep a)
     branch-below InCell = fetch-below machine m low Stream ep
     branch-below Immediate = let l : (ep + 4 * a) % 2 ^ 32 < 2 ^ 32 = omega arith in l
 
-    literal-below : (form : Form) → Below (literalOperand machine form m ep a)
+    literal-below : (form : OperandForm) → Below (literalOperand machine form m ep a)
     literal-below InCell = fetch-below machine m low Stream ep
     literal-below Immediate = ha
 
-    operand-below : (form : Form) (t : Taking) → Below (operandOf machine form t m ep a)
+    operand-below : (form : OperandForm) (t : Taking) → Below (operandOf machine form t m ep a)
     operand-below form branch = branch-below form
     operand-below form questionBranch = branch-below form
     operand-below form call = branch-below form
@@ -57,7 +57,7 @@ module _ (machine : Machine) (m : List ℕ) (low : Bytewise m) where
     operand-below form literal = literal-below form
 
 -- at the registers of a sound machine
-pub taking-at-bounded : (machine : Machine) (form : Form) (t : Taking) (m : List ℕ) (r : Registers) → Sound m r
+pub taking-at-bounded : (machine : Machine) (form : OperandForm) (t : Taking) (m : List ℕ) (r : Registers) → Sound m r
     → Bounded (takingAt machine form t m r)
 taking-at-bounded machine form t m r s =
     taking-bounded machine m (s .bytes) (r .sp) (r .rp) (s .sp) (s .rp) (operandOf machine form t m (r .ep) (r .a)) (afterOf form (r .ep))

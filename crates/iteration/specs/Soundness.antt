@@ -9,7 +9,7 @@ use Rattle.cell.specs.declared.Fetched.the-variants.{Cell, Failed}
 use Rattle.machine.specs.Places.{Width, oneByte, oneCell}
 use Rattle.machine.specs.Effects.{Store, Control, goOn, jump, halt, throwing, Action, Effect, act, raise}
 use Rattle.machine.specs.Commits.{Stepped}
-use Rattle.machine.specs.Throws.{Turned}
+use Rattle.machine.specs.Throws.{CycleState}
 use Rattle.machine.specs.declared.Registers.{Registers}
 
 -- every byte of memory is below 256, every register below 2^32
@@ -24,8 +24,8 @@ pub record Sound (m : List ℕ) (r : Registers) : Type 0 where
 abbrev pub SoundStepped : Stepped → Type 0
 SoundStepped s = Sound (s .memory) (s .step .registers)
 
-abbrev pub SoundTurned : Turned → Type 0
-SoundTurned t = Sound (t .memory) (t .turn .registers)
+abbrev pub SoundState : CycleState → Type 0
+SoundState t = Sound (t .memory) (t .result .registers)
 
 -- a fetch that answers with a cell, if it does not fail
 abbrev pub Below : Fetched → Type 0
@@ -33,13 +33,13 @@ Below (Cell x) = x < 2 ^ 32
 Below (Failed f) = Unit
 
 -- a value that its place can hold; of a cell's value the four bytes are stored, whatever it is
-abbrev pub Holds : Width → ℕ → Type 0
-Holds oneByte x = x < 256
-Holds oneCell x = Unit
+abbrev pub FitsWidth : Width → ℕ → Type 0
+FitsWidth oneByte x = x < 256
+FitsWidth oneCell x = Unit
 
 abbrev pub AllHold : List Store → Type 0
 AllHold [] = Unit
-AllHold (s ∷ ss) = Holds (s .width) (s .value) × AllHold ss
+AllHold (s ∷ ss) = FitsWidth (s .width) (s .value) × AllHold ss
 
 -- a jump leads to a cell's value
 abbrev pub Leads : Control → Type 0

@@ -6,7 +6,7 @@ use Prim.Native.Nat.{ℕ, zero, suc, _+_, _*_, _%_, _^_, _≤_, _<_}
 use native.Mathlib.Nat.{mod-eq-of-lt}
 use native.Mathlib.Omega.{arith}
 use lib.Pow.{mod-mod-pow}
-use Rattle.layout.specs.declared.Form.{Form}
+use Rattle.layout.specs.declared.ItemForm.{ItemForm}
 use Rattle.layout.specs.Bytes.{pack}
 use Rattle.layout.specs.Layout.{Plan, opens, left, formAt, alone, immediate, inCell}
 use Rattle.layout.specs.Image.{byteOf, above, word, direct}
@@ -35,7 +35,7 @@ module _ (p : Plan) (kind val : ℕ → ℕ) (n : ℕ) (low : (i : ℕ) → i < 
       ≡ above (formAt p i) (opens p (suc i)) (val i % 256 ^ left p i) d
   above-mod i w d h = go (formAt p i) (opens p (suc i)) refl
     where
-      go : (g : Form) (o : Bool) → opens p (suc i) ≡ o → above g o (val i) w % 256 ^ left p i ≡ above g o (val i % 256 ^ left p i) d
+      go : (g : ItemForm) (o : Bool) → opens p (suc i) ≡ o → above g o (val i) w % 256 ^ left p i ≡ above g o (val i % 256 ^ left p i) d
       go alone true q = zero-mod (left p i) (omega (arith, left-le p i))
       go alone false q = h q
       go immediate o q = refl

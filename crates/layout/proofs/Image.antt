@@ -10,7 +10,7 @@ use native.Mathlib.Omega.{arith}
 use lib.ListN.{length, getD, drop}
 use lib.Seq.{drop-drop, getD-drop}
 use Rattle.cell.specs.Shift.{asr8}
-use Rattle.layout.specs.declared.Form.{Form}
+use Rattle.layout.specs.declared.ItemForm.{ItemForm}
 use Rattle.layout.specs.Bytes.{fits, shifts}
 use Rattle.layout.specs.Layout.{Spot, begin, finish, Plan, cur, opens, mid, left, formAt, alone, immediate, inCell}
 use Rattle.layout.specs.Image.{byteOf, above, opened, joined, word, cells, reg}
@@ -18,7 +18,7 @@ use Rattle.layout.proofs.Bytes.{Fits, fits-case, fits-zero, fits-pack, 
 use Rattle.layout.proofs.Placing.{left-le, same}
 
 -- the cells from an item's first on, less what the item opens and joins
-skip : (o : Bool) (g : Form) (f : ℕ) (c : Spot) (img l : List ℕ) (w v : ℕ)
+skip : (o : Bool) (g : ItemForm) (f : ℕ) (c : Spot) (img l : List ℕ) (w v : ℕ)
     → drop (c .next) img ≡ opened o w (joined g v l) → drop (finish g f (begin o c) .next) img ≡ l
 skip true alone f c img l w v e = sym (drop-drop 1 (c .next) img) ∙ ap (drop 1) e
 skip true immediate f c img l w v e = sym (drop-drop 1 (c .next) img) ∙ ap (drop 1) e
@@ -28,7 +28,7 @@ skip false alone f c img l w v e = e
 skip false immediate f c img l w v e = e
 skip false inCell f c img l w v e = sym (drop-drop 1 (c .next) img) ∙ ap (drop 1) e
 
-size-of : (o : Bool) (g : Form) (f : ℕ) (c : Spot) (l : List ℕ) (w v : ℕ)
+size-of : (o : Bool) (g : ItemForm) (f : ℕ) (c : Spot) (l : List ℕ) (w v : ℕ)
     → c .next + length (opened o w (joined g v l)) ≡ finish g f (begin o c) .next + length l
 size-of true alone f c l w v = omega arith
 size-of true immediate f c l w v = omega arith
@@ -51,14 +51,14 @@ pub record Decoded (p : Plan) (kind val : ℕ → ℕ) (n : ℕ) (img : List ℕ
   pub last : suc i ≡ n → asr8 (reg p img i) ≡ above (formAt p i) true (val i) 0
   pub operand : formAt p i ≡ inCell → getD img (mid p i .next) 0 ≡ val i
 
-above-nothing : (g : Form) (o : Bool) (v : ℕ) → above g o v 0 ≡ above g true v 0
+above-nothing : (g : ItemForm) (o : Bool) (v : ℕ) → above g o v 0 ≡ above g true v 0
 above-nothing alone true v = refl
 above-nothing alone false v = refl
 above-nothing immediate o v = refl
 above-nothing inCell true v = refl
 above-nothing inCell false v = refl
 
-joined-below : (g : Form) (l : List ℕ) (v : ℕ) → (g ≡ inCell → v < 2 ^ 32)
+joined-below : (g : ItemForm) (l : List ℕ) (v : ℕ) → (g ≡ inCell → v < 2 ^ 32)
     → ((j : ℕ) → getD l j 0 < 2 ^ 32) → (j : ℕ) → getD (joined g v l) j 0 < 2 ^ 32
 joined-below alone l v b h j = h j
 joined-below immediate l v b h j = h j
@@ -111,7 +111,7 @@ module _ (p : Plan) (kind val : ℕ → ℕ) where
         → Fits (left p i) (above (formAt p i) (opens p (suc i)) (val i) (word p kind val k (suc i)))
     fits-above k i e h = go (formAt p i) (opens p (suc i)) refl refl
       where
-        go : (g : Form) (o : Bool) → formAt p i ≡ g → opens p (suc i) ≡ o
+        go : (g : ItemForm) (o : Bool) → formAt p i ≡ g → opens p (suc i) ≡ o
             → Fits (left p i) (above g o (val i) (word p kind val k (suc i)))
         go immediate o a q = fits-case (left p i) (val i) (small i (omega arith) a)
         go alone true a q = fits-zero (left p i)
@@ -162,7 +162,7 @@ module _ (p : Plan) (kind val : ℕ → ℕ) where
           more = λ h. ap asr8 (reg-word i k e) ∙ shifted k i e ∙ next k e h;
           last = λ h. ap asr8 (reg-word i k e) ∙ shifted k i e ∙ end k e h;
           operand = λ a. operand-of (opens p i) (cur p i) img (cells p kind val k (suc i)) (word p kind val (suc k) i) (val i)
-              (tail i (suc k) n e ∙ ap (λ (g : Form). opened (opens p i) (word p kind val (suc k) i) (joined g (val i) (cells p kind val k (suc i)))) a);
+              (tail i (suc k) n e ∙ ap (λ (g : ItemForm). opened (opens p i) (word p kind val (suc k) i) (joined g (val i) (cells p kind val k (suc i)))) a);
         }
       where
         next : (k : ℕ) → i + suc k ≡ n → suc i < n

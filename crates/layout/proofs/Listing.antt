@@ -27,7 +27,7 @@ kind-low k h = go (decLt k 0x5C)
     go (yes l) = l
     go (no l) = absurd (h (sym (high-is-none k (omega arith))))
 
--- an item that is not turned back
+-- an item that is not refused
 judged-kind : (c : Class) (n x : ℕ) → judged c n x ≡ Passed → c ≡ noKind → ⊥
 judged-kind plain n x e q = let z : _≡_ {A = ℕ} 0 1 = cc in omega arith
 judged-kind literal n x e q = let z : _≡_ {A = ℕ} 0 1 = cc in omega arith

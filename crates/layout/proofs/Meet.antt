@@ -8,7 +8,7 @@ use native.Mathlib.Omega.{arith}
 use lib.ListN.{length, getD}
 use Rattle.cell.specs.Shift.{asr8}
 use Rattle.layout.specs.declared.Class.{Class}
-use Rattle.layout.specs.declared.Form.{Form}
+use Rattle.layout.specs.declared.ItemForm.{ItemForm}
 use Rattle.layout.specs.Kinds.{classOf, literal, branch}
 use Rattle.layout.specs.Listing.{Listing, calls, entry}
 use Rattle.layout.specs.Layout.{Spot, begin, extra, cur, opens, mid, formAt, alone, immediate, inCell}
@@ -18,17 +18,17 @@ use Rattle.layout.proofs.Placing.{same, closes, next-after, run-on, rea
 use Rattle.layout.proofs.Listing.{target-below, target-entry, call-entry}
 use Rattle.layout.proofs.Packing.{decoded, placed, ep-inside, at-inside, size-is}
 
-above-open : (g : Form) (v w : ℕ) → (g ≡ immediate → ⊥) → above g true v w ≡ 0
+above-open : (g : ItemForm) (v w : ℕ) → (g ≡ immediate → ⊥) → above g true v w ≡ 0
 above-open alone v w h = refl
 above-open immediate v w h = absurd (h refl)
 above-open inCell v w h = refl
 
-above-immediate : (g : Form) (o : Bool) (v w : ℕ) → g ≡ immediate → above g o v w ≡ v
+above-immediate : (g : ItemForm) (o : Bool) (v w : ℕ) → g ≡ immediate → above g o v w ≡ v
 above-immediate alone o v w q = cc
 above-immediate immediate o v w q = refl
 above-immediate inCell o v w q = cc
 
-branch-value : (c : Class) (g h : Form) (x next to base : ℕ) → c ≡ branch → g ≡ h → valueOf c g x next to base ≡ branchValue h next to base
+branch-value : (c : Class) (g h : ItemForm) (x next to base : ℕ) → c ≡ branch → g ≡ h → valueOf c g x next to base ≡ branchValue h next to base
 branch-value c g h x next to base p q = rw (p, q)
 
 begin-after : (o : Bool) (c : Spot) → o ≡ true → begin o c .next ≡ begin o c .at + 1

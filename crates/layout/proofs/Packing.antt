@@ -12,7 +12,7 @@ use Rattle.cell.specs.declared.Judged.the-variants.{Passed}
 use Rattle.cell.proofs.BooleanLaws.{neither}
 use Rattle.cell.proofs.JudgementLaws.{one-clear}
 use Rattle.layout.specs.declared.Class.{Class}
-use Rattle.layout.specs.declared.Form.{Form}
+use Rattle.layout.specs.declared.ItemForm.{ItemForm}
 use Rattle.layout.specs.Bytes.{fits}
 use Rattle.layout.specs.Kinds.{classOf, plain, literal, branch, noKind}
 use Rattle.layout.specs.Listing.{Listing}
@@ -47,7 +47,7 @@ taking-immediate m zero e = cc
 taking-immediate true (suc f) e = cc
 taking-immediate false (suc f) e = refl
 
-new-immediate : (g : Form) (b : Bool) → g ≡ immediate → newIn g b ≡ false → b ≡ true
+new-immediate : (g : ItemForm) (b : Bool) → g ≡ immediate → newIn g b ≡ false → b ≡ true
 new-immediate alone b q e = cc
 new-immediate immediate b q e = not-false b e
 new-immediate inCell b q e = cc
@@ -58,7 +58,7 @@ fits-of : (c : Class) (m : Bool) (x f next to base : ℕ) → formOf c m x f ≡
 fits-of plain m x f next to base q e = cc
 fits-of literal m x f next to base q e = not-false (fits f x) (taking-immediate (not (fits f x)) f q)
 fits-of branch m x f next to base q e =
-    ap (λ (g : Form). fits f (branchValue g next to base)) q ∙ new-immediate (taking m f) (fits f (distance next to)) q e
+    ap (λ (g : ItemForm). fits f (branchValue g next to base)) q ∙ new-immediate (taking m f) (fits f (distance next to)) q e
 fits-of noKind m x f next to base q e = cc
 
 pub immediates-fit : (base : ℕ) (l : Listing) (i : ℕ) → i < l .count → formAt (layout l) i ≡ immediate
@@ -69,13 +69,13 @@ immediates-fit base l i h q =
     (mid (layout l) i .next) (mid (layout l) (l .operand i) .at) base q
     (settled-adds-none (l .count) (new l) (only l) i h)
 
-byte-low : (g : Form) (k : ℕ) → k < 0x5C → byteOf g k < 128
+byte-low : (g : ItemForm) (k : ℕ) → k < 0x5C → byteOf g k < 128
 byte-low alone k h = omega arith
 byte-low immediate k h = omega arith
 byte-low inCell k h = omega arith
 
 -- an operand cell's value: a literal's, or a target's address
-value-below : (c : Class) (g : Form) (x next to base : ℕ) → x < 2 ^ 32 → (c ≡ branch → base + 4 * to < 2 ^ 32)
+value-below : (c : Class) (g : ItemForm) (x next to base : ℕ) → x < 2 ^ 32 → (c ≡ branch → base + 4 * to < 2 ^ 32)
     → valueOf c g x next to base < 2 ^ 32
 value-below plain g x next to base h k = omega arith
 value-below literal g x next to base h k = h

@@ -9,7 +9,7 @@ use native.Mathlib.Omega.{arith}
 use native.Mathlib.Decide.{decLt}
 use borrow.Author.Tests.{eqb-true, ne-eqb}
 use lib.Dec.{eqb}
-use Rattle.layout.specs.declared.Form.{Form}
+use Rattle.layout.specs.declared.ItemForm.{ItemForm}
 use Rattle.layout.specs.Layout.{Spot, fresh, begin, finish, extra, Plan, cur, opens, mid, left, formAt, alone, immediate, inCell}
 use Rattle.layout.specs.Image.{above}
 
@@ -17,19 +17,19 @@ begin-le : (o : Bool) (c : Spot) → c .free ≤ 3 → begin o c .free ≤ 4
 begin-le true c h = omega arith
 begin-le false c h = omega arith
 
-finish-le : (g : Form) (f : ℕ) (d : Spot) → f ≤ 3 → finish g f d .free ≤ 3
+finish-le : (g : ItemForm) (f : ℕ) (d : Spot) → f ≤ 3 → finish g f d .free ≤ 3
 finish-le alone f d h = h
 finish-le immediate f d h = omega arith
 finish-le inCell f d h = h
 
 -- an item that opens no cell stands in the cell of the item before it, one byte further, and that item is not immediate
-pub record Same (g : Form) (f : ℕ) (d c : Spot) (o : Bool) : Type 0 where
+pub record Same (g : ItemForm) (f : ℕ) (d c : Spot) (o : Bool) : Type 0 where
   pub at : begin o c .at ≡ d .at
   pub next : begin o c .next ≡ d .next + extra g
   pub left : suc (begin o c .free - 1) ≡ f
   pub above : (v w : ℕ) → above g o v w ≡ w
 
-same-of : (g : Form) (f : ℕ) (d : Spot) (b : Bool) → fresh (finish g f d .free) b ≡ false
+same-of : (g : ItemForm) (f : ℕ) (d : Spot) (b : Bool) → fresh (finish g f d .free) b ≡ false
     → Same g f d (finish g f d) (fresh (finish g f d .free) b)
 same-of alone zero d b e = absurd (true≢false e)
 same-of alone (suc f) d true e = absurd (true≢false e)
@@ -40,12 +40,12 @@ same-of inCell (suc f) d true e = absurd (true≢false e)
 same-of inCell (suc f) d false e = record { at = refl; next = refl; left = omega arith; above = λ v w. refl }
 
 -- the immediate form closes the cell
-close-of : (g : Form) (f : ℕ) (d : Spot) (b : Bool) → g ≡ immediate → fresh (finish g f d .free) b ≡ true
+close-of : (g : ItemForm) (f : ℕ) (d : Spot) (b : Bool) → g ≡ immediate → fresh (finish g f d .free) b ≡ true
 close-of alone f d b q = cc
 close-of immediate f d b q = refl
 close-of inCell f d b q = cc
 
-finish-next : (g : Form) (f : ℕ) (d : Spot) → finish g f d .next ≡ d .next + extra g
+finish-next : (g : ItemForm) (f : ℕ) (d : Spot) → finish g f d .next ≡ d .next + extra g
 finish-next alone f d = omega arith
 finish-next immediate f d = omega arith
 finish-next inCell f d = refl
@@ -62,7 +62,7 @@ pub begin-most : (o : Bool) (c : Spot) → begin o c .next ≤ c .next + 1
 begin-most true c = omega arith
 begin-most false c = omega arith
 
-extra-most : (g : Form) → extra g ≤ 1
+extra-most : (g : ItemForm) → extra g ≤ 1
 extra-most alone = omega arith
 extra-most immediate = omega arith
 extra-most inCell = omega arith
@@ -76,7 +76,7 @@ placed-of e c h = go (c .free) refl e
     go (suc f) q true = omega arith
     go (suc f) q false = h (omega arith)
 
-finish-at : (g : Form) (f : ℕ) (d : Spot) → d .at < d .next → finish g f d .at < finish g f d .next
+finish-at : (g : ItemForm) (f : ℕ) (d : Spot) → d .at < d .next → finish g f d .at < finish g f d .next
 finish-at alone f d h = h
 finish-at immediate f d h = h
 finish-at inCell f d h = omega arith

@@ -106,8 +106,8 @@ module _ (n : ℕ) (new : (ℕ → Bool) → ℕ → Bool) (only : (m : ℕ → 
   settle-stop zero r q = refl
   settle-stop (suc k) r q = rw q
 
-  pub turn-round : (r : ℕ) → AtRound n new r → adds n new r ≡ true → AtRound n new (suc r)
-  turn-round r a q =
+  pub next-round : (r : ℕ) → AtRound n new r → adds n new r ≡ true → AtRound n new (suc r)
+  next-round r a q =
       record {
         marked = omega (arith, a .marked, grows n new only r q);
         ahead =

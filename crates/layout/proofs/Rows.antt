@@ -9,19 +9,19 @@ use Rattle.layout.specs.Layout.{cur}
 use Rattle.layout.specs.Image.{word, cells}
 use Rattle.layout.specs.Rounds.{rounds, settle, settled}
 use Rattle.layout.specs.Packing.{marks, image}
-use Rattle.layout.specs.Worked.{Holds, worked, further, TurnedBack, turned, isPlain, isKind, bytesOf}
+use Rattle.layout.specs.Worked.{RowsHold, worked, further, RefusedRows, refusedListings, isPlain, isKind, bytesOf}
 
-pub worked-holds : Holds worked
+pub worked-holds : RowsHold worked
 unfolding asr8 classOf fits pack any entry judgedFrom judgedListing judgedArrays cur word cells rounds settle settled marks image
 worked-holds = (refl, refl)
 
-pub further-holds : Holds further
+pub further-holds : RowsHold further
 unfolding asr8 classOf fits pack any entry judgedFrom judgedListing judgedArrays cur word cells rounds settle settled marks image
 further-holds = (refl, refl)
 
-pub turned-back : TurnedBack turned
+pub refused-rows : RefusedRows refusedListings
 unfolding classOf judgedFrom judgedListing judgedArrays
-turned-back = refl
+refused-rows = refl
 
 -- 80 of the 256 bytes are kinds, 74 of them plain
 pub kinds-number : (bytesOf isKind 256 ≡ 80) × (bytesOf isPlain 256 ≡ 74)

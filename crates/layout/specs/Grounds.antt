@@ -1,4 +1,4 @@
--- What turns a listing and its base back. Document 01, Turned back for the input and Turned back for the state.
+-- What refuses a listing and its base. Document 01, Turned back for the input and Turned back for the state.
 use mathlib.Core.Bool.{not, _||_}
 use Prim.Native.Nat.{ℕ, _+_, _*_, _%_}
 use lib.Dec.{leb, ltb, eqb}

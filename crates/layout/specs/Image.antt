@@ -5,19 +5,19 @@ use mathlib.Core.List.{List, [], _∷_}
 use Prim.Native.Nat.{ℕ, zero, suc, _+_, _-_, _*_, _%_, _^_}
 use lib.ListN.{getD}
 use Rattle.cell.specs.Choice.{if}
-use Rattle.layout.specs.declared.Form.{Form}
+use Rattle.layout.specs.declared.ItemForm.{ItemForm}
 use Rattle.layout.specs.Bytes.{pack, shifts}
 use Rattle.layout.specs.Layout.{Plan, opens, mid, left, formAt, alone, immediate, inCell}
 
 -- document 01, Listings: the immediate opcode is the next number
-abbrev pub byteOf : Form → ℕ → ℕ
+abbrev pub byteOf : ItemForm → ℕ → ℕ
 byteOf alone k = k
 byteOf immediate k = k + 1
 byteOf inCell k = k
 
 -- what stands above an item's opcode: o, the next item opens a cell; v, the item's value; w, the cell from the next item's byte up.
 -- Document 01, Listings: an immediate's value fills the bytes behind its opcode; bytes that nothing fills are 00h
-abbrev pub above : Form → Bool → ℕ → ℕ → ℕ
+abbrev pub above : ItemForm → Bool → ℕ → ℕ → ℕ
 above alone o v w = if o 0 w
 above immediate o v w = v
 above inCell o v w = if o 0 w
@@ -28,7 +28,7 @@ opened true w rest = w ∷ rest
 opened false w rest = rest
 
 -- its operand cell, if it has one, comes next
-abbrev pub joined : Form → ℕ → List ℕ → List ℕ
+abbrev pub joined : ItemForm → ℕ → List ℕ → List ℕ
 joined alone v rest = rest
 joined immediate v rest = rest
 joined inCell v rest = v ∷ rest

@@ -6,8 +6,8 @@ use mathlib.Core.List.{List}
 use Prim.Native.Nat.{ℕ, zero, suc, _+_, _-_, _<_}
 use lib.ListN.{getD}
 use Rattle.layout.specs.declared.Cursor.{Cursor}
-use Rattle.layout.specs.declared.Form.{Form}
-pub use Rattle.layout.specs.declared.Form.the-variants.{Alone as alone, Immediate as immediate, InCell as inCell}
+use Rattle.layout.specs.declared.ItemForm.{ItemForm}
+pub use Rattle.layout.specs.declared.ItemForm.the-variants.{Alone as alone, Immediate as immediate, InCell as inCell}
 
 -- where the layout stands: at, the index of the open cell; free, the bytes left in it, 0 if none is open or it is full; next, the index
 -- of the next cell
@@ -35,16 +35,16 @@ begin false c = c
 
 -- after an item with f bytes left behind its opcode: the immediate form closes the cell; with an operand cell, which
 -- goes behind all cells so far, it stays open
-abbrev pub finish : Form → ℕ → Spot → Spot
+abbrev pub finish : ItemForm → ℕ → Spot → Spot
 finish alone f d = record { at = d .at; free = f; next = d .next }
 finish immediate f d = record { at = d .at; free = 0; next = d .next }
 finish inCell f d = record { at = d .at; free = f; next = d .next + 1 }
 
-abbrev pub step : Bool → (ℕ → Form) → Spot → Spot
+abbrev pub step : Bool → (ℕ → ItemForm) → Spot → Spot
 step o g c = finish (g (begin o c .free - 1)) (begin o c .free - 1) (begin o c)
 
 -- the operand cells of a form
-abbrev pub extra : Form → ℕ
+abbrev pub extra : ItemForm → ℕ
 extra alone = 0
 extra immediate = 0
 extra inCell = 1
@@ -52,7 +52,7 @@ extra inCell = 1
 -- what a layout goes by: the entries, and the form that item i takes where its opcode leaves f bytes
 pub record Plan : Type 0 where
   pub entry : ℕ → Bool
-  pub form : ℕ → ℕ → Form
+  pub form : ℕ → ℕ → ItemForm
 
 module _ (p : Plan) where
   -- the spot before item i
@@ -72,7 +72,7 @@ module _ (p : Plan) where
   abbrev pub left : ℕ → ℕ
   left i = mid i .free - 1
 
-  abbrev pub formAt : ℕ → Form
+  abbrev pub formAt : ℕ → ItemForm
   formAt i = p .form i (left i)
 
 -- arrays hold, for each of the first n items, the indexes of its cell and of its EP value, and the bytes left behind its opcode

@@ -60,12 +60,12 @@ judgedFrom l (suc k) i = after (judged (classOf (l .kind i)) (l .count) (l .oper
 unfoldable pub judgedListing : Listing → Judged
 judgedListing l = after (judge (itemCount (l .count) ∷ [])) (judgedFrom l (l .count) 0)
 
--- a listing in two arrays: unequal arrays are turned back with the count
+-- a listing in two arrays: unequal arrays are refused with the count
 unfoldable pub judgedArrays : List ℕ → List ℕ → Judged
 judgedArrays kinds operands =
     after (judge (unequal (length kinds) (length operands) ∷ [])) (judgedListing (listed kinds operands))
 
--- arrays of one length that are not turned back
+-- arrays of one length that are not refused
 pub record Checked (kinds operands : List ℕ) : Type 0 where
   pub equal : length operands ≡ length kinds
   pub input : judgedListing (listed kinds operands) ≡ Passed

@@ -6,7 +6,7 @@ use mathlib.Core.Bool.{Bool, true, false}
 use lib.ListN.{length, drop}
 use lib.Seq.{sets}
 use Rattle.cell.specs.Memory.{cellBytes}
-use Rattle.layout.specs.declared.Form.{Form}
+use Rattle.layout.specs.declared.ItemForm.{ItemForm}
 use Rattle.layout.specs.Layout.{alone, immediate, inCell}
 
 -- the bytes of cells in a row
@@ -19,7 +19,7 @@ abbrev pub written : ℕ → List ℕ → List ℕ → List ℕ
 written order image out = bytesOf order image ++ drop (4 * length image) out
 
 -- a store of one cell at index a: an item's operand cell, and the cell that it opens
-abbrev pub joinedAt : Form → ℕ → List ℕ → ℕ → ℕ → List ℕ
+abbrev pub joinedAt : ItemForm → ℕ → List ℕ → ℕ → ℕ → List ℕ
 joinedAt alone order out a x = out
 joinedAt immediate order out a x = out
 joinedAt inCell order out a x = sets out (4 * a) (cellBytes order x)

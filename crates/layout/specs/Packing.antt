@@ -10,7 +10,7 @@ use Rattle.cell.specs.declared.Judged.the-variants.{Passed}
 use Rattle.layout.specs.declared.Class.{Class}
 use Rattle.layout.specs.declared.Entry.{Entry}
 use Rattle.layout.specs.declared.Entry.the-variants.{Item, Nothing}
-use Rattle.layout.specs.declared.Form.{Form}
+use Rattle.layout.specs.declared.ItemForm.{ItemForm}
 use Rattle.layout.specs.Bytes.{fits}
 use Rattle.layout.specs.Flags.{flagged}
 use Rattle.layout.specs.Kinds.{classOf, plain, literal, branch, noKind}
@@ -21,14 +21,14 @@ use Rattle.layout.specs.Image.{cells, reg}
 use Rattle.layout.specs.Rounds.{settled}
 
 -- document 01, Listings: without a mark and with a byte or more left, the immediate form; else an operand cell
-abbrev pub taking : Bool → ℕ → Form
+abbrev pub taking : Bool → ℕ → ItemForm
 taking marked zero = inCell
 taking true (suc f) = inCell
 taking false (suc f) = immediate
 
 -- the form of an item with operand x where its opcode leaves f bytes; m is its mark if it is a branch. Document 01, Listings: a
 -- literal counts as marked where, and only where, its value does not fit f signed bytes
-abbrev pub formOf : Class → Bool → ℕ → ℕ → Form
+abbrev pub formOf : Class → Bool → ℕ → ℕ → ItemForm
 formOf plain m x f = alone
 formOf literal m x f = taking (not (fits f x)) f
 formOf branch m x f = taking m f
@@ -39,25 +39,25 @@ formOf noKind m x f = alone
 abbrev pub distance : ℕ → ℕ → ℕ
 distance next to = (to + 2 ^ 32 - next) % 2 ^ 32
 
-abbrev pub branchValue : Form → ℕ → ℕ → ℕ → ℕ
+abbrev pub branchValue : ItemForm → ℕ → ℕ → ℕ → ℕ
 branchValue alone next to base = 0
 branchValue immediate next to base = distance next to
 branchValue inCell next to base = base + 4 * to
 
 -- the value of an item with operand x
-abbrev pub valueOf : Class → Form → ℕ → ℕ → ℕ → ℕ → ℕ
+abbrev pub valueOf : Class → ItemForm → ℕ → ℕ → ℕ → ℕ → ℕ
 valueOf plain g x next to base = 0
 valueOf literal g x next to base = x
 valueOf branch g x next to base = branchValue g next to base
 valueOf noKind g x next to base = 0
 
 -- document 01, Listings: a round marks each immediate branch whose value does not fit
-abbrev pub newIn : Form → Bool → Bool
+abbrev pub newIn : ItemForm → Bool → Bool
 newIn alone fit = false
 newIn immediate fit = not fit
 newIn inCell fit = false
 
-abbrev pub newOf : Class → Form → Bool → Bool
+abbrev pub newOf : Class → ItemForm → Bool → Bool
 newOf plain g fit = false
 newOf literal g fit = false
 newOf branch g fit = newIn g fit

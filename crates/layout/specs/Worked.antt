@@ -29,8 +29,8 @@ abbrev pub rowImage : Row → List ℕ
 rowImage r = image (r .base) (listed (r .kinds) (r .operands))
 
 -- every row of a table is accepted and packs to its cells
-abbrev pub Holds : List Row → Type 0
-Holds rows = (map rowJudged rows ≡ map (λ r. Passed) rows) × (map rowImage rows ≡ map (λ r. r .cells) rows)
+abbrev pub RowsHold : List Row → Type 0
+RowsHold rows = (map rowJudged rows ≡ map (λ r. Passed) rows) × (map rowImage rows ≡ map (λ r. r .cells) rows)
 
 -- the kinds here: 01h DUP, 1Eh, 42h BRANCH, 52h literal, 55h HALT
 abbrev pub worked : List Row
@@ -70,7 +70,7 @@ further =
     ∷ row 0x10 (0x01 ∷ 0x01 ∷ 0x42 ∷ []) (0 ∷ 0 ∷ 1 ∷ []) (0x00000001 ∷ 0xFFFF4301 ∷ [])
     -- a full cell: the next item opens one behind the operand cell
     ∷ row 0x10 (0x01 ∷ 0x01 ∷ 0x01 ∷ 0x52 ∷ 0x01 ∷ []) (0 ∷ 0 ∷ 0 ∷ 5 ∷ 0 ∷ []) (0x52010101 ∷ 5 ∷ 0x00000001 ∷ [])
-    -- operand cells join in turn, the cell staying open
+    -- operand cells join one after the other, the cell staying open
     ∷ row 0x10 (0x52 ∷ 0x52 ∷ 0x01 ∷ []) (8388608 ∷ 8388609 ∷ 0 ∷ []) (0x00015252 ∷ 8388608 ∷ 8388609 ∷ [])
     -- a branch is measured from its EP value, which counts the operand cell before it
     ∷ row 0x10 (0x52 ∷ 0x42 ∷ []) (8388608 ∷ 0 ∷ []) (0xFFFE4352 ∷ 8388608 ∷ [])
@@ -90,21 +90,21 @@ abbrev pub judgedNumber : Judged → ℕ
 judgedNumber Passed = 0
 judgedNumber (Refused r) = refusalNumber r
 
--- Listings that are turned back: arrays, and k where document 01 gives the refusal -k
-pub record Turned : Type 0 where
+-- Listings that are refused: arrays, and k where document 01 gives the refusal -k
+pub record RefusedRow : Type 0 where
   pub kinds : List ℕ
   pub operands : List ℕ
   pub number : ℕ
 
-abbrev pub refused : List ℕ → List ℕ → ℕ → Turned
+abbrev pub refused : List ℕ → List ℕ → ℕ → RefusedRow
 refused kinds operands number = record { kinds = kinds; operands = operands; number = number }
 
-abbrev pub TurnedBack : List Turned → Type 0
-TurnedBack rows =
+abbrev pub RefusedRows : List RefusedRow → Type 0
+RefusedRows rows =
     map (λ r. judgedNumber (judgedArrays (r .kinds) (r .operands))) rows ≡ map (λ r. 2 ^ 32 - r .number) rows
 
-abbrev pub turned : List Turned
-turned =
+abbrev pub refusedListings : List RefusedRow
+refusedListings =
     -- no item; arrays unequal
     refused [] [] 4106
     ∷ refused (0x01 ∷ []) [] 4106

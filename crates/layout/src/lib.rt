@@ -13,7 +13,7 @@ pub struct Cursor {
 }
 
 // How an item is written: its opcode alone, with its value in the rest of the cell, or with an operand cell.
-pub enum Form {
+pub enum ItemForm {
     Alone,
     Immediate,
     InCell,

@@ -14,7 +14,7 @@ use Rattle.processor.specs.Answers.{machineOf}
 use Rattle.layout.specs.Listing.{listed}
 use Rattle.layout.specs.Packing.{imageCells, judgedPlace}
 use Rattle.list_judging.specs.declared.Stand.{Stand}
-use Rattle.items.specs.declared.Ran.{Ran}
+use Rattle.items.specs.declared.ItemRun.{ItemRun}
 use Rattle.follow.specs.Follow.{judgeBegin, judgeImage, judgeFollow, FollowResult, followedTo, followIf, resumeIn}
 use Rattle.follow.specs.declared.Followed.{Followed}
 use Rattle.follow.specs.declared.Followed.the-variants as followed
@@ -32,16 +32,16 @@ lent-roomy pointers out e =
 -- what is told of an answer does not depend on the memory, nor on the stand that was given
 told-alike : (m : List ℕ) (start : Stand) (pointers out : List ℕ) (a : Followed) → answerTold pointers out a ≡ listTold pointers out (followedTo m start a)
 told-alike m start pointers out (followed.Refused r) = refl
-told-alike m start pointers out (followed.Ran x) = refl
+told-alike m start pointers out (followed.Run x) = refl
 
 module _ (order : ℕ) (kinds operands : List ℕ) (base : ℕ) (m : List ℕ) (start : Stand) (items pointers out : ℕ) where
   -- a run was made only where there is room for what is told of it
-  ran-room : (m2 : List ℕ) (x : Ran) (j : Judged) → judgeFollow (length m) order kinds operands base (judgeLent pointers out) ≡ j
-      → followedTo m2 start (followed.Ran x) ≡ followIf j (machineOf order) base (listed kinds operands) m start items
+  ran-room : (m2 : List ℕ) (x : ItemRun) (j : Judged) → judgeFollow (length m) order kinds operands base (judgeLent pointers out) ≡ j
+      → followedTo m2 start (followed.Run x) ≡ followIf j (machineOf order) base (listed kinds operands) m start items
       → (2 ≤ pointers) × (5 ≤ out)
   unfolding judgeFollow judgeImage
   ran-room m2 x (Refused r) q e =
-      absurd (let f : followed.Ran x ≡ followed.Refused r = ap (λ (s : FollowResult). s .answer) e in let z : _≡_ {A = ℕ} 0 1 = cc in omega arith)
+      absurd (let f : followed.Run x ≡ followed.Refused r = ap (λ (s : FollowResult). s .answer) e in let z : _≡_ {A = ℕ} 0 1 = cc in omega arith)
   ran-room m2 x Passed q e =
       let place : Judged = judgedPlace base (imageCells (listed kinds operands)) in
       let p = both-pass (judgeBegin (length m) order kinds operands) (after place (judgeLent pointers out)) q in
@@ -51,7 +51,7 @@ module _ (order : ℕ) (kinds operands : List ℕ) (base : ℕ) (m : List ℕ) (
       → followedTo m2 start a ≡ resumeIn (judgeLent pointers out) order kinds operands base m start items → Room pointers out a
   unfolding resumeIn
   has-room m2 (followed.Refused r) e = tt
-  has-room m2 (followed.Ran x) e = ran-room m2 x (judgeFollow (length m) order kinds operands base (judgeLent pointers out)) refl e
+  has-room m2 (followed.Run x) e = ran-room m2 x (judgeFollow (length m) order kinds operands base (judgeLent pointers out)) refl e
 
 pub list-noted : (order : ℕ) (kinds operands : List ℕ) (base : ℕ) (m : List ℕ) (item : ℕ) (ran : Bool) (pointers : List ℕ) (items : ℕ) (out : List ℕ)
     → (m2 p2 o2 : List ℕ) (n : ℕ) (a : Followed)

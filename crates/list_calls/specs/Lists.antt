@@ -23,7 +23,7 @@ valuesTold pointers out s =
 -- a refusal leaves both as they were
 abbrev pub toldBy : Followed → List ℕ → List ℕ → FollowResult → Told
 toldBy (followed.Refused r) pointers out s = told pointers out (s .number)
-toldBy (followed.Ran x) pointers out s = valuesTold pointers out s
+toldBy (followed.Run x) pointers out s = valuesTold pointers out s
 
 abbrev pub listTold : List ℕ → List ℕ → FollowResult → Told
 listTold pointers out s = toldBy (s .answer) pointers out s
@@ -39,7 +39,7 @@ judgeLent pointers out = withRoom (withRoom Passed pointers 2) out 5
 -- a run that is told has room in both
 abbrev pub Room : ℕ → ℕ → Followed → Type 0
 Room pointers out (followed.Refused r) = Unit {0}
-Room pointers out (followed.Ran x) = (2 ≤ pointers) × (5 ≤ out)
+Room pointers out (followed.Run x) = (2 ≤ pointers) × (5 ≤ out)
 
 -- SP and RP are the first two of `pointers`
 abbrev pub standGiven : ℕ → Bool → List ℕ → Stand

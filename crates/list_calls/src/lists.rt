@@ -16,7 +16,7 @@ use follow::Followed;
 use follow::answers::ending_number;
 use follow::answers::ending_reason;
 use follow::follow::follow_within;
-use items::Ran;
+use items::ItemRun;
 use layout::ItemNumber;
 use list_judging::Stand;
 
@@ -48,9 +48,9 @@ fn write_five(lent: &mut [u32], p: u32, q: u32, r: u32, s: u32, t: u32)
     lent[4] = t;
 }
 
-fn note_run(ran: Ran, pointers: &mut [u32], out: &mut [u32]) -> u32
+fn note_run(ran: ItemRun, pointers: &mut [u32], out: &mut [u32]) -> u32
     requires { ⌜ (2 ≤ length (now pointers)) × (5 ≤ length (now out)) ⌝ }
-    ensures { λ n. ⌜ machines.told (now (pointers .exit)) (now (out .exit)) n ≡ lists.answerTold (now (pointers .entry)) (now (out .entry)) (followed.Ran ran) ⌝ }
+    ensures { λ n. ⌜ machines.told (now (pointers .exit)) (now (out .exit)) n ≡ lists.answerTold (now (pointers .entry)) (now (out .entry)) (followed.Run ran) ⌝ }
 {
     let ending = ran.ending;
     let stand = ran.stand;
@@ -69,7 +69,7 @@ fn note_followed(answer: Followed, pointers: &mut [u32], out: &mut [u32]) -> u32
 {
     match answer {
         Followed::Refused(r) => refusal_number(r),
-        Followed::Ran(ran) => note_run(ran, pointers, out),
+        Followed::Run(ran) => note_run(ran, pointers, out),
     }
 }
 

@@ -43,9 +43,9 @@ module _ (table : List ℕ) (base a : ℕ) where
         let f = entry-here (i - 1) (cc) in
         cc (s .ahead, ap (λ (k : ℕ). entryBelow table base k a) n, f)
 
-    pub seek-turns : (b : Bool) → 0 < i → b ≡ (entryIn table (i - 1) && eqb (base + 4 * placeIn table (i - 1)) a) → b ≡ false
+    pub seek-goes-on : (b : Bool) → 0 < i → b ≡ (entryIn table (i - 1) && eqb (base + 4 * placeIn table (i - 1)) a) → b ≡ false
         → Seeking table base a (i - 1)
-    seek-turns b h e q =
+    seek-goes-on b h e q =
         let n : i ≡ suc (i - 1) = omega arith in
         record {
           inside = omega (arith, s .inside);

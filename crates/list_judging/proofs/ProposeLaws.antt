@@ -13,7 +13,7 @@ use Rattle.machine.specs.declared.Registers.{Registers}
 use Rattle.instruction.specs.Plain.{plainAt}
 use Rattle.instruction.specs.Taking.{takingAt}
 use Rattle.instruction.specs.Dispatch.{decodeOf}
-use Rattle.instruction.specs.declared.Form.the-variants as form
+use Rattle.instruction.specs.declared.OperandForm.the-variants as form
 use Rattle.layout.specs.Kinds as sorts
 use Rattle.layout.specs.declared.Class.the-variants as class
 use Rattle.layout.specs.Listing.{listed}

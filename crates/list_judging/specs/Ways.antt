@@ -15,7 +15,7 @@ use Rattle.cell.specs.declared.Fault.{Fault}
 use Rattle.machine.specs.Places.{oneCell, placeOf}
 use Rattle.machine.specs.Effects.{Store, Effect}
 use Rattle.machine.specs.Commits.{Stepped, commitOf, touches}
-use Rattle.machine.specs.Throws.{Turned, badStack, badHandler, handlerCell, throwOf, throwingOf}
+use Rattle.machine.specs.Throws.{CycleState, badStack, badHandler, handlerCell, throwOf, throwingOf}
 use Rattle.machine.specs.declared.Machine.{Machine}
 use Rattle.machine.specs.declared.Registers.{Registers}
 use Rattle.machine.specs.declared.Then.{Then}
@@ -104,7 +104,7 @@ steppedTo p s =
     }
 
 -- the processor's throw, by what it comes from
-abbrev pub endOf : Machine → List ℕ → Registers → Cause → Turned
+abbrev pub endOf : Machine → List ℕ → Registers → Cause → CycleState
 endOf machine m r (cause.Raised f) = throwOf machine m r f
 endOf machine m r cause.Given = throwingOf machine m r
 

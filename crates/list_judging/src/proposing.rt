@@ -22,7 +22,7 @@ use machine::Machine;
 use machine::Registers;
 use packing::measure::distance_of;
 use shapes::Shape;
-use shapes::first::propose_plain;
+use shapes::from_01::propose_from_01;
 use shapes::taking::propose_taking;
 
 // The registers of an instruction at an address.
@@ -72,7 +72,7 @@ pub fn shape_of(
     let behind = behind_of(table, item);
     let c = class_of(kind);
     match c {
-        Class::Plain => propose_plain(machine, memory, registers_at(table, base, s), opcode),
+        Class::Plain => propose_from_01(machine, memory, registers_at(table, base, s), opcode),
         Class::Literal => {
             let r = registers_for(address_at(base, behind), x, s);
             propose_taking(machine, memory, r, opcode)
@@ -82,6 +82,6 @@ pub fn shape_of(
             let r = registers_for(address_at(base, behind), to, s);
             propose_taking(machine, memory, r, opcode)
         }
-        Class::NoKind => propose_plain(machine, memory, registers_at(table, base, s), 1),
+        Class::NoKind => propose_from_01(machine, memory, registers_at(table, base, s), 1),
     }
 }

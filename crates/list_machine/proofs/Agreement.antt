@@ -10,7 +10,7 @@ use Rattle.cell.specs.Shift.{asr8}
 use Rattle.cell.specs.declared.Fetched.the-variants.{Cell}
 use Rattle.machine.specs.Places.{fetchOf}
 use Rattle.machine.specs.Commits.{stepped, commitOf}
-use Rattle.machine.specs.Throws.{turned, finishOf}
+use Rattle.machine.specs.Throws.{cycleState, finishOf}
 use Rattle.machine.specs.declared.Machine.{Machine}
 use Rattle.machine.specs.declared.Registers.{Registers}
 use Rattle.machine.specs.declared.Outcome.{Outcome}
@@ -19,15 +19,15 @@ use Rattle.machine.specs.declared.Access.the-variants.{Stream}
 use Rattle.machine.specs.declared.Ended.the-variants as ended
 use Rattle.instruction.specs.Plain.{plainAt}
 use Rattle.instruction.specs.Taking.{Taking, branch, questionBranch, call, loop, plusLoop, literal, takingOf, takingAt, branchOperand, literalOperand, operandOf, afterOf}
-use Rattle.instruction.specs.declared.Form as stream
-use Rattle.instruction.specs.declared.Form.the-variants as stream-form
-use Rattle.instruction.specs.Dispatch.{decodeOf, plain, taking, classOf, taken, executeOf}
+use Rattle.instruction.specs.declared.OperandForm as stream
+use Rattle.instruction.specs.declared.OperandForm.the-variants as stream-form
+use Rattle.instruction.specs.Dispatch.{decodeOf, plain, taking, operandClass, taken, executeOf}
 use Rattle.processor.specs.Cycles.{cycleOf}
 use Rattle.layout.specs.Kinds as kinds
-use Rattle.layout.specs.declared.Class as kind
-use Rattle.layout.specs.declared.Class.the-variants.{Plain, Literal, Branch, NoKind}
-use Rattle.layout.specs.declared.Form.{Form}
-use Rattle.layout.specs.declared.Form.the-variants.{Alone, Immediate, InCell}
+use Rattle.layout.specs.declared.OperandClass as kind
+use Rattle.layout.specs.declared.OperandClass.the-variants.{Plain, Literal, Branch, NoKind}
+use Rattle.layout.specs.declared.ItemForm.{ItemForm}
+use Rattle.layout.specs.declared.ItemForm.the-variants.{Alone, Immediate, InCell}
 use Rattle.layout.specs.Listing.{Listing}
 use Rattle.layout.specs.Layout.{extra, opens, mid, left, formAt}
 use Rattle.layout.specs.Image.{byteOf}
@@ -44,7 +44,7 @@ use Rattle.list_machine.proofs.Meets.{Meets, standing, registersFor}
 use Rattle.list_machine.proofs.Carrying.{Way, isWent, standsAt, carried-meets}
 
 -- the form of an item by its class
-plain-form : (c : kind.Class) (m : Bool) (x f : ℕ) → c ≡ Plain → packing.formOf c m x f ≡ Alone
+plain-form : (c : kind.OperandClass) (m : Bool) (x f : ℕ) → c ≡ Plain → packing.formOf c m x f ≡ Alone
 plain-form c m x f q = rw q
 
 taking-form : (m : Bool) (f : ℕ) → (packing.taking m f ≡ Immediate) ⊎ (packing.taking m f ≡ InCell)
@@ -52,14 +52,14 @@ taking-form m zero = inr refl
 taking-form true (suc f) = inr refl
 taking-form false (suc f) = inl refl
 
-literal-form : (c : kind.Class) (m : Bool) (x f : ℕ) → c ≡ Literal → (packing.formOf c m x f ≡ Immediate) ⊎ (packing.formOf c m x f ≡ InCell)
+literal-form : (c : kind.OperandClass) (m : Bool) (x f : ℕ) → c ≡ Literal → (packing.formOf c m x f ≡ Immediate) ⊎ (packing.formOf c m x f ≡ InCell)
 literal-form c m x f q = rw q (taking-form _ f)
 
-branch-form : (c : kind.Class) (m : Bool) (x f : ℕ) → c ≡ Branch → (packing.formOf c m x f ≡ Immediate) ⊎ (packing.formOf c m x f ≡ InCell)
+branch-form : (c : kind.OperandClass) (m : Bool) (x f : ℕ) → c ≡ Branch → (packing.formOf c m x f ≡ Immediate) ⊎ (packing.formOf c m x f ≡ InCell)
 branch-form c m x f q = rw q (taking-form m f)
 
 -- operands by whether an instruction leads somewhere
-module _ (machine : Machine) (form : stream.Form) (m : List ℕ) (ep a : ℕ) where
+module _ (machine : Machine) (form : stream.OperandForm) (m : List ℕ) (ep a : ℕ) where
   branch-operand : (t : Taking) → leads t ≡ true → operandOf machine form t m ep a ≡ branchOperand machine form m ep a
   branch-operand branch q = refl
   branch-operand questionBranch q = refl
@@ -94,7 +94,7 @@ module _ (machine : Machine) (base : ℕ) (l : Listing) where
   literal-at i literal q = refl
 
 -- steps that did not go on stay as they are
-kept-taken : (form : stream.Form) (m : List ℕ) (r : Registers) (o : Outcome) → isWent o ≡ false
+kept-taken : (form : stream.OperandForm) (m : List ℕ) (r : Registers) (o : Outcome) → isWent o ≡ false
     → taken form (stepped m (record { registers = r; outcome = o })) ≡ stepped m (record { registers = r; outcome = o })
 kept-taken form m r Went q = absurd (true≢false q)
 kept-taken form m r Next q = refl
@@ -129,7 +129,7 @@ module _ (machine : Machine) (base : ℕ) (l : Listing) (ok : Legal base l) (i :
         kept = λ m r o e. refl;
         went = λ m sp rp holds h.
             rw (q)
-            (ap (λ (r : Registers). turned m r ended.Went)
+            (ap (λ (r : Registers). cycleState m r ended.Went)
             (runs-on m sp rp (epValue base l i) h (λ (e : formAt (layout l) i ≡ Immediate). let z : _≡_ {A = ℕ} 0 1 = cc in omega arith) (omega (arith, ap extra q))));
       }
 
@@ -145,7 +145,7 @@ module _ (machine : Machine) (base : ℕ) (l : Listing) (ok : Legal base l) (i :
         kept = kept-taken stream-form.InCell;
         went = λ m sp rp holds h.
             rw (q)
-            (ap (λ (r : Registers). turned m r ended.Went)
+            (ap (λ (r : Registers). cycleState m r ended.Went)
             (runs-on m sp rp (sum (epValue base l i) 4) h (λ (e : formAt (layout l) i ≡ Immediate). let z : _≡_ {A = ℕ} 0 1 = cc in omega arith) (past-operand q)));
       }
 
@@ -166,27 +166,27 @@ module _ (machine : Machine) (base : ℕ) (l : Listing) (ok : Legal base l) (i :
       ∙ ap Cell (operand-cell base l ok i inside q)
 
   -- what the processor finds is what the listing says
-  literal-cell : (m : List ℕ) → Holds machine base l m → (t : Taking) → leads t ≡ false → kinds.classOf (l .kind i) ≡ Literal → formAt (layout l) i ≡ InCell
+  literal-cell : (m : List ℕ) → Holds machine base l m → (t : Taking) → leads t ≡ false → kinds.operandClass (l .kind i) ≡ Literal → formAt (layout l) i ≡ InCell
       → operandOf machine stream-form.InCell t m (epValue base l i) rest ≡ Cell (operandAt machine base l i t)
   literal-cell m holds t d c q =
       literal-operand machine stream-form.InCell m (epValue base l i) rest t d
       ∙ operand-fetch m holds q
       ∙ ap Cell (literal-value base l ok i c ∙ sym (literal-at machine base l i t d))
 
-  literal-rest : (m : List ℕ) (t : Taking) → leads t ≡ false → kinds.classOf (l .kind i) ≡ Literal → formAt (layout l) i ≡ Immediate
+  literal-rest : (m : List ℕ) (t : Taking) → leads t ≡ false → kinds.operandClass (l .kind i) ≡ Literal → formAt (layout l) i ≡ Immediate
       → operandOf machine stream-form.Immediate t m (epValue base l i) rest ≡ Cell (operandAt machine base l i t)
   literal-rest m t d c q =
       literal-operand machine stream-form.Immediate m (epValue base l i) rest t d
       ∙ ap Cell (immediate-value base l ok i inside q ∙ literal-value base l ok i c ∙ sym (literal-at machine base l i t d))
 
-  branch-to : (m : List ℕ) → Holds machine base l m → (t : Taking) → leads t ≡ true → kinds.classOf (l .kind i) ≡ Branch → formAt (layout l) i ≡ InCell
+  branch-to : (m : List ℕ) → Holds machine base l m → (t : Taking) → leads t ≡ true → kinds.operandClass (l .kind i) ≡ Branch → formAt (layout l) i ≡ InCell
       → operandOf machine stream-form.InCell t m (epValue base l i) rest ≡ Cell (operandAt machine base l i t)
   branch-to m holds t d c q =
       branch-operand machine stream-form.InCell m (epValue base l i) rest t d
       ∙ operand-fetch m holds q
       ∙ ap Cell (branch-cell base l ok i c q ∙ sym (branch-at machine base l i t d))
 
-  branch-by : (m : List ℕ) (t : Taking) → leads t ≡ true → kinds.classOf (l .kind i) ≡ Branch → formAt (layout l) i ≡ Immediate
+  branch-by : (m : List ℕ) (t : Taking) → leads t ≡ true → kinds.operandClass (l .kind i) ≡ Branch → formAt (layout l) i ≡ Immediate
       → operandOf machine stream-form.Immediate t m (epValue base l i) rest ≡ Cell (operandAt machine base l i t)
   branch-by m t d c q =
       branch-operand machine stream-form.Immediate m (epValue base l i) rest t d
@@ -201,38 +201,38 @@ module _ (machine : Machine) (base : ℕ) (l : Listing) (ok : Legal base l) (i :
   unfolding cycleOf
   cycle-is m sp rp k e = rw (opcode base l ok i inside ∙ e)
 
-  executes-plain : (m : List ℕ) (r : Registers) (k : ℕ) → classOf (decodeOf k) ≡ plain
+  executes-plain : (m : List ℕ) (r : Registers) (k : ℕ) → operandClass (decodeOf k) ≡ plain
       → executeOf machine m r (decodeOf k) ≡ commitOf machine m r (plainAt machine (decodeOf k) m r)
   unfolding executeOf
   executes-plain m r k e = rw e
 
-  executes-taking : (m : List ℕ) (r : Registers) (k : ℕ) (form : stream.Form) (t : Taking) → classOf (decodeOf k) ≡ taking form t
+  executes-taking : (m : List ℕ) (r : Registers) (k : ℕ) (form : stream.OperandForm) (t : Taking) → operandClass (decodeOf k) ≡ taking form t
       → executeOf machine m r (decodeOf k) ≡ taken form (commitOf machine m r (takingAt machine form t m r))
   unfolding executeOf
   executes-taking m r k form t e = rw e
 
   -- where the operand is what the listing says, so is the effect
-  effect-is : (m : List ℕ) (sp rp : ℕ) (form : stream.Form) (t : Taking)
+  effect-is : (m : List ℕ) (sp rp : ℕ) (form : stream.OperandForm) (t : Taking)
       → operandOf machine form t m (epValue base l i) rest ≡ Cell (operandAt machine base l i t)
       → afterOf form (epValue base l i) ≡ behind base l i
       → takingAt machine form t m (here sp rp) ≡ takingOf machine t m sp rp (Cell (operandAt machine base l i t)) (behind base l i)
   effect-is m sp rp form t p q = rw (p, q)
 
   module _ (ran : Bool) (m : List ℕ) (sp rp : ℕ) (holds : Holds machine base l m) where
-    plain-meets : formAt (layout l) i ≡ Alone → classOf (decodeOf (l .kind i)) ≡ plain
+    plain-meets : formAt (layout l) i ≡ Alone → operandClass (decodeOf (l .kind i)) ≡ plain
         → Meets machine base l (carryOut machine base l (standsAt i ran m sp rp)) (cycleOf machine m (atItem base l i sp rp))
     unfolding carryOut
     plain-meets q d =
-        rw (cycle-is m sp rp (l .kind i) (ap (λ (g : Form). byteOf g (l .kind i)) q), executes-plain m (here sp rp) (l .kind i) d, d)
+        rw (cycle-is m sp rp (l .kind i) (ap (λ (g : ItemForm). byteOf g (l .kind i)) q), executes-plain m (here sp rp) (l .kind i) d, d)
         (carried-meets machine base l ok i rest inside (λ s. s) (plain-way q) ran m sp rp (plainAt machine (decodeOf (l .kind i)) m (here sp rp)) holds)
 
-    cell-meets : formAt (layout l) i ≡ InCell → (t : Taking) → classOf (decodeOf (l .kind i)) ≡ taking stream-form.InCell t
+    cell-meets : formAt (layout l) i ≡ InCell → (t : Taking) → operandClass (decodeOf (l .kind i)) ≡ taking stream-form.InCell t
         → operandOf machine stream-form.InCell t m (epValue base l i) rest ≡ Cell (operandAt machine base l i t)
         → Meets machine base l (carryOut machine base l (standsAt i ran m sp rp)) (cycleOf machine m (atItem base l i sp rp))
     unfolding carryOut
     cell-meets q t d o =
         rw (
-          cycle-is m sp rp (l .kind i) (ap (λ (g : Form). byteOf g (l .kind i)) q),
+          cycle-is m sp rp (l .kind i) (ap (λ (g : ItemForm). byteOf g (l .kind i)) q),
           executes-taking m (here sp rp) (l .kind i) stream-form.InCell t d,
           d,
           effect-is m sp rp stream-form.InCell t o (past-operand q),
@@ -240,14 +240,14 @@ module _ (machine : Machine) (base : ℕ) (l : Listing) (ok : Legal base l) (i :
         (carried-meets machine base l ok i rest inside (taken stream-form.InCell) (cell-way q) ran m sp rp
         (takingOf machine t m sp rp (Cell (operandAt machine base l i t)) (behind base l i)) holds)
 
-    immediate-meets : formAt (layout l) i ≡ Immediate → (t : Taking) → classOf (decodeOf (l .kind i)) ≡ taking stream-form.InCell t
-        → classOf (decodeOf (l .kind i + 1)) ≡ taking stream-form.Immediate t
+    immediate-meets : formAt (layout l) i ≡ Immediate → (t : Taking) → operandClass (decodeOf (l .kind i)) ≡ taking stream-form.InCell t
+        → operandClass (decodeOf (l .kind i + 1)) ≡ taking stream-form.Immediate t
         → operandOf machine stream-form.Immediate t m (epValue base l i) rest ≡ Cell (operandAt machine base l i t)
         → Meets machine base l (carryOut machine base l (standsAt i ran m sp rp)) (cycleOf machine m (atItem base l i sp rp))
     unfolding carryOut
     immediate-meets q t d e o =
         rw (
-          cycle-is m sp rp (l .kind i + 1) (ap (λ (g : Form). byteOf g (l .kind i)) q),
+          cycle-is m sp rp (l .kind i + 1) (ap (λ (g : ItemForm). byteOf g (l .kind i)) q),
           executes-taking m (here sp rp) (l .kind i + 1) stream-form.Immediate t e,
           d,
           effect-is m sp rp stream-form.Immediate t o (omega (arith, ap extra q)),
@@ -255,18 +255,18 @@ module _ (machine : Machine) (base : ℕ) (l : Listing) (ok : Legal base l) (i :
         (carried-meets machine base l ok i rest inside (taken stream-form.Immediate) (immediate-way q) ran m sp rp
         (takingOf machine t m sp rp (Cell (operandAt machine base l i t)) (behind base l i)) holds)
 
-    literal-meets : kinds.classOf (l .kind i) ≡ Literal
+    literal-meets : kinds.operandClass (l .kind i) ≡ Literal
         → Meets machine base l (carryOut machine base l (standsAt i ran m sp rp)) (cycleOf machine m (atItem base l i sp rp))
-    literal-meets c = go (literal-taken (l .kind i) c) (literal-form (kinds.classOf (l .kind i)) (marks l i) (l .operand i) (left (layout l) i) c)
+    literal-meets c = go (literal-taken (l .kind i) c) (literal-form (kinds.operandClass (l .kind i)) (marks l i) (l .operand i) (left (layout l) i) c)
       where
         go : (t : Taken (l .kind i)) × (leads (t .what) ≡ false) → (formAt (layout l) i ≡ Immediate) ⊎ (formAt (layout l) i ≡ InCell)
             → Meets machine base l (carryOut machine base l (standsAt i ran m sp rp)) (cycleOf machine m (atItem base l i sp rp))
         go t (inl q) = immediate-meets q (t .0 .what) (t .0 .in-cell) (t .0 .immediate) (literal-rest m (t .0 .what) (t .1) c q)
         go t (inr q) = cell-meets q (t .0 .what) (t .0 .in-cell) (literal-cell m holds (t .0 .what) (t .1) c q)
 
-    branch-meets : kinds.classOf (l .kind i) ≡ Branch
+    branch-meets : kinds.operandClass (l .kind i) ≡ Branch
         → Meets machine base l (carryOut machine base l (standsAt i ran m sp rp)) (cycleOf machine m (atItem base l i sp rp))
-    branch-meets c = go (branch-taken (l .kind i) c) (branch-form (kinds.classOf (l .kind i)) (marks l i) (l .operand i) (left (layout l) i) c)
+    branch-meets c = go (branch-taken (l .kind i) c) (branch-form (kinds.operandClass (l .kind i)) (marks l i) (l .operand i) (left (layout l) i) c)
       where
         go : (t : Taken (l .kind i)) × (leads (t .what) ≡ true) → (formAt (layout l) i ≡ Immediate) ⊎ (formAt (layout l) i ≡ InCell)
             → Meets machine base l (carryOut machine base l (standsAt i ran m sp rp)) (cycleOf machine m (atItem base l i sp rp))
@@ -274,11 +274,11 @@ module _ (machine : Machine) (base : ℕ) (l : Listing) (ok : Legal base l) (i :
         go t (inr q) = cell-meets q (t .0 .what) (t .0 .in-cell) (branch-to m holds (t .0 .what) (t .1) c q)
 
     pub item-meets : Meets machine base l (carryOut machine base l (standsAt i ran m sp rp)) (cycleOf machine m (atItem base l i sp rp))
-    item-meets = go (kinds.classOf (l .kind i)) refl
+    item-meets = go (kinds.operandClass (l .kind i)) refl
       where
-        go : (c : kind.Class) → kinds.classOf (l .kind i) ≡ c
+        go : (c : kind.OperandClass) → kinds.operandClass (l .kind i) ≡ c
             → Meets machine base l (carryOut machine base l (standsAt i ran m sp rp)) (cycleOf machine m (atItem base l i sp rp))
-        go Plain c = plain-meets (plain-form (kinds.classOf (l .kind i)) (marks l i) (l .operand i) (left (layout l) i) c) (plain-decodes (l .kind i) c)
+        go Plain c = plain-meets (plain-form (kinds.operandClass (l .kind i)) (marks l i) (l .operand i) (left (layout l) i) c) (plain-decodes (l .kind i) c)
         go Literal c = literal-meets c
         go Branch c = branch-meets c
         go NoKind c = absurd (is-kind l (ok .input) i inside c)

@@ -5,7 +5,7 @@ use Prim.Native.Nat.{ℕ}
 use lib.ListN.{length}
 use Rattle.cell.specs.Refusals.{judgeMachine}
 use Rattle.cell.specs.declared.Judged.the-variants.{Passed}
-use Rattle.machine.specs.Throws.{Turned}
+use Rattle.machine.specs.Throws.{CycleState}
 use Rattle.machine.specs.declared.Registers.{Registers}
 use Rattle.machine.specs.declared.Ended.{Ended}
 use Rattle.machine.specs.declared.Ended.the-variants.{Went, Threw, Stopped}
@@ -25,13 +25,13 @@ budgeted : (order base : ℕ) (m : List ℕ) (sp rp : ℕ) (r : Run) → judgeMa
 unfolding runAnswer
 budgeted order base m sp rp r q a =
     record {
-      registers = cyclesOf (machineOf order) (r .cycles) s .turn .registers;
+      registers = cyclesOf (machineOf order) (r .cycles) s .result .registers;
       answer =
           rw (q, a .exact)
-          (ap (λ (x : List ℕ). ranTo given (r .cycles) x (ranAs (cyclesOf (machineOf order) (r .cycles) s .turn .registers) (r .cycles) (cyclesOf (machineOf order) (r .cycles) s .turn .ended))) (a .memory)
+          (ap (λ (x : List ℕ). ranTo given (r .cycles) x (ranAs (cyclesOf (machineOf order) (r .cycles) s .result .registers) (r .cycles) (cyclesOf (machineOf order) (r .cycles) s .result .ended))) (a .memory)
           ∙ ap (ranTo given (r .cycles) (r .position .memory))
-          (ran-as (cyclesOf (machineOf order) (r .cycles) s .turn .registers) (r .cycles) (cyclesOf (machineOf order) (r .cycles) s .turn .ended)
-          ∙ ap (λ (x : Stop). ranWith x (cyclesOf (machineOf order) (r .cycles) s .turn .registers) (r .cycles)) (a .stop)));
+          (ran-as (cyclesOf (machineOf order) (r .cycles) s .result .registers) (r .cycles) (cyclesOf (machineOf order) (r .cycles) s .result .ended)
+          ∙ ap (λ (x : Stop). ranWith x (cyclesOf (machineOf order) (r .cycles) s .result .registers) (r .cycles)) (a .stop)));
       sp-is = a .sp;
       rp-is = a .rp;
     }
@@ -39,7 +39,7 @@ budgeted order base m sp rp r q a =
     given : Registers
     given = firstRegisters (machineOf order) base m sp rp
 
-    s : Turned
+    s : CycleState
     s = begun m given
 
 pub run-follows : RunFollows

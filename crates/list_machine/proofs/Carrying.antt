@@ -11,7 +11,7 @@ use Rattle.cell.specs.declared.Checked.{Checked}
 use Rattle.cell.specs.declared.Checked.the-variants.{Good, Bad}
 use Rattle.machine.specs.Effects.{Control, goOn, jump, halt, throwing, Action, Effect, act, raise}
 use Rattle.machine.specs.Commits.{Stepped, stepped, placesOf, storedOf, controlled, carriedOut, commitOf}
-use Rattle.machine.specs.Throws.{turned, nextOf, finishOf}
+use Rattle.machine.specs.Throws.{cycleState, nextOf, finishOf}
 use Rattle.machine.specs.declared.Machine.{Machine}
 use Rattle.machine.specs.declared.Registers.{Registers}
 use Rattle.machine.specs.declared.Outcome.{Outcome}
@@ -49,7 +49,7 @@ pub record Way (machine : Machine) (base : ℕ) (l : Listing) (i a : ℕ) (onwar
       → onward (stepped m (record { registers = r; outcome = o })) ≡ stepped m (record { registers = r; outcome = o })
   pub went : (m : List ℕ) (sp rp : ℕ) → Holds machine base l m → suc i < l .count
       → finishOf machine (onward (stepped m (record { registers = record { ep = epValue base l i; a = a; sp = sp; rp = rp }; outcome = Went })))
-      ≡ turned m
+      ≡ cycleState m
       (registersFor base l (record { item = suc i; ran = not (isImmediate (formAt (layout l) i)); memory = m; sp = sp; rp = rp }))
       ended.Went
 

@@ -13,7 +13,7 @@ use Rattle.cell.specs.declared.Checked.the-variants.{Good}
 use Rattle.cell.specs.declared.Fetched.the-variants.{Cell}
 use Rattle.cell.proofs.MemoryLaws.{cell-alike}
 use Rattle.machine.specs.Places.{placeOf, fetchOf}
-use Rattle.machine.specs.Throws.{turned, nextOf}
+use Rattle.machine.specs.Throws.{cycleState, nextOf}
 use Rattle.machine.specs.declared.Machine.{Machine}
 use Rattle.machine.specs.declared.Registers.{Registers}
 use Rattle.machine.specs.declared.Access.{Access}
@@ -62,6 +62,6 @@ module _ (machine : Machine) (base : ℕ) (l : Listing) (ok : Legal base l) wher
 
     -- NEXT at the cell of an item that opens one
     pub next-enters : (i sp rp a : ℕ) → i < l .count → opens (layout l) i ≡ true
-        → nextOf machine m (record { ep = addressOf base l i; a = a; sp = sp; rp = rp }) ≡ turned m (atItem base l i sp rp) Went
+        → nextOf machine m (record { ep = addressOf base l i; a = a; sp = sp; rp = rp }) ≡ cycleState m (atItem base l i sp rp) Went
     unfolding nextOf
     next-enters i sp rp a c o = rw (entry-cell i c o, ep-after i c o)

@@ -15,7 +15,7 @@ use Rattle.cell.specs.declared.Fault.{Fault}
 use Rattle.machine.specs.Places.{oneCell, placeOf}
 use Rattle.machine.specs.Effects.{Control, goOn, jump, halt, throwing, Action, Effect, act, raise}
 use Rattle.machine.specs.Commits.{stepped, placesOf}
-use Rattle.machine.specs.Throws.{Turned, handlerCell, throwOf, throwingOf, finishOf}
+use Rattle.machine.specs.Throws.{CycleState, handlerCell, throwOf, throwingOf, finishOf}
 use Rattle.machine.specs.declared.Machine.{Machine}
 use Rattle.machine.specs.declared.Registers.{Registers}
 use Rattle.machine.specs.declared.Access.the-variants.{Push}
@@ -62,26 +62,26 @@ unfolding finishOf
 throwing-length machine m r = finish-length machine (stepped m (record { registers = r; outcome = Throw }))
 
 module _ (machine : Machine) (base : ℕ) (l : Listing) where
-  handled-by-long : (n : ℕ) (p : Position) (t : Turned) (e : Ended) → length (t .memory) ≡ n → Long n (handledBy machine base l p t e)
+  handled-by-long : (n : ℕ) (p : Position) (t : CycleState) (e : Ended) → length (t .memory) ≡ n → Long n (handledBy machine base l p t e)
   handled-by-long n p t (Stopped x) h = h
   handled-by-long n p t Went h = entered-long n NoHandler (entryAt base l (cellAt (machine .order) (t .memory) handlerCell)) (thrownTo p t) h
   handled-by-long n p t (Threw f) h = entered-long n NoHandler (entryAt base l (cellAt (machine .order) (t .memory) handlerCell)) (thrownTo p t) h
 
   thrown-long : (p : Position) (f : Fault) → Long (length (p .memory)) (thrown machine base l p f)
   thrown-long p f =
-      let t : Turned = throwOf machine (p .memory) (registersAt machine base l p) f in
+      let t : CycleState = throwOf machine (p .memory) (registersAt machine base l p) f in
       if-long (length (p .memory))
       (writesImage machine base l (pushOf (difference (p .sp) 4) f (placeOf machine oneCell Push (length (p .memory)) (difference (p .sp) 4))))
       WritesImage (handled machine base l p t)
-      (handled-by-long (length (p .memory)) p t (t .turn .ended) (throw-length machine (p .memory) (registersAt machine base l p) f))
+      (handled-by-long (length (p .memory)) p t (t .result .ended) (throw-length machine (p .memory) (registersAt machine base l p) f))
 
   followed-long : (n : ℕ) (c : Control) (p : Position) → length (p .memory) ≡ n → Long n (followed machine base l c p)
   followed-long n goOn p h = ran-long n (ltb (suc (p .item)) (l .count)) (suc (p .item)) (not (isImmediate (formAt (layout l) (p .item)))) p h
   followed-long n (jump a) p h = entered-long n NoEntry (entryAt base l a) p h
   followed-long n (halt x) p h = h
   followed-long n throwing p h =
-      let t : Turned = throwingOf machine (p .memory) (registersAt machine base l p) in
-      handled-by-long n p t (t .turn .ended) (throwing-length machine (p .memory) (registersAt machine base l p) ∙ h)
+      let t : CycleState = throwingOf machine (p .memory) (registersAt machine base l p) in
+      handled-by-long n p t (t .result .ended) (throwing-length machine (p .memory) (registersAt machine base l p) ∙ h)
 
   acted-long : (p : Position) (x : Action) (c : Checked) → Long (length (p .memory)) (acted machine base l p x c)
   acted-long p x (Bad f) = thrown-long p f

@@ -5,7 +5,7 @@ use Prim.Native.Nat.{ℕ, _<_}
 use Rattle.cell.specs.Number.{sum}
 use Rattle.cell.specs.declared.Fetched.the-variants.{Cell}
 use Rattle.machine.specs.Places.{fetchOf}
-use Rattle.machine.specs.Throws.{Turned, turned, entered}
+use Rattle.machine.specs.Throws.{CycleState, cycleState, entered}
 use Rattle.machine.specs.declared.Machine.{Machine}
 use Rattle.machine.specs.declared.Registers.{Registers}
 use Rattle.machine.specs.declared.Access.the-variants.{Stream}
@@ -36,20 +36,20 @@ pub record Sound (machine : Machine) (base : ℕ) (l : Listing) (p : Position) :
   pub item : p .item < l .count
   pub holds : Holds machine base l (p .memory)
 
-pub record GoesOn (machine : Machine) (base : ℕ) (l : Listing) (p : Position) (t : Turned) : Type 0 where
+pub record GoesOn (machine : Machine) (base : ℕ) (l : Listing) (p : Position) (t : CycleState) : Type 0 where
   pub memory : t .memory ≡ p .memory
-  pub registers : t .turn .registers ≡ registersFor base l p
-  pub goes : isStop (t .turn .ended) ≡ false
+  pub registers : t .result .registers ≡ registersFor base l p
+  pub goes : isStop (t .result .ended) ≡ false
   pub sound : Sound machine base l p
 
-pub record Stops (x : ℕ) (p : Position) (t : Turned) : Type 0 where
+pub record Stops (x : ℕ) (p : Position) (t : CycleState) : Type 0 where
   pub memory : t .memory ≡ p .memory
-  pub sp : t .turn .registers .sp ≡ p .sp
-  pub rp : t .turn .registers .rp ≡ p .rp
-  pub ended : t .turn .ended ≡ Stopped x
+  pub sp : t .result .registers .sp ≡ p .sp
+  pub rp : t .result .registers .rp ≡ p .rp
+  pub ended : t .result .ended ≡ Stopped x
 
 -- nothing is claimed of an item that the list machine stops in front of
-abbrev pub Meets : Machine → ℕ → Listing → Carried → Turned → Type 0
+abbrev pub Meets : Machine → ℕ → Listing → Carried → CycleState → Type 0
 Meets machine base l (on p) t = GoesOn machine base l p t
 Meets machine base l (stopped x p) t = Stops x p t
 Meets machine base l (outside why) t = Unit {0}
@@ -58,11 +58,11 @@ Meets machine base l (outside why) t = Unit {0}
 module _ (machine : Machine) (base : ℕ) (l : Listing) (ok : Legal base l) where
   pub enters : (why : Outside) (p : Position) (h x a ep : ℕ) (e : Ended) → isStop e ≡ false → Holds machine base l (p .memory)
       → fetchOf machine Stream (p .memory) h ≡ Cell x
-      → Meets machine base l (transferred machine base l why h p) (turned (p .memory) (entered h x (record { ep = ep; a = a; sp = p .sp; rp = p .rp })) e)
+      → Meets machine base l (transferred machine base l why h p) (cycleState (p .memory) (entered h x (record { ep = ep; a = a; sp = p .sp; rp = p .rp })) e)
   enters why p h x a ep e going holds fetched = go (entryAt base l h) refl
     where
       go : (n : Entry) → entryAt base l h ≡ n
-          → Meets machine base l (enteredAt why n p) (turned (p .memory) (entered h x (record { ep = ep; a = a; sp = p .sp; rp = p .rp })) e)
+          → Meets machine base l (enteredAt why n p) (cycleState (p .memory) (entered h x (record { ep = ep; a = a; sp = p .sp; rp = p .rp })) e)
       go Nothing q = tt
       go (Item j) q =
           let f = found base l h (j .0) q in

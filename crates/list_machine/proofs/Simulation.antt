@@ -9,7 +9,7 @@ use Rattle.cell.specs.Choice.{if}
 use Rattle.cell.specs.Memory.{cellAt}
 use Rattle.cell.specs.Shift.{asr8}
 use Rattle.cell.proofs.BooleanLaws.{both-true}
-use Rattle.machine.specs.Throws.{Turned, turned, finishOf}
+use Rattle.machine.specs.Throws.{CycleState, cycleState, finishOf}
 use Rattle.machine.specs.declared.Machine.{Machine}
 use Rattle.machine.specs.declared.Registers.{Registers}
 use Rattle.machine.specs.declared.Ended.{Ended}
@@ -42,43 +42,43 @@ stands-rp false base l p = refl
 module _ (machine : Machine) (base : ℕ) (l : Listing) (ok : Legal base l) where
   -- the cycle before an item that opens a cell and was run on into
   enters-item : (m : List ℕ) (i sp rp : ℕ) → Holds machine base l m → i < l .count → opens (layout l) i ≡ true
-      → cycleOf machine m (record { ep = addressOf base l i; a = 0; sp = sp; rp = rp }) ≡ turned m (atItem base l i sp rp) Went
+      → cycleOf machine m (record { ep = addressOf base l i; a = 0; sp = sp; rp = rp }) ≡ cycleState m (atItem base l i sp rp) Went
   unfolding cycleOf executeOf decodeOf finishOf
   enters-item m i sp rp holds h o = next-enters machine base l ok m holds i sp rp (asr8 0) h o
 
   -- the cycles of one item, by whether a NEXT comes before it
   module _ (p : Position) (e : Ended) (going : isStop e ≡ false) (sound : Sound machine base l p) where
-    abbrev from : Bool → Turned
-    from b = turned (p .memory) (standing b base l p) e
+    abbrev from : Bool → CycleState
+    from b = cycleState (p .memory) (standing b base l p) e
 
     cycle-at : Meets machine base l (carryOut machine base l p) (cycleOf machine (p .memory) (atItem base l (p .item) (p .sp) (p .rp)))
     cycle-at = item-meets machine base l ok (p .item) (sound .item) (p .ran) (p .memory) (p .sp) (p .rp) (sound .holds)
 
-    first-is : opens (layout l) (p .item) ≡ true → advance machine (from true) ≡ turned (p .memory) (atItem base l (p .item) (p .sp) (p .rp)) Went
+    first-is : opens (layout l) (p .item) ≡ true → advance machine (from true) ≡ cycleState (p .memory) (atItem base l (p .item) (p .sp) (p .rp)) Went
     first-is o = goes machine (from true) going ∙ enters-item (p .memory) (p .item) (p .sp) (p .rp) (sound .holds) (sound .item) o
 
     meets-by : (b : Bool) → (b ≡ true → opens (layout l) (p .item) ≡ true)
         → Meets machine base l (carryOut machine base l p) (cyclesOf machine (if b 2 1) (from b))
     unfolding cyclesOf
     meets-by false o = rw (goes machine (from false) going) cycle-at
-    meets-by true o = rw (first-is (o refl), goes machine (turned (p .memory) (atItem base l (p .item) (p .sp) (p .rp)) Went) refl) cycle-at
+    meets-by true o = rw (first-is (o refl), goes machine (cycleState (p .memory) (atItem base l (p .item) (p .sp) (p .rp)) Went) refl) cycle-at
 
     exact-by : (b : Bool) → (b ≡ true → opens (layout l) (p .item) ≡ true) → doneOf machine (if b 2 1) (from b) ≡ if b 2 1
     exact-by false o = one-done machine (from false)
-    exact-by true o = two-done machine (from true) (ap (λ (t : Turned). isStop (t .turn .ended)) (first-is (o refl)))
+    exact-by true o = two-done machine (from true) (ap (λ (t : CycleState). isStop (t .result .ended)) (first-is (o refl)))
 
   -- where a run stands: the processor at the item, or stopped
-  abbrev Stands : Course → Position → Turned → Type 0
+  abbrev Stands : Course → Position → CycleState → Type 0
   Stands goesOn p t = GoesOn machine base l p t
   Stands (stoppedBy x) p t = Stops x p t
   Stands (stoodOutside why) p t = GoesOn machine base l p t
 
-  record Reached (s : Turned) (r : Run) : Type 0 where
+  record Reached (s : CycleState) (r : Run) : Type 0 where
     stands : Stands (r .course) (r .position) (cyclesOf machine (r .cycles) s)
     exact : doneOf machine (r .cycles) s ≡ r .cycles
 
-  module _ (s : Turned) (r : Run) (reached : Reached s r) where
-    abbrev now : Turned
+  module _ (s : CycleState) (r : Run) (reached : Reached s r) where
+    abbrev now : CycleState
     now = cyclesOf machine (r .cycles) s
 
     abbrev counted : ℕ
@@ -88,21 +88,21 @@ module _ (machine : Machine) (base : ℕ) (l : Listing) (ok : Legal base l) wher
       opens-there : (r .position .ran && opens (layout l) (r .position .item)) ≡ true → opens (layout l) (r .position .item) ≡ true
       opens-there e = both-true (r .position .ran) (opens (layout l) (r .position .item)) e .1
 
-      now-is : now ≡ turned (r .position .memory) (registersFor base l (r .position)) (now .turn .ended)
-      now-is = ap (λ (m : List ℕ). turned m (now .turn .registers) (now .turn .ended)) (g .memory)
-          ∙ ap (λ (x : Registers). turned (r .position .memory) x (now .turn .ended)) (g .registers)
+      now-is : now ≡ cycleState (r .position .memory) (registersFor base l (r .position)) (now .result .ended)
+      now-is = ap (λ (m : List ℕ). cycleState m (now .result .registers) (now .result .ended)) (g .memory)
+          ∙ ap (λ (x : Registers). cycleState (r .position .memory) x (now .result .ended)) (g .registers)
 
       meets-then : Meets machine base l (carryOut machine base l (r .position)) (cyclesOf machine (r .cycles + counted) s)
       meets-then =
           rw (cycles-cut machine (r .cycles) counted s, now-is)
-          (meets-by (r .position) (now .turn .ended) (g .goes) (g .sound) (r .position .ran && opens (layout l) (r .position .item)) opens-there)
+          (meets-by (r .position) (now .result .ended) (g .goes) (g .sound) (r .position .ran && opens (layout l) (r .position .item)) opens-there)
 
       exact-then : doneOf machine (r .cycles + counted) s ≡ r .cycles + counted
       exact-then =
           done-cut machine (r .cycles) counted s (g .goes)
           ∙ ap (λ (n : ℕ). r .cycles + n)
           (ap (doneOf machine counted) now-is
-          ∙ exact-by (r .position) (now .turn .ended) (g .goes) (g .sound) (r .position .ran && opens (layout l) (r .position .item)) opens-there)
+          ∙ exact-by (r .position) (now .result .ended) (g .goes) (g .sound) (r .position .ran && opens (layout l) (r .position .item)) opens-there)
 
       carried-reached : (c : Carried) → Meets machine base l c (cyclesOf machine (r .cycles + counted) s) → Reached s (furtherBy machine base l r c)
       carried-reached (on p) h = record { stands = h; exact = exact-then }
@@ -121,7 +121,7 @@ module _ (machine : Machine) (base : ℕ) (l : Listing) (ok : Legal base l) wher
         go (stoppedBy x) q = reached
         go (stoodOutside why) q = reached
 
-  run-reached : (k : ℕ) (s : Turned) (r : Run) → Reached s r → Reached s (runOf machine base l k r)
+  run-reached : (k : ℕ) (s : CycleState) (r : Run) → Reached s r → Reached s (runOf machine base l k r)
   unfolding runOf
   run-reached zero s r h = h
   run-reached (suc k) s r h = further-reached s (runOf machine base l k r) (run-reached k s r h)
@@ -153,7 +153,7 @@ module _ (machine : Machine) (base : ℕ) (l : Listing) (ok : Legal base l) wher
       })
 
   -- a run and the processor agree
-  agrees : (s : Turned) (r : Run) → Reached s r → Agree machine s r
+  agrees : (s : CycleState) (r : Run) → Reached s r → Agree machine s r
   agrees s r h = go (r .course) refl (h .stands)
     where
       running-still : (e : Ended) → isStop e ≡ false → stopOf e ≡ running
@@ -167,7 +167,7 @@ module _ (machine : Machine) (base : ℕ) (l : Listing) (ok : Legal base l) wher
             memory = g .memory;
             sp = ap (λ (x : Registers). x .sp) (g .registers) ∙ stands-sp (r .position .ran && opens (layout l) (r .position .item)) base l (r .position);
             rp = ap (λ (x : Registers). x .rp) (g .registers) ∙ stands-rp (r .position .ran && opens (layout l) (r .position .item)) base l (r .position);
-            stop = running-still (cyclesOf machine (r .cycles) s .turn .ended) (g .goes) ∙ sym q;
+            stop = running-still (cyclesOf machine (r .cycles) s .result .ended) (g .goes) ∙ sym q;
             exact = h .exact;
           }
 

@@ -21,7 +21,7 @@ use Rattle.cell.proofs.MemoryLaws.{store-length, cell-frame, alike-refl}
 use Rattle.machine.specs.Places.{oneCell, placeOf, fetchOf}
 use Rattle.machine.specs.Effects.{cellStore}
 use Rattle.machine.specs.Commits.{touches, storedOf}
-use Rattle.machine.specs.Throws.{turned, handed, handlerOf, noted, pushed, throwOf, throwingOf, handlerCell, badCell, addressCell, badStack}
+use Rattle.machine.specs.Throws.{cycleState, handed, handlerOf, noted, pushed, throwOf, throwingOf, handlerCell, badCell, addressCell, badStack}
 use Rattle.machine.specs.declared.Machine.{Machine}
 use Rattle.machine.specs.declared.Access.the-variants.{Stream, Push}
 use Rattle.machine.specs.declared.Ended.{Ended}
@@ -117,8 +117,8 @@ module _ (machine : Machine) (base : ℕ) (l : Listing) (ok : Legal base l) wher
   throwing-meets p a holds = go (eqb (p .sp % 4) 0)
     where
       go : (b : Bool) → Meets machine base l
-          (handled machine base l p (if b (handlerOf machine (p .memory) (registersAt machine base l p) Went) (turned (p .memory) (registersAt machine base l p) (Stopped badStack))))
+          (handled machine base l p (if b (handlerOf machine (p .memory) (registersAt machine base l p) Went) (cycleState (p .memory) (registersAt machine base l p) (Stopped badStack))))
           (if b (handlerOf machine (p .memory) (record { ep = epValue base l (p .item); a = a; sp = p .sp; rp = p .rp }) Went)
-          (turned (p .memory) (record { ep = epValue base l (p .item); a = a; sp = p .sp; rp = p .rp }) (Stopped badStack)))
+          (cycleState (p .memory) (record { ep = epValue base l (p .item); a = a; sp = p .sp; rp = p .rp }) (Stopped badStack)))
       go true = handler-meets p (p .memory) holds (epValue base l (p .item)) a (p .sp) (p .rp) Went refl
       go false = record { memory = refl; sp = refl; rp = refl; ended = refl }

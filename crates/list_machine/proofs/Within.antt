@@ -15,7 +15,7 @@ use Rattle.cell.specs.declared.Fault.{Fault}
 use Rattle.machine.specs.Places.{oneCell, placeOf}
 use Rattle.machine.specs.Effects.{Control, goOn, jump, halt, throwing, Action, Effect, act, raise}
 use Rattle.machine.specs.Commits.{placesOf}
-use Rattle.machine.specs.Throws.{Turned, handlerCell, throwOf, throwingOf}
+use Rattle.machine.specs.Throws.{CycleState, handlerCell, throwOf, throwingOf}
 use Rattle.machine.specs.declared.Machine.{Machine}
 use Rattle.machine.specs.declared.Access.the-variants.{Push}
 use Rattle.machine.specs.declared.Ended.{Ended}
@@ -47,13 +47,13 @@ module _ (machine : Machine) (base : ℕ) (l : Listing) where
   transferred-within : (why : Outside) (a : ℕ) (q : Position) → Within (l .count) (transferred machine base l why a q)
   transferred-within why a q = entered-within (l .count) why (entryAt base l a) q (λ j e. found base l a j e .item)
 
-  handled-by-within : (p : Position) (t : Turned) (e : Ended) → Within (l .count) (handledBy machine base l p t e)
+  handled-by-within : (p : Position) (t : CycleState) (e : Ended) → Within (l .count) (handledBy machine base l p t e)
   handled-by-within p t (Stopped x) = tt
   handled-by-within p t Went = transferred-within NoHandler (cellAt (machine .order) (t .memory) handlerCell) (thrownTo p t)
   handled-by-within p t (Threw f) = transferred-within NoHandler (cellAt (machine .order) (t .memory) handlerCell) (thrownTo p t)
 
-  handled-within : (p : Position) (t : Turned) → Within (l .count) (handled machine base l p t)
-  handled-within p t = handled-by-within p t (t .turn .ended)
+  handled-within : (p : Position) (t : CycleState) → Within (l .count) (handled machine base l p t)
+  handled-within p t = handled-by-within p t (t .result .ended)
 
   thrown-within : (p : Position) (f : Fault) → Within (l .count) (thrown machine base l p f)
   thrown-within p f =

@@ -1,4 +1,4 @@
--- A run in two parts. Document 01, Listings: a run is the items that the machine carries out, in turn; so where it is cut makes no difference.
+-- A run in two parts. Document 01, Listings: a run is the items that the machine carries out, one after the other; so where it is cut makes no difference.
 use mathlib.Core.Path.{_≡_}
 use mathlib.Core.Bool.{true}
 use Prim.Native.Nat.{ℕ, _+_}

@@ -16,7 +16,7 @@ use lib.ListN.{length, getD}
 use Rattle.cell.specs.Memory.{cellAt}
 use Rattle.cell.specs.Refusals.{judgeMachine}
 use Rattle.cell.specs.declared.Judged.the-variants.{Passed}
-use Rattle.machine.specs.Throws.{Turned}
+use Rattle.machine.specs.Throws.{CycleState}
 use Rattle.machine.specs.declared.Machine.{Machine}
 use Rattle.machine.specs.declared.Registers.{Registers}
 use Rattle.machine.specs.declared.Ended.{Ended}
@@ -55,11 +55,11 @@ stopIn (stoppedBy x) = stoppedWith x
 stopIn (stoodOutside why) = running
 
 -- a run of the list machine against the processor from the state s
-pub record Agree (machine : Machine) (s : Turned) (r : Run) : Type 0 where
+pub record Agree (machine : Machine) (s : CycleState) (r : Run) : Type 0 where
   pub memory : cyclesOf machine (r .cycles) s .memory ≡ r .position .memory
-  pub sp : cyclesOf machine (r .cycles) s .turn .registers .sp ≡ r .position .sp
-  pub rp : cyclesOf machine (r .cycles) s .turn .registers .rp ≡ r .position .rp
-  pub stop : stopOf (cyclesOf machine (r .cycles) s .turn .ended) ≡ stopIn (r .course)
+  pub sp : cyclesOf machine (r .cycles) s .result .registers .sp ≡ r .position .sp
+  pub rp : cyclesOf machine (r .cycles) s .result .registers .rp ≡ r .position .rp
+  pub stop : stopOf (cyclesOf machine (r .cycles) s .result .ended) ≡ stopIn (r .course)
   pub exact : doneOf machine (r .cycles) s ≡ r .cycles
 
 abbrev pub Demand3 : Type 0

@@ -17,7 +17,7 @@ use Rattle.cell.specs.declared.Fetched.the-variants.{Cell}
 use Rattle.machine.specs.Places.{oneCell, placeOf}
 use Rattle.machine.specs.Effects.{Store, cellStore, Control, goOn, jump, halt, throwing, Action, Effect, act, raise}
 use Rattle.machine.specs.Commits.{placesOf, storedOf, touches}
-use Rattle.machine.specs.Throws.{Turned, handlerCell, throwOf, throwingOf}
+use Rattle.machine.specs.Throws.{CycleState, handlerCell, throwOf, throwingOf}
 use Rattle.machine.specs.declared.Machine.{Machine}
 use Rattle.machine.specs.declared.Registers.{Registers}
 use Rattle.machine.specs.declared.Access.the-variants.{Push}
@@ -25,14 +25,14 @@ use Rattle.machine.specs.declared.Ended.{Ended}
 use Rattle.machine.specs.declared.Ended.the-variants.{Went, Threw, Stopped}
 use Rattle.instruction.specs.Plain.{plainOf}
 use Rattle.instruction.specs.Taking.{Taking, branch, questionBranch, call, loop, plusLoop, literal, takingOf}
-use Rattle.instruction.specs.Dispatch.{decodeOf, Class, next, plain, taking, classOf}
+use Rattle.instruction.specs.Dispatch.{decodeOf, OperandClass, next, plain, taking, operandClass}
 use Rattle.layout.specs.Listing.{Listing}
 use Rattle.layout.specs.Layout.{opens, formAt}
 use Rattle.layout.specs.Packing.{layout, imageCells, addressOf, epValue, behind, entryAt}
 use Rattle.layout.specs.declared.Entry.{Entry}
 use Rattle.layout.specs.declared.Entry.the-variants.{Item, Nothing}
-use Rattle.layout.specs.declared.Form.{Form}
-use Rattle.layout.specs.declared.Form.the-variants.{Alone, Immediate, InCell}
+use Rattle.layout.specs.declared.ItemForm.{ItemForm}
+use Rattle.layout.specs.declared.ItemForm.the-variants.{Alone, Immediate, InCell}
 use Rattle.list_machine.specs.declared.Outside.{Outside}
 use Rattle.list_machine.specs.declared.Outside.the-variants.{WritesImage, NoEntry, NoHandler, PastEnd}
 
@@ -52,7 +52,7 @@ pub data Carried : Type 0 where
   stopped : ℕ → Position → Carried
   outside : Outside → Carried
 
-abbrev pub isImmediate : Form → Bool
+abbrev pub isImmediate : ItemForm → Bool
 isImmediate Alone = false
 isImmediate Immediate = true
 isImmediate InCell = false
@@ -63,14 +63,14 @@ pushOf a f (Bad g) = []
 pushOf a f Good = cellStore Push a (faultCode f) ∷ []
 
 -- a position with the memory and the stack pointers that a throw leaves
-abbrev pub thrownTo : Position → Turned → Position
+abbrev pub thrownTo : Position → CycleState → Position
 thrownTo p t =
     record {
       item = p .item;
       ran = p .ran;
       memory = t .memory;
-      sp = t .turn .registers .sp;
-      rp = t .turn .registers .rp;
+      sp = t .result .registers .sp;
+      rp = t .result .registers .rp;
     }
 
 -- a position after the stores and stack pointers of an action
@@ -98,14 +98,14 @@ module _ (machine : Machine) (base : ℕ) (l : Listing) where
   operandAt i plusLoop = addressOf base l (l .operand i)
 
   -- EP stands for the item's EP value, and a call leaves the address behind it. NEXT is no kind
-  abbrev pub effectAs : Class → Position → Effect
+  abbrev pub effectAs : OperandClass → Position → Effect
   effectAs next p = raise Illegal
   effectAs plain p = plainOf machine (decodeOf (l .kind (p .item))) (p .memory) (epValue base l (p .item)) (p .sp) (p .rp)
   effectAs (taking form t) p =
       takingOf machine t (p .memory) (p .sp) (p .rp) (Cell (operandAt (p .item) t)) (behind base l (p .item))
 
   abbrev pub effectAt : Position → Effect
-  effectAt p = effectAs (classOf (decodeOf (l .kind (p .item)))) p
+  effectAt p = effectAs (operandClass (decodeOf (l .kind (p .item)))) p
 
   -- some store meets the image
   abbrev pub writesImage : List Store → Bool
@@ -120,13 +120,13 @@ module _ (machine : Machine) (base : ℕ) (l : Listing) where
   registersAt p = record { ep = epValue base l (p .item); a = 0; sp = p .sp; rp = p .rp }
 
   -- a throw as the processor makes it: stopped with -258 or -259, or on to 'THROW, and outside where no entry is there
-  abbrev pub handledBy : Position → Turned → Ended → Carried
+  abbrev pub handledBy : Position → CycleState → Ended → Carried
   handledBy p t (Stopped x) = stopped x (thrownTo p t)
   handledBy p t Went = transferred NoHandler (cellAt (machine .order) (t .memory) handlerCell) (thrownTo p t)
   handledBy p t (Threw f) = transferred NoHandler (cellAt (machine .order) (t .memory) handlerCell) (thrownTo p t)
 
-  abbrev pub handled : Position → Turned → Carried
-  handled p t = handledBy p t (t .turn .ended)
+  abbrev pub handled : Position → CycleState → Carried
+  handled p t = handledBy p t (t .result .ended)
 
   -- an item that raises
   abbrev pub thrown : Position → Fault → Carried

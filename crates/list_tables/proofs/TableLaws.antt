@@ -11,7 +11,7 @@ use lib.ListN.{length, getD, set, length-set}
 use lib.Seq.{getD-set-same, getD-set-other}
 use Rattle.layout.specs.Kinds as sorts
 use Rattle.layout.specs.declared.Class.the-variants as class
-use Rattle.layout.specs.declared.Form.{Form}
+use Rattle.layout.specs.declared.ItemForm.{ItemForm}
 use Rattle.layout.specs.Flags.{bit, Flags, flagged}
 use Rattle.layout.specs.Listing.{Listing, listed, entry, Checked}
 use Rattle.layout.specs.Layout.{extra, opens, mid, left, formAt, Laid}
@@ -135,7 +135,7 @@ module _ (kinds operands entries marks ats nexts lefts : List ℕ) (checked : Ch
   pub left-low : getD lefts i 0 ≤ 3
   left-low = omega (arith, laid .left i h, left-le (layout (listed kinds operands)) i)
 
-  module _ (g : Form) (form : g ≡ formOf (sorts.classOf (getD kinds i 0)) (eqb (getD marks i 0) 1) (getD operands i 0) (getD lefts i 0)) where
+  module _ (g : ItemForm) (form : g ≡ formOf (sorts.classOf (getD kinds i 0)) (eqb (getD marks i 0) 1) (getD operands i 0) (getD lefts i 0)) where
     pub form-is : g ≡ formAt (layout (listed kinds operands)) i
     unfolding flagged
     form-is =

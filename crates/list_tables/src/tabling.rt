@@ -9,29 +9,29 @@ ghost use Rattle.layout.specs.Packing.{marks as marksOf, layout};
 ghost use Rattle.list_machine.specs.ListMachine as lists;
 ghost use Rattle.list_tables.specs.Tables as tables;
 use cell::CellCount;
-use layout::Form;
+use layout::ItemForm;
 use layout::ItemNumber;
 use listing::kinds::class_of;
 use packing::place::form_of;
 
-fn is_short(form: Form) -> bool
+fn is_short(form: ItemForm) -> bool
     ensures { λ r. ⌜ r ≡ lists.isImmediate form ⌝ }
 {
     match form {
-        Form::Alone => false,
-        Form::Immediate => true,
-        Form::InCell => false,
+        ItemForm::Alone => false,
+        ItemForm::Immediate => true,
+        ItemForm::InCell => false,
     }
 }
 
 // The operand cells of a form.
-fn extra_of(form: Form) -> u32
+fn extra_of(form: ItemForm) -> u32
     ensures { λ r. ⌜ r ≡ placing.extra form ⌝ }
 {
     match form {
-        Form::Alone => 0,
-        Form::Immediate => 0,
-        Form::InCell => 1,
+        ItemForm::Alone => 0,
+        ItemForm::Immediate => 0,
+        ItemForm::InCell => 1,
     }
 }
 

@@ -1,4 +1,4 @@
-// The input list, and the base of an image: what turns a listing back.
+// The input list, and the base of an image: what refuses a listing.
 use crate::kinds::class_of;
 use cell::Address;
 use cell::CellCount;

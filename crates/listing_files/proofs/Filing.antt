@@ -73,7 +73,7 @@ module _ (order : ℕ) (s : List ℕ) where
         most = ltb-false 4096 (fileCount s) (one-clear (ltb 4096 (fileCount s)) ItemCount Passed (t .0) .0);
       }
 
-  -- a bad header turns the packing back, whatever follows
+  -- a bad header refuses the packing, whatever follows
   pub header-refused : (r : Refusal) → judgeHeader order s ≡ Refused r → (size : ℕ) → judgePackFile order s size ≡ Refused r
   unfolding judgeHeader judgePackFile judgedFile
   header-refused r e size = go (judgeOrder order) (judgedLength s) refl (ltb 4096 (fileCount s)) refl e

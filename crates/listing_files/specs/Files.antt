@@ -1,4 +1,4 @@
--- What turns back the packing of a listing file, and what it leaves and answers.
+-- What refuses the packing of a listing file, and what it leaves and answers.
 use mathlib.Core.Path.{_≡_}
 use mathlib.Core.List.{List, [], _∷_}
 use Prim.Native.Nat.{ℕ, _+_, _*_, _≤_}

@@ -23,18 +23,18 @@ use Rattle.machine.specs.declared.Outcome.{Outcome}
 use Rattle.machine.specs.declared.Outcome.the-variants as outcome
 use Rattle.machine.specs.declared.Ended.{Ended}
 use Rattle.machine.specs.declared.Ended.the-variants.{Went, Threw, Stopped}
-use Rattle.machine.specs.declared.Turn.{Turn}
+use Rattle.machine.specs.declared.CycleResult.{CycleResult}
 
 -- memory, registers and how the cycle ended
-pub record Turned : Type 0 where
+pub record CycleState : Type 0 where
   pub memory : List ℕ
-  pub turn : Turn
+  pub result : CycleResult
 
-abbrev pub turned : List ℕ → Registers → Ended → Turned
-turned m r e = record { memory = m; turn = record { registers = r; ended = e } }
+abbrev pub cycleState : List ℕ → Registers → Ended → CycleState
+cycleState m r e = record { memory = m; result = record { registers = r; ended = e } }
 
-abbrev pub turnedTo : List ℕ → Turn → Turned
-turnedTo m t = record { memory = m; turn = t }
+abbrev pub withResult : List ℕ → CycleResult → CycleState
+withResult m t = record { memory = m; result = t }
 
 -- the machine's own reasons
 abbrev pub badStack : ℕ
@@ -62,15 +62,15 @@ entered h x r = record { ep = sum h 4; a = x; sp = r .sp; rp = r .rp }
 
 -- 'BAD has taken EP; EP takes 'THROW and NEXT follows. A 'THROW at which no cell can be read stops the machine with -259, in the
 -- registers that it had
-abbrev pub handed : List ℕ → Registers → Ended → ℕ → Fetched → Turned
-handed m r e h (Cell x) = turned m (entered h x r) e
-handed m r e h (Failed f) = turned m r (Stopped badHandler)
+abbrev pub handed : List ℕ → Registers → Ended → ℕ → Fetched → CycleState
+handed m r e h (Cell x) = cycleState m (entered h x r) e
+handed m r e h (Failed f) = cycleState m r (Stopped badHandler)
 
-abbrev pub toHandler : Machine → List ℕ → Registers → Ended → ℕ → Turned
+abbrev pub toHandler : Machine → List ℕ → Registers → Ended → ℕ → CycleState
 toHandler machine m r e h = handed m r e h (fetchOf machine Stream m h)
 
 -- 'BAD takes EP, then the handler
-unfoldable pub handlerOf : Machine → List ℕ → Registers → Ended → Turned
+unfoldable pub handlerOf : Machine → List ℕ → Registers → Ended → CycleState
 handlerOf machine m r e =
     toHandler machine (storeCell (machine .order) m badCell (r .ep)) r e
     (cellAt (machine .order) (storeCell (machine .order) m badCell (r .ep)) handlerCell)
@@ -84,37 +84,37 @@ noted machine m Illegal = m
 noted machine m Library = m
 
 -- the code at a place that was judged, then the rest of the throw. Where the place is bad, -ADDRESS stays too, and -258 stops the machine
-abbrev pub pushed : Machine → List ℕ → Registers → Fault → ℕ → Checked → Turned
-pushed machine m r f sp (Bad g) = turned m r (Stopped badStack)
+abbrev pub pushed : Machine → List ℕ → Registers → Fault → ℕ → Checked → CycleState
+pushed machine m r f sp (Bad g) = cycleState m r (Stopped badStack)
 pushed machine m r f sp Good =
     handlerOf machine (storeCell (machine .order) (noted machine m f) sp (faultCode f))
     (record { ep = r .ep; a = r .a; sp = sp; rp = r .rp })
     (Threw f)
 
-unfoldable pub throwOf : Machine → List ℕ → Registers → Fault → Turned
+unfoldable pub throwOf : Machine → List ℕ → Registers → Fault → CycleState
 throwOf machine m r f =
     pushed machine m r f (difference (r .sp) 4) (placeOf machine oneCell Push (length m) (difference (r .sp) 4))
 
 -- THROW, 54h, finds its code on the stack already. An unaligned SP stops it with -258
-unfoldable pub throwingOf : Machine → List ℕ → Registers → Turned
-throwingOf machine m r = if (eqb (r .sp % 4) 0) (handlerOf machine m r Went) (turned m r (Stopped badStack))
+unfoldable pub throwingOf : Machine → List ℕ → Registers → CycleState
+throwingOf machine m r = if (eqb (r .sp % 4) 0) (handlerOf machine m r Went) (cycleState m r (Stopped badStack))
 
 -- NEXT moves the cell at EP into A, and EP behind it
-abbrev pub nexted : Machine → List ℕ → Registers → Fetched → Turned
-nexted machine m r (Cell x) = turned m (entered (r .ep) x r) Went
+abbrev pub nexted : Machine → List ℕ → Registers → Fetched → CycleState
+nexted machine m r (Cell x) = cycleState m (entered (r .ep) x r) Went
 nexted machine m r (Failed f) = throwOf machine m r f
 
-unfoldable pub nextOf : Machine → List ℕ → Registers → Turned
+unfoldable pub nextOf : Machine → List ℕ → Registers → CycleState
 nextOf machine m r = nexted machine m r (fetchOf machine Stream m (r .ep))
 
 -- the rest of a cycle, by how the instruction left the machine. A NEXT that an instruction ends in is a step of its own: where it
 -- fails, what the instruction did before it stays done
-abbrev pub finished : Machine → List ℕ → Registers → Outcome → Turned
-finished machine m r outcome.Went = turned m r Went
+abbrev pub finished : Machine → List ℕ → Registers → Outcome → CycleState
+finished machine m r outcome.Went = cycleState m r Went
 finished machine m r outcome.Next = nextOf machine m r
 finished machine m r (outcome.Raise f) = throwOf machine m r f
-finished machine m r (outcome.Halt x) = turned m r (Stopped x)
+finished machine m r (outcome.Halt x) = cycleState m r (Stopped x)
 finished machine m r outcome.Throw = throwingOf machine m r
 
-unfoldable pub finishOf : Machine → Stepped → Turned
+unfoldable pub finishOf : Machine → Stepped → CycleState
 finishOf machine s = finished machine (s .memory) (s .step .registers) (s .step .outcome)

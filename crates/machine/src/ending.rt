@@ -6,12 +6,12 @@ ghost use Rattle.machine.specs.Places as places;
 ghost use Rattle.machine.specs.Commits as commits;
 ghost use Rattle.machine.specs.Throws as throws;
 use crate::Access;
+use crate::CycleResult;
 use crate::Ended;
 use crate::Machine;
 use crate::Outcome;
 use crate::Registers;
 use crate::Step;
-use crate::Turn;
 use crate::fixed::ADDRESS_CELL;
 use crate::fixed::BAD_CELL;
 use crate::fixed::BAD_HANDLER;
@@ -43,13 +43,13 @@ fn enter(h: u32, x: u32, r: Registers) -> Registers
 }
 
 // EP takes 'THROW and NEXT follows, or the machine stops with -259.
-fn to_handler(machine: Machine, memory: &[u8], r: Registers, ended: Ended, h: u32) -> Turn
+fn to_handler(machine: Machine, memory: &[u8], r: Registers, ended: Ended, h: u32) -> CycleResult
     requires { ⌜ places.Whole (now memory) ⌝ }
-    ensures { λ t. ⌜ throws.turnedTo (now (memory .entry)) t ≡ throws.toHandler machine (now (memory .entry)) r ended h ⌝ }
+    ensures { λ t. ⌜ throws.withResult (now (memory .entry)) t ≡ throws.toHandler machine (now (memory .entry)) r ended h ⌝ }
 {
     let got = fetch(machine, Access::Stream, memory, Address(h));
     let Fetched::Cell(x) = got else {
-        return Turn {
+        return CycleResult {
             registers: Registers {
                 ep: r.ep,
                 a: r.a,
@@ -59,7 +59,7 @@ fn to_handler(machine: Machine, memory: &[u8], r: Registers, ended: Ended, h: u3
             ended: Ended::Stopped(BAD_HANDLER),
         };
     };
-    Turn {
+    CycleResult {
         registers: enter(
             h,
             x,
@@ -75,10 +75,10 @@ fn to_handler(machine: Machine, memory: &[u8], r: Registers, ended: Ended, h: u3
 }
 
 // 'BAD takes EP, then the handler.
-pub fn handle(machine: Machine, memory: &mut [u8], r: Registers, ended: Ended) -> Turn
+pub fn handle(machine: Machine, memory: &mut [u8], r: Registers, ended: Ended) -> CycleResult
     requires { ⌜ places.Whole (now memory) ⌝ }
     requires { ⌜ 16 ≤ length (now memory) ⌝ }
-    ensures { λ t. ⌜ throws.turnedTo (now (memory .exit)) t ≡ throws.handlerOf machine (now (memory .entry)) r ended ⌝ }
+    ensures { λ t. ⌜ throws.withResult (now (memory .exit)) t ≡ throws.handlerOf machine (now (memory .entry)) r ended ⌝ }
 {
     store(machine.order, memory, BAD_CELL, r.ep);
     let h = load(machine.order, memory, HANDLER_CELL);
@@ -110,15 +110,15 @@ fn note(machine: Machine, memory: &mut [u8], f: Fault)
     }
 }
 
-pub fn throw(machine: Machine, memory: &mut [u8], r: Registers, f: Fault) -> Turn
+pub fn throw(machine: Machine, memory: &mut [u8], r: Registers, f: Fault) -> CycleResult
     requires { ⌜ places.Whole (now memory) ⌝ }
     requires { ⌜ 16 ≤ length (now memory) ⌝ }
-    ensures { λ t. ⌜ throws.turnedTo (now (memory .exit)) t ≡ throws.throwOf machine (now (memory .entry)) r f ⌝ }
+    ensures { λ t. ⌜ throws.withResult (now (memory .exit)) t ≡ throws.throwOf machine (now (memory .entry)) r f ⌝ }
 {
     let sp = subtract(r.sp, 4);
     let place = check_place(machine, Access::Push, memory.len(), Address(sp));
     let Checked::Good = place else {
-        return Turn {
+        return CycleResult {
             registers: Registers {
                 ep: r.ep,
                 a: r.a,
@@ -144,10 +144,10 @@ pub fn throw(machine: Machine, memory: &mut [u8], r: Registers, f: Fault) -> Tur
 }
 
 // THROW, 54h.
-fn throw_given(machine: Machine, memory: &mut [u8], r: Registers) -> Turn
+fn throw_given(machine: Machine, memory: &mut [u8], r: Registers) -> CycleResult
     requires { ⌜ places.Whole (now memory) ⌝ }
     requires { ⌜ 16 ≤ length (now memory) ⌝ }
-    ensures { λ t. ⌜ throws.turnedTo (now (memory .exit)) t ≡ throws.throwingOf machine (now (memory .entry)) r ⌝ }
+    ensures { λ t. ⌜ throws.withResult (now (memory .exit)) t ≡ throws.throwingOf machine (now (memory .entry)) r ⌝ }
 {
     if r.sp % 4 == 0 {
         return handle(
@@ -162,7 +162,7 @@ fn throw_given(machine: Machine, memory: &mut [u8], r: Registers) -> Turn
             Ended::Went,
         );
     }
-    Turn {
+    CycleResult {
         registers: Registers {
             ep: r.ep,
             a: r.a,
@@ -173,10 +173,10 @@ fn throw_given(machine: Machine, memory: &mut [u8], r: Registers) -> Turn
     }
 }
 
-pub fn next(machine: Machine, memory: &mut [u8], r: Registers) -> Turn
+pub fn next(machine: Machine, memory: &mut [u8], r: Registers) -> CycleResult
     requires { ⌜ places.Whole (now memory) ⌝ }
     requires { ⌜ 16 ≤ length (now memory) ⌝ }
-    ensures { λ t. ⌜ throws.turnedTo (now (memory .exit)) t ≡ throws.nextOf machine (now (memory .entry)) r ⌝ }
+    ensures { λ t. ⌜ throws.withResult (now (memory .exit)) t ≡ throws.nextOf machine (now (memory .entry)) r ⌝ }
 {
     let got = fetch(machine, Access::Stream, memory, Address(r.ep));
     let Fetched::Cell(x) = got else {
@@ -192,7 +192,7 @@ pub fn next(machine: Machine, memory: &mut [u8], r: Registers) -> Turn
             fault_in(got),
         );
     };
-    Turn {
+    CycleResult {
         registers: enter(
             r.ep,
             x,
@@ -208,15 +208,15 @@ pub fn next(machine: Machine, memory: &mut [u8], r: Registers) -> Turn
 }
 
 // The rest of a cycle.
-pub fn finish(machine: Machine, memory: &mut [u8], s: Step) -> Turn
+pub fn finish(machine: Machine, memory: &mut [u8], s: Step) -> CycleResult
     requires { ⌜ places.Whole (now memory) ⌝ }
     requires { ⌜ 16 ≤ length (now memory) ⌝ }
-    ensures { λ t. ⌜ throws.turnedTo (now (memory .exit)) t ≡ throws.finishOf machine (commits.stepped (now (memory .entry)) s) ⌝ }
+    ensures { λ t. ⌜ throws.withResult (now (memory .exit)) t ≡ throws.finishOf machine (commits.stepped (now (memory .entry)) s) ⌝ }
 {
     let outcome = s.outcome;
     let r = s.registers;
     match outcome {
-        Outcome::Went => Turn {
+        Outcome::Went => CycleResult {
             registers: Registers {
                 ep: r.ep,
                 a: r.a,
@@ -246,7 +246,7 @@ pub fn finish(machine: Machine, memory: &mut [u8], s: Step) -> Turn
             },
             f,
         ),
-        Outcome::Halt(x) => Turn {
+        Outcome::Halt(x) => CycleResult {
             registers: Registers {
                 ep: r.ep,
                 a: r.a,

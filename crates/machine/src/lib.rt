@@ -140,7 +140,7 @@ pub enum Ended {
     Stopped(u32),
 }
 
-pub struct Turn {
+pub struct CycleResult {
     pub registers: Registers,
     pub ended: Ended,
 }

@@ -56,11 +56,11 @@ module _ (theirs ours : ℕ) (code m : List ℕ) (a count : ℕ) where
   unfolding copied
   copy-begins = record { within = omega arith; long = refl; so = refl }
 
-  pub copy-turns : (now : List ℕ) (k x : ℕ) (next : List ℕ) → k < count → x ≡ cellAt theirs code (4 * k)
+  pub copy-goes-on : (now : List ℕ) (k x : ℕ) (next : List ℕ) → k < count → x ≡ cellAt theirs code (4 * k)
       → next ≡ storeCell ours now (a + 4 * k) x → Copying theirs ours code m a count now k
       → Copying theirs ours code m a count next (k + 1)
   unfolding copied
-  copy-turns now k x next h e q s =
+  copy-goes-on now k x next h e q s =
       record {
         within = omega arith;
         long = ap length q ∙ store-length ours now (a + 4 * k) x ∙ s .long;

@@ -1,4 +1,4 @@
--- What turns a load or a save back. Document 01, Turned back for the input, Turned back for the state, and the order below them. Every sum
+-- What refuses a load or a save. Document 01, Turned back for the input, Turned back for the state, and the order below them. Every sum
 -- is exact: a count of FFFFFFFFh or an address near 2^32 refuses, and never wraps.
 use mathlib.Core.Bool.{Bool, true, not, _||_, _&&_}
 use mathlib.Core.List.{List, [], _∷_}

@@ -1,4 +1,4 @@
--- What crate `module` means: the file of an object module, what turns a call back, the copy of the cells, and what the two calls answer; then
+-- What crate `module` means: the file of an object module, what refuses a call, the copy of the cells, and what the two calls answer; then
 -- the theorems about the two calls, and a worked example.
 pub mod Format
 pub mod Grounds

@@ -1,4 +1,4 @@
-// What turns a load or a save back, in document 01's order. Sums are taken in 64 bits, where none can wrap.
+// What refuses a load or a save, in document 01's order. Sums are taken in 64 bits, where none can wrap.
 ghost use mathlib.Core.Path.{_≡_};
 ghost use Prim.Native.Nat.{_≤_};
 ghost use lib.ListN.{length};

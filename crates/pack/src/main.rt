@@ -11,7 +11,7 @@ fn print_image(file: &[u8]) {
     print_packed(answer, &output);
 }
 
-// Packs what an open file has. The longest listing has 20,488 bytes, and one more is enough to turn a longer file back.
+// Packs what an open file has. The longest listing has 20,488 bytes, and one more is enough to refuse a longer file.
 fn pack_from(fd: i32, name: &[u8]) {
     let mut file = [0u8; 20489];
     let got = libc::read(fd, &mut file);

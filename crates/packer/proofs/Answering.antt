@@ -19,7 +19,7 @@ use Rattle.packer.specs.Judgement.{judgeInput, judgeImage, judgePack}
 use Rattle.packer.specs.Pack.{packCount, PackResult, packedTo, packIf, packOf}
 use Rattle.packer.proofs.Judging.{pack-halves, all-room}
 
--- an image of cells that were counted, turned back or written
+-- an image of cells that were counted, refused or written
 module _ (order base : ℕ) (l : Listing) (out : List ℕ) (cells : CellCount) (e : cells ≡ cellCount (imageCells l)) where
   pub image-refused : (r : Refusal) → judgeImage base (cells .0) (length out) ≡ judged.Refused r
       → packedTo out (packed.Refused r) ≡ packIf (judgeImage base (imageCells l) (length out)) order base l out

@@ -19,7 +19,7 @@ use Rattle.layout.proofs.Packing.{base-of}
 use Rattle.pack_prepare.proofs.Checking.{arrays-checked}
 use Rattle.packer.specs.Judgement.{judgeOrder, judgeRoom, judgeInput, judgeImage, judgeAll, judgePack}
 
--- four judgements in order: where the first two turn back, they decide; where they pass, the last two do
+-- four judgements in order: where the first two refuse, they decide; where they pass, the last two do
 halves : (a b c d : Judged) → inOrder (a ∷ b ∷ c ∷ d ∷ []) ≡ after (inOrder (a ∷ b ∷ [])) (inOrder (c ∷ d ∷ []))
 halves Passed Passed c d = refl
 halves Passed (Refused r) c d = refl

@@ -1,4 +1,4 @@
--- What turns a packing back. Document 01, Turned back for the input, Turned back for the state, and the order below them. -4101 and -1
+-- What refuses a packing. Document 01, Turned back for the input, Turned back for the state, and the order below them. -4101 and -1
 -- speak of a memory, and a packing has none.
 use mathlib.Core.List.{List, [], _∷_}
 use Prim.Native.Nat.{ℕ, _*_}

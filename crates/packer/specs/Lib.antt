@@ -1,3 +1,3 @@
--- What crate `packer` means: what turns a packing back, and what it leaves and answers.
+-- What crate `packer` means: what refuses a packing, and what it leaves and answers.
 pub mod Judgement
 pub mod Pack

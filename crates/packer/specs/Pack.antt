@@ -33,7 +33,7 @@ pub record PackResult : Type 0 where
 abbrev pub packedTo : List ℕ → Packed → PackResult
 packedTo out a = record { output = out; answer = a; number = packNumber a; count = packCount a }
 
--- a listing at a base: turned back, or its image in the output's first cells, in the byte order
+-- a listing at a base: refused, or its image in the output's first cells, in the byte order
 abbrev pub packIf : Judged → ℕ → ℕ → Listing → List ℕ → PackResult
 packIf (judged.Refused r) order base l out = packedTo out (packed.Refused r)
 packIf judged.Passed order base l out =

@@ -1,4 +1,4 @@
-// What turns a packing back, in document 01's order.
+// What refuses a packing, in document 01's order.
 ghost use mathlib.Core.Path.{_≡_};
 ghost use Prim.Native.Nat.{_≤_};
 ghost use Rattle.packer.specs.Judgement as judgement;

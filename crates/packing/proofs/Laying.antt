@@ -1,4 +1,4 @@
--- One turn of the layout pass.
+-- One step of the layout pass.
 -- Assumes nothing.
 use mathlib.Core.Path.{_≡_, refl, ap, _∙_}
 use mathlib.Core.Bool.{Bool, true, false}
@@ -7,7 +7,7 @@ use Prim.Native.Nat.{ℕ, zero, suc, _+_, _-_, _*_, _≤_, _<_}
 use native.Mathlib.Numerals.{add-one}
 use native.Mathlib.Omega.{arith}
 use lib.ListN.{length, set, length-set}
-use Rattle.layout.specs.declared.Form.{Form}
+use Rattle.layout.specs.declared.ItemForm.{ItemForm}
 use Rattle.layout.specs.Layout.{Spot, fresh, begin, finish, Plan, cur, opens, mid, left, Laid}
 use Rattle.layout.proofs.Placing.{left-le, at-most, begin-most}
 use Rattle.listing.proofs.Flags.{stored-more}
@@ -30,7 +30,7 @@ module _ (p : Plan) (i : ℕ) (c d : Spot) (e : Bool) (at-item : c ≡ cur p i) 
   pub mid-is : d ≡ mid p i
   mid-is = begun ∙ rw (at-item, is-entry)
 
-  pub next-is : (g : Form) (r : Spot) → g ≡ p .form i (d .free - 1) → r ≡ finish g (d .free - 1) d → r ≡ cur p (i + 1)
+  pub next-is : (g : ItemForm) (r : Spot) → g ≡ p .form i (d .free - 1) → r ≡ finish g (d .free - 1) d → r ≡ cur p (i + 1)
   unfolding cur
   next-is g r q s = rw add-one (s ∙ rw (q, mid-is))
 
@@ -49,7 +49,7 @@ laid-none p ats nexts lefts =
     record { at = λ j h. absurd (omega arith); next = λ j h. absurd (omega arith); left = λ j h. absurd (omega arith) }
 
 -- what the pass keeps before item i
-pub record LayTurn (p : Plan) (n : ℕ) (ats nexts lefts : List ℕ) (c : Spot) (i : ℕ) : Type 0 where
+pub record LayStep (p : Plan) (n : ℕ) (ats nexts lefts : List ℕ) (c : Spot) (i : ℕ) : Type 0 where
   pub inside : i ≤ n
   pub ats-length : length ats ≡ n
   pub nexts-length : length nexts ≡ n
@@ -57,7 +57,7 @@ pub record LayTurn (p : Plan) (n : ℕ) (ats nexts lefts : List ℕ) (c : Spot) 
   pub item : c ≡ cur p i
   pub laid : Laid p ats nexts lefts i
 
-module _ (p : Plan) (n : ℕ) (ats nexts lefts : List ℕ) (c : Spot) (i : ℕ) (t : LayTurn p n ats nexts lefts c i) (h : i < n)
+module _ (p : Plan) (n : ℕ) (ats nexts lefts : List ℕ) (c : Spot) (i : ℕ) (t : LayStep p n ats nexts lefts c i) (h : i < n)
     (most : n ≤ 4096) where
   pub lay-room : c .next ≤ 8192
   lay-room = omega (arith, ap (λ (x : Spot). x .next) (t .item), at-most p i)
@@ -72,9 +72,9 @@ module _ (p : Plan) (n : ℕ) (ats nexts lefts : List ℕ) (c : Spot) (i : ℕ) 
     pub lay-next : d .next ≤ 8193
     lay-next = omega (arith, ap (λ (x : Spot). x .next) (mid-is p i c d e (t .item) q s), mid-most p i)
 
-    pub lay-turn : (g : Form) (r : Spot) → g ≡ p .form i (d .free - 1) → r ≡ finish g (d .free - 1) d
-        → LayTurn p n (set ats i (d .at)) (set nexts i (d .next)) (set lefts i (d .free - 1)) r (i + 1)
-    lay-turn g r y z =
+    pub lay-step : (g : ItemForm) (r : Spot) → g ≡ p .form i (d .free - 1) → r ≡ finish g (d .free - 1) d
+        → LayStep p n (set ats i (d .at)) (set nexts i (d .next)) (set lefts i (d .free - 1)) r (i + 1)
+    lay-step g r y z =
         let m = mid-is p i c d e (t .item) q s in
         record {
           inside = omega arith;

@@ -1,4 +1,4 @@
--- One turn of the mark pass.
+-- One step of the mark pass.
 -- Assumes nothing.
 use mathlib.Core.Path.{_≡_, refl, sym, ap, _∙_, fun-ext}
 use mathlib.Core.Bool.{Bool, true, false, _||_, or-true, or-false}
@@ -13,7 +13,7 @@ use borrow.Author.Tests.{ne-eqb}
 use lib.ListN.{length, getD, set, length-set, List·getD-eq-default}
 use lib.Seq.{getD-set-same, getD-set-other}
 use Rattle.layout.specs.declared.Class.{Class}
-use Rattle.layout.specs.declared.Form.{Form}
+use Rattle.layout.specs.declared.ItemForm.{ItemForm}
 use Rattle.layout.specs.declared.Class.the-variants.{Plain as plain, Literal as literal, Branch as branch, NoKind as noKind}
 use Rattle.layout.specs.Kinds.{classOf}
 use Rattle.layout.specs.Bytes.{fits}
@@ -27,7 +27,7 @@ use Rattle.layout.proofs.Placing.{left-le}
 use Rattle.layout.proofs.Listing.{target-below}
 use Rattle.layout.proofs.Rounds.{any-none}
 
-new-same : (c : Class) (g : Form) (a b : Bool) → (c ≡ branch → a ≡ b) → newOf c g a ≡ newOf c g b
+new-same : (c : Class) (g : ItemForm) (a b : Bool) → (c ≡ branch → a ≡ b) → newOf c g a ≡ newOf c g b
 new-same plain g a b h = refl
 new-same literal g a b h = refl
 new-same branch g a b h = ap (newOf branch g) (h refl)
@@ -45,7 +45,7 @@ module _ (l : Listing) (ok : judgedListing l ≡ Passed) (m : ℕ → Bool) (ats
       (λ q. ap (λ (to : ℕ). fits (left (plan l m) i) (distance (mid (plan l m) i .next) to))
       (laid .at (l .operand i) (target-below l ok i h q))))
 
-pub record MarkTurn (l : Listing) (before : List ℕ) (n : ℕ) (marks : List ℕ) (added : Bool) (i : ℕ) : Type 0 where
+pub record MarkStep (l : Listing) (before : List ℕ) (n : ℕ) (marks : List ℕ) (added : Bool) (i : ℕ) : Type 0 where
   pub inside : i ≤ n
   pub size : length marks ≡ n
   pub some : added ≡ any (new l (flagged before)) i
@@ -53,7 +53,7 @@ pub record MarkTurn (l : Listing) (before : List ℕ) (n : ℕ) (marks : List �
   pub rest : (j : ℕ) → i ≤ j → getD marks j 0 ≡ getD before j 0
 
 module _ (l : Listing) (before : List ℕ) (n : ℕ) (marks : List ℕ) (added : Bool) (i : ℕ)
-    (t : MarkTurn l before n marks added i) (h : i < n) where
+    (t : MarkStep l before n marks added i) (h : i < n) where
   pub as-before : flagged marks i ≡ flagged before i
   unfolding flagged
   as-before = rw (t .rest i (omega arith))
@@ -71,9 +71,9 @@ module _ (l : Listing) (before : List ℕ) (n : ℕ) (marks : List ℕ) (added :
       ⊎-elim (λ (e : j ≡ i). rw e here) (λ (e : j < i). f j e)
       (eq-or-lt-of-le (le-of-suc-le-suc (let z : suc j ≤ suc i = omega arith in z)))
 
-  pub mark-turn : new l (flagged before) i ≡ true → MarkTurn l before n (set marks i 1) true (i + 1)
+  pub mark-step : new l (flagged before) i ≡ true → MarkStep l before n (set marks i 1) true (i + 1)
   unfolding flagged Done
-  mark-turn q =
+  mark-step q =
       record {
         inside = omega arith;
         size = length-set marks i 1 ∙ t .size;
@@ -85,9 +85,9 @@ module _ (l : Listing) (before : List ℕ) (n : ℕ) (marks : List ℕ) (added :
         rest = λ j k. getD-set-other marks i j 1 0 (λ (e : j ≡ i). omega arith) ∙ t .rest j (omega arith);
       }
 
-  pub pass-turn : new l (flagged before) i ≡ false → MarkTurn l before n marks added (i + 1)
+  pub pass-step : new l (flagged before) i ≡ false → MarkStep l before n marks added (i + 1)
   unfolding Done
-  pass-turn q =
+  pass-step q =
       record {
         inside = omega arith;
         size = t .size;
@@ -96,7 +96,7 @@ module _ (l : Listing) (before : List ℕ) (n : ℕ) (marks : List ℕ) (added :
         rest = λ j k. t .rest j (omega arith);
       }
 
-pub mark-start : (l : Listing) (before : List ℕ) (n : ℕ) → length before ≡ n → MarkTurn l before n before false 0
+pub mark-start : (l : Listing) (before : List ℕ) (n : ℕ) → length before ≡ n → MarkStep l before n before false 0
 unfolding any
 mark-start l before n e =
     record { inside = omega arith; size = e; some = refl; done = λ j h. absurd (omega arith); rest = λ j h. refl }

@@ -4,7 +4,7 @@ use crate::measure::fits_in;
 use crate::place::taken;
 use cell::CellCount;
 use layout::Class;
-use layout::Form;
+use layout::ItemForm;
 use layout::ItemNumber;
 use listing::kinds::class_of;
 ghost use mathlib.Core.Bool.{true};
@@ -40,12 +40,12 @@ fn newly(kind: u8, marked: bool, x: u32, f: u32, next: CellCount, ats: &[u32]) -
         Class::Branch => {
             let g = taken(marked, f);
             match g {
-                Form::Alone => false,
-                Form::Immediate => {
+                ItemForm::Alone => false,
+                ItemForm::Immediate => {
                     let fit = fits_in(f, distance_of(next, place_of(ats, ItemNumber(x))));
                     !fit
                 }
-                Form::InCell => false,
+                ItemForm::InCell => false,
             }
         }
         Class::NoKind => false,

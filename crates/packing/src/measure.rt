@@ -3,7 +3,7 @@ use cell::Address;
 use cell::CellCount;
 use cell::place::address_at;
 use layout::Class;
-use layout::Form;
+use layout::ItemForm;
 use std::num::wrapping_sub_u32;
 ghost use mathlib.Core.Bool.{_&&_, _||_};
 ghost use mathlib.Core.Path.{_≡_};
@@ -44,7 +44,7 @@ pub fn distance_of(next: CellCount, to: CellCount) -> u32
 }
 
 // The value of an item with operand x. The base is legal, and an image has at most 8,192 cells.
-pub fn value_of(c: Class, g: Form, x: u32, next: CellCount, to: CellCount, base: Address) -> u32
+pub fn value_of(c: Class, g: ItemForm, x: u32, next: CellCount, to: CellCount, base: Address) -> u32
     requires { ⌜ (base .0 ≤ 16777216) × (to .0 ≤ 8192) ⌝ }
     ensures { λ r. ⌜ r ≡ valueOf c g x (next .0) (to .0) (base .0) ⌝ }
 {
@@ -52,9 +52,9 @@ pub fn value_of(c: Class, g: Form, x: u32, next: CellCount, to: CellCount, base:
         Class::Plain => 0,
         Class::Literal => x,
         Class::Branch => match g {
-            Form::Alone => 0,
-            Form::Immediate => distance_of(next, to),
-            Form::InCell => {
+            ItemForm::Alone => 0,
+            ItemForm::Immediate => distance_of(next, to),
+            ItemForm::InCell => {
                 let target = address_at(base, to);
                 target.0
             }

@@ -3,7 +3,7 @@ use crate::measure::fits_in;
 use cell::CellCount;
 use layout::Class;
 use layout::Cursor;
-use layout::Form;
+use layout::ItemForm;
 ghost use mathlib.Core.Path.{_≡_};
 ghost use Prim.Native.Nat.{_-_, _≤_, _<_};
 ghost use Rattle.layout.specs.Layout.{spotOf, opening, fresh, begin, finish};
@@ -37,24 +37,24 @@ pub fn begun(c: Cursor, entry: bool) -> Cursor
 }
 
 // The cursor after an item in the form g.
-pub fn finished(c: Cursor, g: Form) -> Cursor
+pub fn finished(c: Cursor, g: ItemForm) -> Cursor
     requires { ⌜ (0 < c .free) × (c .next .0 ≤ 8193) ⌝ }
     ensures { λ r. ⌜ spotOf r ≡ finish g (c .free - 1) (spotOf c) ⌝ }
 {
     let at = c.at;
     let next = c.next;
     match g {
-        Form::Alone => Cursor {
+        ItemForm::Alone => Cursor {
             at: at,
             free: c.free - 1,
             next: next,
         },
-        Form::Immediate => Cursor {
+        ItemForm::Immediate => Cursor {
             at: at,
             free: 0,
             next: next,
         },
-        Form::InCell => Cursor {
+        ItemForm::InCell => Cursor {
             at: at,
             free: c.free - 1,
             next: CellCount(next.0 + 1),
@@ -63,30 +63,30 @@ pub fn finished(c: Cursor, g: Form) -> Cursor
 }
 
 // The form of a literal or a branch with f bytes left.
-pub fn taken(marked: bool, f: u32) -> Form
+pub fn taken(marked: bool, f: u32) -> ItemForm
     ensures { λ r. ⌜ r ≡ taking marked f ⌝ }
 {
     if f == 0 {
-        return Form::InCell;
+        return ItemForm::InCell;
     }
     if marked {
-        return Form::InCell;
+        return ItemForm::InCell;
     }
-    Form::Immediate
+    ItemForm::Immediate
 }
 
 // The form of an item with operand x and f bytes left.
-pub fn form_of(c: Class, marked: bool, x: u32, f: u32) -> Form
+pub fn form_of(c: Class, marked: bool, x: u32, f: u32) -> ItemForm
     requires { ⌜ f ≤ 3 ⌝ }
     ensures { λ r. ⌜ r ≡ formOf c marked x f ⌝ }
 {
     match c {
-        Class::Plain => Form::Alone,
+        Class::Plain => ItemForm::Alone,
         Class::Literal => {
             let fit = fits_in(f, x);
             taken(!fit, f)
         }
         Class::Branch => taken(marked, f),
-        Class::NoKind => Form::Alone,
+        Class::NoKind => ItemForm::Alone,
     }
 }

@@ -75,7 +75,7 @@ pub fn marked() {
     row(b"a marked branch", &kinds, &operands);
 }
 
-// What the input list turns back, after the byte order.
+// What the input list refuses, after the byte order.
 fn bad_input() {
     show(b"order 2", 2, &[0x00], &[], Address(0x12), 0);
     row(b"no item", &[], &[]);

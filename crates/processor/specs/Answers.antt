@@ -10,7 +10,7 @@ use Rattle.cell.specs.declared.Fault.{Fault}
 use Rattle.cell.specs.declared.Fault.the-variants.{Range, Alignment, Divisor, Illegal, Library}
 use Rattle.cell.specs.declared.Judged.{Judged}
 use Rattle.cell.specs.declared.Judged.the-variants as judged
-use Rattle.machine.specs.Throws.{Turned, turned}
+use Rattle.machine.specs.Throws.{CycleState, cycleState}
 use Rattle.machine.specs.declared.Machine.{Machine}
 use Rattle.machine.specs.declared.Registers.{Registers}
 use Rattle.machine.specs.declared.Ended.{Ended}
@@ -73,7 +73,7 @@ abbrev pub startIf : Judged → ℕ → List ℕ → ℕ → ℕ → StartAnswer
 startIf (judged.Refused n) order m ep handler = startedTo m (started.Refused n)
 startIf judged.Passed order m ep handler =
     let t = startOf (machineOf order) m ep handler in
-    startedTo (t .memory) (startedAs (t .turn .registers) (t .turn .ended))
+    startedTo (t .memory) (startedAs (t .result .registers) (t .result .ended))
 
 unfoldable pub startAnswer : ℕ → List ℕ → ℕ → ℕ → StartAnswer
 startAnswer order m ep handler = startIf (judgeMachine (length m) order) order m ep handler
@@ -140,7 +140,7 @@ abbrev pub cycleIf : Judged → ℕ → List ℕ → Registers → CycleAnswer
 cycleIf (judged.Refused n) order m r = cycledTo r m (cycled.Refused n)
 cycleIf judged.Passed order m r =
     let t = cycleOf (machineOf order) m r in
-    cycledTo r (t .memory) (cycledAs (t .turn .registers) (t .turn .ended))
+    cycledTo r (t .memory) (cycledAs (t .result .registers) (t .result .ended))
 
 unfoldable pub cycleAnswer : ℕ → List ℕ → Registers → CycleAnswer
 cycleAnswer order m r = cycleIf (judgeMachine (length m) order) order m r
@@ -162,9 +162,9 @@ counted Went n = suc n
 counted (Threw f) n = suc n
 counted (Stopped x) n = 1
 
-unfoldable pub doneOf : Machine → ℕ → Turned → ℕ
+unfoldable pub doneOf : Machine → ℕ → CycleState → ℕ
 doneOf machine zero s = 0
-doneOf machine (suc b) s = counted (advance machine s .turn .ended) (doneOf machine b (advance machine s))
+doneOf machine (suc b) s = counted (advance machine s .result .ended) (doneOf machine b (advance machine s))
 
 -- run: the number (0 spent, 1 stopped, or the refusal's), the reason of a stop, the registers (those given on a refusal), and the cycles: none on a
 -- refusal, the budget where it is spent, those done where it stopped. Document 01, The processor, on run: the budget is spent exactly if so many
@@ -215,11 +215,11 @@ ranAs r n (Threw f) = ran.Spent r
 ranAs r n (Stopped x) = ran.Stopped r x n
 
 -- n cycles were done, and left t
-abbrev pub runFor : Registers → ℕ → ℕ → Turned → RunAnswer
-runFor given budget n t = ranTo given budget (t .memory) (ranAs (t .turn .registers) n (t .turn .ended))
+abbrev pub runFor : Registers → ℕ → ℕ → CycleState → RunAnswer
+runFor given budget n t = ranTo given budget (t .memory) (ranAs (t .result .registers) n (t .result .ended))
 
-abbrev pub begun : List ℕ → Registers → Turned
-begun m r = turned m r Went
+abbrev pub begun : List ℕ → Registers → CycleState
+begun m r = cycleState m r Went
 
 abbrev pub runIf : Judged → ℕ → List ℕ → Registers → ℕ → RunAnswer
 runIf (judged.Refused n) order m r budget = ranTo r budget m (ran.Refused n)

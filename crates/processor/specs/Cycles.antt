@@ -4,7 +4,7 @@ use Prim.Native.Nat.{ℕ, zero, suc, _-_, _%_}
 use lib.ListN.{length}
 use Rattle.cell.specs.Memory.{storeCell}
 use Rattle.cell.specs.Shift.{asr8}
-use Rattle.machine.specs.Throws.{Turned, finishOf, nextOf, handlerCell, memoryCell, badCell, addressCell}
+use Rattle.machine.specs.Throws.{CycleState, finishOf, nextOf, handlerCell, memoryCell, badCell, addressCell}
 use Rattle.machine.specs.declared.Machine.{Machine}
 use Rattle.machine.specs.declared.Registers.{Registers}
 use Rattle.machine.specs.declared.Ended.{Ended}
@@ -15,20 +15,20 @@ use Rattle.instruction.specs.Dispatch.{decodeOf, executeOf}
 abbrev pub shifted : Registers → Registers
 shifted r = record { ep = r .ep; a = asr8 (r .a); sp = r .sp; rp = r .rp }
 
-unfoldable pub cycleOf : Machine → List ℕ → Registers → Turned
+unfoldable pub cycleOf : Machine → List ℕ → Registers → CycleState
 cycleOf machine m r = finishOf machine (executeOf machine m (shifted r) (decodeOf (r .a % 256)))
 
 -- one cycle more; a stop stays
-abbrev pub advanced : Machine → Turned → Ended → Turned
-advanced machine s Went = cycleOf machine (s .memory) (s .turn .registers)
-advanced machine s (Threw f) = cycleOf machine (s .memory) (s .turn .registers)
+abbrev pub advanced : Machine → CycleState → Ended → CycleState
+advanced machine s Went = cycleOf machine (s .memory) (s .result .registers)
+advanced machine s (Threw f) = cycleOf machine (s .memory) (s .result .registers)
 advanced machine s (Stopped x) = s
 
-unfoldable pub advance : Machine → Turned → Turned
-advance machine s = advanced machine s (s .turn .ended)
+unfoldable pub advance : Machine → CycleState → CycleState
+advance machine s = advanced machine s (s .result .ended)
 
 -- n cycles
-unfoldable pub cyclesOf : Machine → ℕ → Turned → Turned
+unfoldable pub cyclesOf : Machine → ℕ → CycleState → CycleState
 cyclesOf machine zero s = s
 cyclesOf machine (suc n) s = cyclesOf machine n (advance machine s)
 
@@ -42,6 +42,6 @@ fourCells machine m handler =
     0xFFFFFFFF
 
 -- the return stack begins at the end of memory, the data stack 100h below it, and NEXT fetches the first cell
-unfoldable pub startOf : Machine → List ℕ → ℕ → ℕ → Turned
+unfoldable pub startOf : Machine → List ℕ → ℕ → ℕ → CycleState
 startOf machine m ep handler =
     nextOf machine (fourCells machine m handler) (record { ep = ep; a = 0; sp = length m - 0x100; rp = length m })

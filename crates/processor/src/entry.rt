@@ -9,16 +9,16 @@ ghost use Rattle.processor.specs.Answers as answers;
 use crate::Cycled;
 use crate::Ran;
 use crate::Started;
-use crate::turning::Progress;
-use crate::turning::turns;
+use crate::cycling::Progress;
+use crate::cycling::run_cycles;
 use cell::Address;
 use cell::Judged;
 use cell::judgement::judge_machine;
 use cell::memory::store;
+use machine::CycleResult;
 use machine::Ended;
 use machine::Machine;
 use machine::Registers;
-use machine::Turn;
 use machine::ending::next;
 use machine::fixed::ADDRESS_CELL;
 use machine::fixed::BAD_CELL;
@@ -26,11 +26,11 @@ use machine::fixed::HANDLER_CELL;
 use machine::fixed::MEMORY_CELL;
 
 // The four cells at the start of memory, the registers, then NEXT.
-fn begin(machine: Machine, memory: &mut [u8], ep: Address, handler: Address) -> Turn
+fn begin(machine: Machine, memory: &mut [u8], ep: Address, handler: Address) -> CycleResult
     requires { ⌜ places.Whole (now memory) ⌝ }
     requires { ⌜ 1024 ≤ length (now memory) ⌝ }
     requires { ⌜ length (now memory) ≤ 16777216 ⌝ }
-    ensures { λ t. ⌜ throws.turnedTo (now (memory .exit)) t ≡ cycles.startOf machine (now (memory .entry)) (ep .0) (handler .0) ⌝ }
+    ensures { λ t. ⌜ throws.withResult (now (memory .exit)) t ≡ cycles.startOf machine (now (memory .entry)) (ep .0) (handler .0) ⌝ }
 {
     let length = memory.len() as u32;
     store(machine.order, memory, HANDLER_CELL, handler.0);
@@ -50,7 +50,7 @@ fn begin(machine: Machine, memory: &mut [u8], ep: Address, handler: Address) -> 
     )
 }
 
-fn started_as(t: Turn) -> Started
+fn started_as(t: CycleResult) -> Started
     ensures { λ s. ⌜ s ≡ answers.startedAs (t .registers) (t .ended) ⌝ }
 {
     let r = t.registers;
@@ -71,7 +71,7 @@ pub fn start(order: u8, memory: &mut [u8], ep: Address, handler: Address) -> Sta
     }
 }
 
-fn cycled_as(t: Turn) -> Cycled
+fn cycled_as(t: CycleResult) -> Cycled
     ensures { λ c. ⌜ c ≡ answers.cycledAs (t .registers) (t .ended) ⌝ }
 {
     let r = t.registers;
@@ -89,8 +89,8 @@ pub fn cycle(order: u8, memory: &mut [u8], r: Registers) -> Cycled
     match judge_machine(memory.len(), order) {
         Judged::Refused(n) => Cycled::Refused(n),
         Judged::Passed => {
-            let t = turns(Machine { order: order }, memory, r, 1);
-            let u = t.turn;
+            let t = run_cycles(Machine { order: order }, memory, r, 1);
+            let u = t.result;
             cycled_as(u)
         }
     }
@@ -98,9 +98,9 @@ pub fn cycle(order: u8, memory: &mut [u8], r: Registers) -> Cycled
 
 fn ran_as(t: Progress, budget: u32) -> Ran
     requires { ⌜ t .left ≤ budget ⌝ }
-    ensures { λ a. ⌜ a ≡ answers.ranAs (t .turn .registers) (budget - t .left) (t .turn .ended) ⌝ }
+    ensures { λ a. ⌜ a ≡ answers.ranAs (t .result .registers) (budget - t .left) (t .result .ended) ⌝ }
 {
-    let u = t.turn;
+    let u = t.result;
     let r = u.registers;
     let ended = u.ended;
     match ended {
@@ -115,6 +115,9 @@ pub fn run(order: u8, memory: &mut [u8], r: Registers, budget: u32) -> Ran
 {
     match judge_machine(memory.len(), order) {
         Judged::Refused(n) => Ran::Refused(n),
-        Judged::Passed => ran_as(turns(Machine { order: order }, memory, r, budget), budget),
+        Judged::Passed => ran_as(
+            run_cycles(Machine { order: order }, memory, r, budget),
+            budget,
+        ),
     }
 }

@@ -1,6 +1,6 @@
 // The processor: start, cycle and run.
+pub mod cycling;
 pub mod entry;
-pub mod turning;
 
 use cell::Fault;
 use cell::Refusal;

@@ -13,20 +13,20 @@ use Rattle.machine.specs.declared.Registers.{Registers}
 use Rattle.machine.specs.declared.Access.the-variants.{DataRead, ReturnRead, ReturnWrite}
 use Rattle.instruction.specs.Plain.{action}
 use Rattle.instruction.specs.Taking.{loop, plusLoop, takingOf, takingAt}
-use Rattle.instruction.specs.declared.Form.the-variants.{Immediate}
+use Rattle.instruction.specs.declared.OperandForm.the-variants.{Immediate}
 use Rattle.instruction.proofs.ShapeLaws.{branch-target}
-use Rattle.shapes.specs.Looping.{isOver, turnOf}
+use Rattle.shapes.specs.Looping.{isOver, loopedOf}
 
 module _ (machine : Machine) (m : List ℕ) (r : Registers) where
-  pub loop-is : (e : Effect) (to : ℕ) → to ≡ sum (r .ep) (r .a % 0x40000000 * 4) → e ≡ turnOf machine m (r .sp) (r .rp) to 1 false
+  pub loop-is : (e : Effect) (to : ℕ) → to ≡ sum (r .ep) (r .a % 0x40000000 * 4) → e ≡ loopedOf machine m (r .sp) (r .rp) to 1 false
       → e ≡ takingAt machine Immediate loop m r
-  unfolding turnOf takingOf
+  unfolding loopedOf takingOf
   loop-is e to q h = h ∙ rw (q ∙ branch-target (r .ep) (r .a))
 
   pub plus-loop-is : (e : Effect) (to n sp : ℕ) → to ≡ sum (r .ep) (r .a % 0x40000000 * 4) → sp ≡ sum (r .sp) 4
-      → fetchOf machine DataRead m (r .sp) ≡ Cell n → e ≡ turnOf machine m sp (r .rp) to n true
+      → fetchOf machine DataRead m (r .sp) ≡ Cell n → e ≡ loopedOf machine m sp (r .rp) to n true
       → e ≡ takingAt machine Immediate plusLoop m r
-  unfolding turnOf takingOf
+  unfolding loopedOf takingOf
   plus-loop-is e to n sp q s f h = h ∙ rw (q ∙ branch-target (r .ep) (r .a), s, f)
 
   pub plus-loop-fails : (e : Effect) (f : Fault) → fetchOf machine DataRead m (r .sp) ≡ Failed f → e ≡ raise f
@@ -34,23 +34,23 @@ module _ (machine : Machine) (m : List ℕ) (r : Registers) where
   unfolding takingOf
   plus-loop-fails e f g h = h ∙ rw g
 
--- one turn, once its fetches are known
+-- one step, once its fetches are known
 module _ (machine : Machine) (m : List ℕ) (sp rp to n : ℕ) (plus : Bool) where
-  pub turn-fails : (f : Fault) → fetchOf machine ReturnRead m rp ≡ Failed f → turnOf machine m sp rp to n plus ≡ raise f
-  unfolding turnOf
-  turn-fails f e = rw e
+  pub looped-fails : (f : Fault) → fetchOf machine ReturnRead m rp ≡ Failed f → loopedOf machine m sp rp to n plus ≡ raise f
+  unfolding loopedOf
+  looped-fails f e = rw e
 
   module _ (index : ℕ) (first : fetchOf machine ReturnRead m rp ≡ Cell index) where
-    pub turn-fails-too : (f : Fault) → fetchOf machine ReturnRead m (sum rp 4) ≡ Failed f → turnOf machine m sp rp to n plus ≡ raise f
-    unfolding turnOf
-    turn-fails-too f e = rw (first, e)
+    pub looped-fails-too : (f : Fault) → fetchOf machine ReturnRead m (sum rp 4) ≡ Failed f → loopedOf machine m sp rp to n plus ≡ raise f
+    unfolding loopedOf
+    looped-fails-too f e = rw (first, e)
 
     module _ (limit : ℕ) (second : fetchOf machine ReturnRead m (sum rp 4) ≡ Cell limit) where
-      pub turn-ends : isOver plus index (sum index n) limit ≡ true → turnOf machine m sp rp to n plus ≡ action sp (sum rp 8) [] goOn
-      unfolding turnOf
-      turn-ends e = rw (first, second, e)
+      pub looped-ends : isOver plus index (sum index n) limit ≡ true → loopedOf machine m sp rp to n plus ≡ action sp (sum rp 8) [] goOn
+      unfolding loopedOf
+      looped-ends e = rw (first, second, e)
 
-      pub turn-goes : isOver plus index (sum index n) limit ≡ false
-          → turnOf machine m sp rp to n plus ≡ action sp rp (cellStore ReturnWrite rp (sum index n) ∷ []) (jump to)
-      unfolding turnOf
-      turn-goes e = rw (first, second, e)
+      pub looped-goes : isOver plus index (sum index n) limit ≡ false
+          → loopedOf machine m sp rp to n plus ≡ action sp rp (cellStore ReturnWrite rp (sum index n) ∷ []) (jump to)
+      unfolding loopedOf
+      looped-goes e = rw (first, second, e)

@@ -17,8 +17,8 @@ isOver false index next limit = eqb next limit
 isOver true index next limit = crosses index next limit
 
 -- to is where the loop goes on, sp SP behind it
-unfoldable pub turnOf : Machine → List ℕ → ℕ → ℕ → ℕ → ℕ → Bool → Effect
-turnOf machine m sp rp to n plus =
+unfoldable pub loopedOf : Machine → List ℕ → ℕ → ℕ → ℕ → ℕ → Bool → Effect
+loopedOf machine m sp rp to n plus =
     return2 machine m rp
     (λ limit index.
     if (isOver plus index (sum index n) limit) (action sp (sum rp 8) [] goOn)

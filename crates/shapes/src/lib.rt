@@ -1,12 +1,12 @@
 // What an instruction would do, as a value: found by reading alone, so that it can be judged before anything is written.
 pub mod carrying;
-pub mod first;
-pub mod fourth;
+pub mod from_01;
+pub mod from_16;
+pub mod from_2c;
+pub mod from_46;
 pub mod judging;
 pub mod looping;
-pub mod second;
 pub mod taking;
-pub mod third;
 
 use machine::ByteStore;
 use machine::MaybeStore;

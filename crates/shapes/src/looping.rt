@@ -4,14 +4,14 @@ ghost use mathlib.Core.Path.{_≡_};
 ghost use Rattle.machine.specs.Places as places;
 ghost use Rattle.machine.specs.Effects as effects;
 ghost use Rattle.instruction.specs.Taking as taking;
-ghost use Rattle.instruction.specs.declared.Form.the-variants as form;
+ghost use Rattle.instruction.specs.declared.OperandForm.the-variants as form;
 ghost use Rattle.shapes.specs.Looping as looping;
 use cell::Address;
 use cell::Fetched;
 use cell::number::add;
 use instruction::shape::fail_maybe;
 use instruction::shape::is_crossed;
-use instruction::shape::maybe_not;
+use instruction::shape::write_nothing;
 use machine::Access;
 use machine::Machine;
 use machine::MaybeStore;
@@ -30,7 +30,7 @@ fn is_over(plus: bool, index: u32, next: u32, limit: u32) -> bool
 }
 
 // The index gains n; sp is SP behind the loop.
-fn propose_turn(
+fn propose_step(
     machine: Machine,
     memory: &[u8],
     sp: u32,
@@ -40,7 +40,7 @@ fn propose_turn(
     plus: bool,
 ) -> MaybeStore
     requires { ⌜ places.Whole (now memory) ⌝ }
-    ensures { λ e. ⌜ effects.maybeStore e ≡ looping.turnOf machine (now (memory .entry)) sp rp to n plus ⌝ }
+    ensures { λ e. ⌜ effects.maybeStore e ≡ looping.loopedOf machine (now (memory .entry)) sp rp to n plus ⌝ }
 {
     let got = fetch(machine, Access::ReturnRead, memory, Address(rp));
     let Fetched::Cell(index) = got else {
@@ -52,7 +52,7 @@ fn propose_turn(
     };
     let next = add(index, n);
     if is_over(plus, index, next, limit) {
-        return maybe_not(sp, add(rp, 8));
+        return write_nothing(sp, add(rp, 8));
     }
     MaybeStore {
         sp: sp,
@@ -72,7 +72,7 @@ pub fn propose_loop(machine: Machine, memory: &[u8], r: Registers) -> MaybeStore
     ensures { λ e. ⌜ effects.maybeStore e ≡ taking.takingAt machine form.Immediate taking.loop (now (memory .entry)) r ⌝ }
 {
     let to = add(r.ep, r.a % 0x40000000 * 4);
-    propose_turn(machine, memory, r.sp, r.rp, to, 1, false)
+    propose_step(machine, memory, r.sp, r.rp, to, 1, false)
 }
 
 pub fn propose_plus_loop(machine: Machine, memory: &[u8], r: Registers) -> MaybeStore
@@ -84,5 +84,5 @@ pub fn propose_plus_loop(machine: Machine, memory: &[u8], r: Registers) -> Maybe
         return fail_maybe(got);
     };
     let to = add(r.ep, r.a % 0x40000000 * 4);
-    propose_turn(machine, memory, add(r.sp, 4), r.rp, to, n, true)
+    propose_step(machine, memory, add(r.sp, 4), r.rp, to, n, true)
 }

@@ -15,10 +15,10 @@ use instruction::shape::fail_one;
 use instruction::shape::fail_three;
 use instruction::shape::fail_two;
 use instruction::shape::fetch_deep;
-use instruction::shape::maybe_not;
 use instruction::shape::push;
 use instruction::shape::reduce;
 use instruction::shape::replace;
+use instruction::shape::write_nothing;
 use machine::Access;
 use machine::Machine;
 use machine::MaybeStore;
@@ -260,7 +260,7 @@ pub fn question_dup(machine: Machine, memory: &[u8], r: Registers) -> MaybeStore
         return fail_maybe(got);
     };
     if x == 0 {
-        return maybe_not(r.sp, r.rp);
+        return write_nothing(r.sp, r.rp);
     }
     let sp = subtract(r.sp, 4);
     MaybeStore {

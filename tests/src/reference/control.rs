@@ -61,7 +61,7 @@ pub fn loop_once<M: Memory>(
     let index = m.fetch(r.rp)?;
     let limit = m.fetch(above(r.rp, 1))?;
     let new = index.wrapping_add(1);
-    turn(m, r, new == limit, new, target)
+    step(m, r, new == limit, new, target)
 }
 
 /// (+LOOP) ( n -- ) R: ( n2 n3 -- | n2 n4 )
@@ -75,14 +75,14 @@ pub fn plus_loop<M: Memory>(
     let index = m.fetch(r.rp)?;
     let limit = m.fetch(above(r.rp, 1))?;
     let new = index.wrapping_add(n);
-    let branching = turn(m, r, crosses(index, new, limit), new, target)?;
+    let branching = step(m, r, crosses(index, new, limit), new, target)?;
     r.sp = above(r.sp, 1);
     Ok(branching)
 }
 
 /// Ending drops both items; going on writes the index.
 #[inline(always)]
-fn turn<M: Memory>(
+fn step<M: Memory>(
     m: &mut M,
     r: &mut Registers,
     ends: bool,

@@ -75,7 +75,7 @@ fn accept_item(kind: u8, operand: u32, items: usize) -> Result<(), Refusal> {
     }
 }
 
-/// Accepts the arrays, or turns them back: -4106, then the lowest bad item.
+/// Accepts the arrays, or refuses them: -4106, then the lowest bad item.
 pub fn accept(kinds: &[u8], operands: &[u32]) -> Result<Listing, Refusal> {
     let items = kinds.len();
     let size_is_good = (1..=MOST_ITEMS).contains(&items) && operands.len() == items;

@@ -1,4 +1,4 @@
-//! What is turned back, with its number (document 01, the two lists).
+//! What is refused, with its number (document 01, the two lists).
 
 #[derive(Clone, Copy, PartialEq, Eq, Debug)]
 pub enum Refusal {
@@ -47,7 +47,7 @@ impl Refusal {
     }
 }
 
-/// Turns back with `refusal` unless `good`.
+/// Refuses with `refusal` unless `good`.
 pub fn demand(good: bool, refusal: Refusal) -> Result<(), Refusal> {
     if good {
         Ok(())

@@ -1,4 +1,4 @@
--- `judge_call` meets its contract: three judgements in turn.
+-- `judge_call` meets its contract: three judgements, one after the other.
 use borrow.Author.Needs.{needs}
 use Rattle.calls.specs.Machines as machines
 use Rattle.calls.proofs.machines.judge_call.Statement.{statement}

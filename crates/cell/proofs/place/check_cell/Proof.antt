@@ -2,7 +2,7 @@
 use borrow.Author.Needs.{needs}
 use Rattle.cell.proofs.place.check_cell.Statement.{statement}
 use Rattle.cell.proofs.place.check_cell.Tie as tie
-use Rattle.cell.proofs.PlaceLaws.{turned-good, turned-bad}
+use Rattle.cell.proofs.PlaceLaws.{rotated-good, rotated-bad}
 use borrow.Author.Tests.{lt-ltb, le-ltb, eq-eqb, ne-eqb}
 
 cast-a : tie.Need-cast-a
@@ -22,13 +22,13 @@ add-if1 c = search needs
 
 returns : tie.Need-returns
 returns c =
-    let p = turned-good (c .before .before .args .length) (c .before .before .args .address .0) (c .before .before .fits .length .fits) (c .if1 .taken) in
+    let p = rotated-good (c .before .before .args .length) (c .before .before .args .address .0) (c .before .before .fits .length .fits) (c .if1 .taken) in
     simp (lt-ltb _ _ (p .inside), eq-eqb _ _ (p .aligned))
 
 returns-2 : tie.Need-returns-2
 returns-2 c =
     let a = c .before .before .before .args in
-    simp (lt-ltb _ _ (c .if2 .taken), ne-eqb _ _ (turned-bad (a .length) (a .address .0) (c .before .if1 .left) (c .if2 .taken)))
+    simp (lt-ltb _ _ (c .if2 .taken), ne-eqb _ _ (rotated-bad (a .length) (a .address .0) (c .before .if1 .left) (c .if2 .taken)))
 
 returns-3 : tie.Need-returns-3
 returns-3 c = simp (le-ltb _ _ (c .if2 .left))

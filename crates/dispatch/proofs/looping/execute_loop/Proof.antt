@@ -13,8 +13,8 @@ form-of-requires : tie.Need-form-of-requires
 form-of-requires c κs = search needs
 
 -- src/looping.rt:47:9
-turn-requires : tie.Need-turn-requires
-turn-requires c κs = search needs
+loop-effect-requires : tie.Need-loop-effect-requires
+loop-effect-requires c κs = search needs
 
 -- src/looping.rt:59:18
 commit-maybe-requires : tie.Need-commit-maybe-requires
@@ -31,14 +31,14 @@ same-length c = search needs
 -- src/looping.rt:41:1
 returns : tie.Need-returns
 unfolding dispatch.executeOf
-returns c = let a = c .before .before .before .before .before .before .before .before .before .args in rw (loop-is (a .opcode) (c .before .before .before .before .before .before .before .before .before .pre .1), c .onward .ensures, ← c .before .before .before .before .before .before .before .form-of .ensures) (ap (dispatch.taken (c .before .before .before .before .before .before .before .form-of .result)) (c .before .before .before .commit-maybe .ensures ∙ ap (commits.commitOf (a .machine) (now (a .memory)) (a .r)) (c .before .before .before .before .before .turn .ensures)))
+returns c = let a = c .before .before .before .before .before .before .before .before .before .args in rw (loop-is (a .opcode) (c .before .before .before .before .before .before .before .before .before .pre .1), c .onward .ensures, ← c .before .before .before .before .before .before .before .form-of .ensures) (ap (dispatch.taken (c .before .before .before .before .before .before .before .form-of .result)) (c .before .before .before .commit-maybe .ensures ∙ ap (commits.commitOf (a .machine) (now (a .memory)) (a .r)) (c .before .before .before .before .before .loop-effect .ensures)))
 
 pub execute-loop-spec : {M : Type 1} → statement M
 execute-loop-spec =
     tie.close
     (tie.spec
     form-of-requires
-    turn-requires
+    loop-effect-requires
     commit-maybe-requires
     onward-requires
     same-length

@@ -1,4 +1,4 @@
--- `follow_checked` meets its contract: turned back by the image, or the run over the table.
+-- `follow_checked` meets its contract: refused for the image, or the run over the table.
 use mathlib.Core.Path.{refl, sym, _∙_}
 use denote.Ref.{now}
 use Rattle.layout.specs.Listing.{listed}

@@ -9,13 +9,13 @@ use Rattle.layout.specs.Listing.{listed}
 use Rattle.layout.specs.Packing.{layout}
 use Rattle.layout.proofs.Placing.{left-le}
 use Rattle.layout.proofs.Listing.{some-item, kind-below}
-use Rattle.image.proofs.Writing.{WriteTurn, write-start, turn-down, target-inside, operand-room, open-room, form-is, value-is, write-turn, write-end}
+use Rattle.image.proofs.Writing.{WriteStep, write-start, step-down, target-inside, operand-room, open-room, form-is, value-is, write-step, write-end}
 use Rattle.image.proofs.write.write_image.Statement.{statement}
 use Rattle.image.proofs.write.write_image.Tie as tie
 
 abbrev Inv-loop : tie.InvT-loop
 Inv-loop order base kinds operands marks ats nexts lefts out₀ i₀ rest₀ out i rest =
-    WriteTurn order (base .0) (listed kinds operands) out₀ out rest i
+    WriteStep order (base .0) (listed kinds operands) out₀ out rest i
 
 abbrev μ-loop : tie.MeasureT-loop
 μ-loop order base kinds operands marks ats nexts lefts out₀ i₀ rest₀ out i rest = i
@@ -40,8 +40,8 @@ mul-f c =
     let pre = pre-here in
     let l = listed (a .kinds .now) (a .operands .now) in
     let i = c .before .loop .i in
-    let turn = c .before .loop .inv in
-    omega (arith, turn .inside, c .loop-test .taken, (some-item l (pre .0 .input) .1))
+    let step = c .before .loop .inv in
+    omega (arith, step .inside, c .loop-test .taken, (some-item l (pre .0 .input) .1))
 
 shared-slice-read-f : tie.Need-shared-slice-read-f Inv-loop μ-loop
 shared-slice-read-f c =
@@ -52,8 +52,8 @@ shared-slice-read-f c =
     let pre = pre-here in
     let l = listed (a .kinds .now) (a .operands .now) in
     let i = loop .i in
-    let turn = loop .inv in
-    omega (arith, turn .inside, c .before .loop-test .taken, pre .1 .0 .3)
+    let step = loop .inv in
+    omega (arith, step .inside, c .before .loop-test .taken, pre .1 .0 .3)
 
 mul-pack-item : tie.Need-mul-pack-item Inv-loop μ-loop
 mul-pack-item c =
@@ -66,8 +66,8 @@ mul-pack-item c =
     let pre = pre-here in
     let l = listed (a .kinds .now) (a .operands .now) in
     let i = loop .i in
-    let turn = loop .inv in
-    omega (arith, turn .inside, loop-test .taken, (some-item l (pre .0 .input) .1))
+    let step = loop .inv in
+    omega (arith, step .inside, loop-test .taken, (some-item l (pre .0 .input) .1))
 
 shared-slice-read-pack-item : tie.Need-shared-slice-read-pack-item Inv-loop μ-loop
 shared-slice-read-pack-item c =
@@ -80,8 +80,8 @@ shared-slice-read-pack-item c =
     let pre = pre-here in
     let l = listed (a .kinds .now) (a .operands .now) in
     let i = loop .i in
-    let turn = loop .inv in
-    omega (arith, turn .inside, loop-test .taken, pre .1 .0 .0)
+    let step = loop .inv in
+    omega (arith, step .inside, loop-test .taken, pre .1 .0 .0)
 
 shared-slice-read-kind : tie.Need-shared-slice-read-kind Inv-loop μ-loop
 shared-slice-read-kind c =
@@ -93,8 +93,8 @@ shared-slice-read-kind c =
     let pre = pre-here in
     let l = listed (a .kinds .now) (a .operands .now) in
     let i = loop .i in
-    let turn = loop .inv in
-    omega (arith, turn .inside, loop-test .taken)
+    let step = loop .inv in
+    omega (arith, step .inside, loop-test .taken)
 
 shared-slice-read-pack-item-2 : tie.Need-shared-slice-read-pack-item-2 Inv-loop μ-loop
 shared-slice-read-pack-item-2 c =
@@ -106,8 +106,8 @@ shared-slice-read-pack-item-2 c =
     let pre = pre-here in
     let l = listed (a .kinds .now) (a .operands .now) in
     let i = loop .i in
-    let turn = loop .inv in
-    omega (arith, turn .inside, loop-test .taken, pre .0 .equal)
+    let step = loop .inv in
+    omega (arith, step .inside, loop-test .taken, pre .0 .equal)
 
 mul-pack-item-2 : tie.Need-mul-pack-item-2 Inv-loop μ-loop
 mul-pack-item-2 c =
@@ -135,9 +135,9 @@ pack-item-requires c κs =
     let pre = pre-here in
     let l = listed (a .kinds .now) (a .operands .now) in
     let i = loop .i in
-    let turn = loop .inv in
-    let h : i - 1 < length (a .kinds .now) = omega (arith, turn .inside, loop-test .taken) in
-    let next = turn-down (a .order) (a .base .0) l (a .out .now) (loop .out) (loop .rest) i (omega (arith, loop-test .taken)) turn in (
+    let step = loop .inv in
+    let h : i - 1 < length (a .kinds .now) = omega (arith, step .inside, loop-test .taken) in
+    let next = step-down (a .order) (a .base .0) l (a .out .now) (loop .out) (loop .rest) i (omega (arith, loop-test .taken)) step in (
       rw (pre .1 .1 .1 .0 .left (i - 1) h) (left-le (layout l) (i - 1)),
       pre .1 .1 .1 .1 .0,
       λ q. rw (pre .1 .0 .1)
@@ -156,9 +156,9 @@ put-operand-requires c κs =
     let pre = pre-here in
     let l = listed (a .kinds .now) (a .operands .now) in
     let i = loop .i in
-    let turn = loop .inv in
-    let h : i - 1 < length (a .kinds .now) = omega (arith, turn .inside, loop-test .taken) in
-    let next = turn-down (a .order) (a .base .0) l (a .out .now) (loop .out) (loop .rest) i (omega (arith, loop-test .taken)) turn in
+    let step = loop .inv in
+    let h : i - 1 < length (a .kinds .now) = omega (arith, step .inside, loop-test .taken) in
+    let next = step-down (a .order) (a .base .0) l (a .out .now) (loop .out) (loop .rest) i (omega (arith, loop-test .taken)) step in
     operand-room (a .order) (a .base .0) l (a .out .now) (pre .1 .1 .1 .1 .1) (loop .out) (loop .rest) (i - 1) h next (c .before .pack-item .result .form) (getD (a .nexts .now) (i - 1) 0) (some-item l (pre .0 .input) .1) (c .before .pack-item .ensures .0
     ∙ form-is (a .base .0) l (pre .0 .input) (a .marks .now) (a .ats .now) (a .nexts .now) (a .lefts .now) (pre .1 .1 .1 .0) (pre .1
     .1 .0) (i - 1) h) (pre .1 .1 .1 .0 .next (i - 1) h)
@@ -173,9 +173,9 @@ word-of-requires c κs =
     let pre = pre-here in
     let l = listed (a .kinds .now) (a .operands .now) in
     let i = loop .i in
-    let turn = loop .inv in
-    let h : i - 1 < length (a .kinds .now) = omega (arith, turn .inside, loop-test .taken) in
-    let next = turn-down (a .order) (a .base .0) l (a .out .now) (loop .out) (loop .rest) i (omega (arith, loop-test .taken)) turn in
+    let step = loop .inv in
+    let h : i - 1 < length (a .kinds .now) = omega (arith, step .inside, loop-test .taken) in
+    let next = step-down (a .order) (a .base .0) l (a .out .now) (loop .out) (loop .rest) i (omega (arith, loop-test .taken)) step in
     omega (arith, kind-below l (pre .0 .input) (i - 1) h)
 
 mul-t20 : tie.Need-mul-t20 Inv-loop μ-loop
@@ -205,9 +205,9 @@ put-opened-requires c κs =
     let pre = pre-here in
     let l = listed (a .kinds .now) (a .operands .now) in
     let i = loop .i in
-    let turn = loop .inv in
-    let h : i - 1 < length (a .kinds .now) = omega (arith, turn .inside, loop-test .taken) in
-    let next = turn-down (a .order) (a .base .0) l (a .out .now) (loop .out) (loop .rest) i (omega (arith, loop-test .taken)) turn in
+    let step = loop .inv in
+    let h : i - 1 < length (a .kinds .now) = omega (arith, step .inside, loop-test .taken) in
+    let next = step-down (a .order) (a .base .0) l (a .out .now) (loop .out) (loop .rest) i (omega (arith, loop-test .taken)) step in
     rw (put-operand .kept .1 .0) (open-room (a .order) (a .base .0) l (a .out .now) (pre .1 .1 .1 .1 .1) (loop .out) (loop .rest)
     (i - 1) h next (getD (a .lefts .now) (i - 1) 0) (getD (a .ats .now) (i - 1) 0) (some-item l (pre .0 .input) .1) (pre .1 .1
     .1 .0 .at (i - 1) h))
@@ -230,12 +230,12 @@ loop-again c =
     let pre = pre-here in
     let l = listed (a .kinds .now) (a .operands .now) in
     let i = loop .i in
-    let turn = loop .inv in
-    let h : i - 1 < length (a .kinds .now) = omega (arith, turn .inside, loop-test .taken) in
-    let next = turn-down (a .order) (a .base .0) l (a .out .now) (loop .out) (loop .rest) i (omega (arith, loop-test .taken)) turn in
+    let step = loop .inv in
+    let h : i - 1 < length (a .kinds .now) = omega (arith, step .inside, loop-test .taken) in
+    let next = step-down (a .order) (a .base .0) l (a .out .now) (loop .out) (loop .rest) i (omega (arith, loop-test .taken)) step in
     let g = pack-item .ensures .0 ∙ form-is (a .base .0) l (pre .0 .input) (a .marks .now) (a .ats .now) (a .nexts .now) (a .lefts
     .now) (pre .1 .1 .1 .0) (pre .1 .1 .0) (i - 1) h in
-    write-turn (a .order) (a .base .0) l (a .out .now) (pre .1 .1 .1 .1 .1) (loop .out) (loop .rest) (i - 1) h next (pack-item
+    write-step (a .order) (a .base .0) l (a .out .now) (pre .1 .1 .1 .1 .1) (loop .out) (loop .rest) (i - 1) h next (pack-item
     .result .form) (pack-item .result .value) (getD (a .lefts .now) (i - 1) 0)
     (getD (a .ats .now) (i - 1) 0) (getD (a .nexts .now) (i - 1) 0) (word-of .result) (put-opened .result)
     (put-operand .last .1 .0) (put-opened .last .1 .0) g (pack-item .ensures .1 ∙ value-is (a .base .0) l (pre .0 .input) (a .marks

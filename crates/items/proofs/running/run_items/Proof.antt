@@ -8,7 +8,7 @@ use lib.ListN.{length}
 use Rattle.layout.specs.Listing.{listed}
 use Rattle.list_tables.specs.Tables.{opensIn}
 use Rattle.list_tables.proofs.TableLaws.{in-rows, few-items}
-use Rattle.items.proofs.RunLaws.{Going, begun-there, from-there, run-past, run-begins, run-ends, run-stops, run-turns, cycles-is, few-cycles}
+use Rattle.items.proofs.RunLaws.{Going, begun-there, from-there, run-past, run-begins, run-ends, run-stops, run-goes-on, cycles-is, few-cycles}
 use Rattle.items.proofs.running.run_items.Statement.{statement}
 use Rattle.items.proofs.running.run_items.Tie as tie
 
@@ -55,7 +55,7 @@ loop-less : tie.Need-loop-less Inv-loop μ-loop
 loop-less c = omega (arith, c .before .before .before .before .before .before .before .before .before .loop-test .taken)
 
 loop-again : tie.Need-loop-again Inv-loop μ-loop
-loop-again c = let args = c .before .before .before .before .before .before .before .before .before .before .before .before .before .before .before .before .before .before .args in let pre = c .before .before .before .before .before .before .before .before .before .before .before .before .before .before .before .before .before .before .pre in let loop = c .before .before .before .before .before .before .before .before .before .before .loop in run-turns (args .machine) (args .image .base .0) (listed (args .kinds .now) (args .operands .now)) (now (args .memory)) (c .before .before .before .before .before .before .before .before .before .before .before .before .before .begin-run .result .stand) (args .items) (loop .memory) (loop .ran) (loop .rest) (loop .inv) (c .before .before .before .before .before .before .before .before .before .loop-test .taken) _ (c .before .before .before .before .before .before .before .cycles-at .result) (c .before .before .before .before .before .carry-out .result) (c .before .before .count-item .result) (cycles-is (args .kinds .now) (args .operands .now) (args .table .now) (args .image) (pre .1) (args .machine) (loop .memory) (loop .ran .stand) (loop .inv .item) (c .before .before .before .before .before .before .before .cycles-at .result) (c .before .before .before .before .before .before .before .cycles-at .ensures)) (c .before .before .before .before .before .carry-out .ensures) (c .before .before .count-item .ensures) (c .before .before .before .before .before .carry-out .kept .1 .0) (few-cycles (loop .ran .stand .ran && opensIn (args .table .now) (loop .ran .stand .item .0)) _ (c .before .before .before .before .before .before .before .cycles-at .ensures)) (sym (c .before .is-over2 .ensures) ∙ c .if2 .left)
+loop-again c = let args = c .before .before .before .before .before .before .before .before .before .before .before .before .before .before .before .before .before .before .args in let pre = c .before .before .before .before .before .before .before .before .before .before .before .before .before .before .before .before .before .before .pre in let loop = c .before .before .before .before .before .before .before .before .before .before .loop in run-goes-on (args .machine) (args .image .base .0) (listed (args .kinds .now) (args .operands .now)) (now (args .memory)) (c .before .before .before .before .before .before .before .before .before .before .before .before .before .begin-run .result .stand) (args .items) (loop .memory) (loop .ran) (loop .rest) (loop .inv) (c .before .before .before .before .before .before .before .before .before .loop-test .taken) _ (c .before .before .before .before .before .before .before .cycles-at .result) (c .before .before .before .before .before .carry-out .result) (c .before .before .count-item .result) (cycles-is (args .kinds .now) (args .operands .now) (args .table .now) (args .image) (pre .1) (args .machine) (loop .memory) (loop .ran .stand) (loop .inv .item) (c .before .before .before .before .before .before .before .cycles-at .result) (c .before .before .before .before .before .before .before .cycles-at .ensures)) (c .before .before .before .before .before .carry-out .ensures) (c .before .before .count-item .ensures) (c .before .before .before .before .before .carry-out .kept .1 .0) (few-cycles (loop .ran .stand .ran && opensIn (args .table .now) (loop .ran .stand .item .0)) _ (c .before .before .before .before .before .before .before .cycles-at .ensures)) (sym (c .before .is-over2 .ensures) ∙ c .if2 .left)
 
 same-length-2 : tie.Need-same-length-2 Inv-loop μ-loop
 same-length-2 c = c .before .loop .inv .long

@@ -1,6 +1,6 @@
 -- `entry_at` meets its contract: the search goes from the last item down.
 use native.Mathlib.Omega.{arith}
-use Rattle.list_judging.proofs.EntryLaws.{Seeking, seek-begins, seek-finds, seek-turns, seek-ends}
+use Rattle.list_judging.proofs.EntryLaws.{Seeking, seek-begins, seek-finds, seek-goes-on, seek-ends}
 use Rattle.list_judging.proofs.finding.entry_at.Statement.{statement}
 use Rattle.list_judging.proofs.finding.entry_at.Tie as tie
 
@@ -29,7 +29,7 @@ loop-less : tie.Need-loop-less Inv-loop μ-loop
 loop-less c = omega arith
 
 loop-again : tie.Need-loop-again Inv-loop μ-loop
-loop-again c = seek-turns _ _ _ _ (c .before .before .before .loop .inv) _ (c .before .before .loop-test .taken) (c .before .is-placed .ensures) (c .if1 .left)
+loop-again c = seek-goes-on _ _ _ _ (c .before .before .before .loop .inv) _ (c .before .before .loop-test .taken) (c .before .is-placed .ensures) (c .if1 .left)
 
 returns-2 : tie.Need-returns-2 Inv-loop μ-loop
 returns-2 c = seek-ends _ _ _ _ (c .before .loop .inv) (c .loop-test .left)

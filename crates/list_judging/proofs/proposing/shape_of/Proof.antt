@@ -39,8 +39,8 @@ enum-told c = search needs
 registers-at-requires : tie.Need-registers-at-requires
 registers-at-requires c κs = let args = c .before .before .before .before .before .before .before .before .before .before .before .before .before .args in let pre = c .before .before .before .before .before .before .before .before .before .before .before .before .before .pre in (in-rows (args .kinds .now) (args .operands .now) (args .table .now) (args .image) (pre .1 .0) (args .s .item .0) (pre .1 .1), next-near (args .kinds .now) (args .operands .now) (args .table .now) (args .image) (pre .1 .0) (args .s .item .0) (pre .1 .1))
 
-propose-plain-requires : tie.Need-propose-plain-requires
-propose-plain-requires c κs = let args = c .before .before .before .before .before .before .before .before .before .before .before .before .before .before .args in let pre = c .before .before .before .before .before .before .before .before .before .before .before .before .before .before .pre in (pre .0 .whole, (plain-some (getD (args .kinds .now) (args .s .item .0) 0) (sym (c .before .before .before .class-of .ensures) ∙ c .before .enum-told .given .1)))
+propose-from-01-requires : tie.Need-propose-from-01-requires
+propose-from-01-requires c κs = let args = c .before .before .before .before .before .before .before .before .before .before .before .before .before .before .args in let pre = c .before .before .before .before .before .before .before .before .before .before .before .before .before .before .pre in (pre .0 .whole, (plain-some (getD (args .kinds .now) (args .s .item .0) 0) (sym (c .before .before .before .class-of .ensures) ∙ c .before .enum-told .given .1)))
 
 enum-told-2 : tie.Need-enum-told-2
 enum-told-2 c = search needs
@@ -78,16 +78,16 @@ enum-told-4 c = search needs
 registers-at-requires-2 : tie.Need-registers-at-requires-2
 registers-at-requires-2 c κs = let args = c .before .before .before .before .before .before .before .before .before .before .before .before .before .args in let pre = c .before .before .before .before .before .before .before .before .before .before .before .before .before .pre in (in-rows (args .kinds .now) (args .operands .now) (args .table .now) (args .image) (pre .1 .0) (args .s .item .0) (pre .1 .1), next-near (args .kinds .now) (args .operands .now) (args .table .now) (args .image) (pre .1 .0) (args .s .item .0) (pre .1 .1))
 
-propose-plain-requires-2 : tie.Need-propose-plain-requires-2
-propose-plain-requires-2 c κs = search needs
+propose-from-01-requires-2 : tie.Need-propose-from-01-requires-2
+propose-from-01-requires-2 c κs = search needs
 
 returns : tie.Need-returns
 returns c =
     let args = c .before .before .before .before .before .before .before .before .before .before .before .before .before .before .before .args in
     let pre = c .before .before .before .before .before .before .before .before .before .before .before .before .before .before .before .pre in
     asks-plain (args .kinds .now) (args .operands .now) (args .table .now) (args .image) (pre .1 .0) (args .machine) (now (args .memory)) (args .s) (pre .1 .1)
-    (c .propose-plain .result) (c .before .registers-at .result) (c .before .registers-at .ensures)
-    (sym (c .before .before .before .before .class-of .ensures) ∙ c .before .before .enum-told .given .1) (c .propose-plain .ensures)
+    (c .propose-from-01 .result) (c .before .registers-at .result) (c .before .registers-at .ensures)
+    (sym (c .before .before .before .before .class-of .ensures) ∙ c .before .before .enum-told .given .1) (c .propose-from-01 .ensures)
 
 returns-2 : tie.Need-returns-2
 returns-2 c =
@@ -123,7 +123,7 @@ shape-of-spec =
     class-of-requires
     enum-told
     registers-at-requires
-    propose-plain-requires
+    propose-from-01-requires
     enum-told-2
     address-at-requires
     registers-for-requires
@@ -136,7 +136,7 @@ shape-of-spec =
     propose-taking-requires-2
     enum-told-4
     registers-at-requires-2
-    propose-plain-requires-2
+    propose-from-01-requires-2
     returns
     returns-2
     returns-3

@@ -8,7 +8,7 @@ use mathlib.Core.Path.{_≡_, sym, ap, _∙_}
 use borrow.Author.Needs.{needs}
 use native.Mathlib.Nat.{sub-zero}
 use Prim.Native.Nat.{ℕ, _-_, _≤_}
-use Rattle.listing.proofs.Turns.{judged-turn, judged-stop, judged-end}
+use Rattle.listing.proofs.Steps.{judged-on, judged-stop, judged-end}
 use Rattle.listing.proofs.check.judge_items.Tie as tie
 use Rattle.listing.proofs.check.judge_items.Statement.{statement}
 
@@ -80,7 +80,7 @@ loop-again c =
     let e = c .before .before .judge-item .ensures ∙ ap (λ (x : Class). judged x (length (args .kinds .now)) (getD (args
     .operands .now) (loop .i) 0)) (class-of .ensures) in (
       omega arith,
-      sym (judged-turn (listed (args .kinds .now) (args .operands .now)) (length (args .kinds .now)) (loop .i) (loop-test
+      sym (judged-on (listed (args .kinds .now) (args .operands .now)) (length (args .kinds .now)) (loop .i) (loop-test
           .taken) (sym e ∙ c .enum-told .given .1)) ∙ loop .inv .1,
     )
 

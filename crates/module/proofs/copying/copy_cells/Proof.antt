@@ -4,7 +4,7 @@ use Rattle.module.proofs.copying.copy_cells.Tie as tie
 use Prim.Native.Nat.{_<_, _≤_, _-_}
 use native.Mathlib.Omega.{arith}
 use borrow.Author.Needs.{needs}
-use Rattle.module.proofs.CopyLaws.{Copying, copy-begins, copy-turns, copy-ends}
+use Rattle.module.proofs.CopyLaws.{Copying, copy-begins, copy-goes-on, copy-ends}
 
 abbrev Inv-loop : tie.InvT-loop
 Inv-loop theirs ours code memory₀ at n k₀ memory k = Copying theirs ours code memory₀ at n memory k
@@ -47,7 +47,7 @@ loop-again c =
     let a = c .before .before .before .before .before .before .before .before .before .before .before .args in
     let l = c .before .before .before .before .before .before .loop in
     let h : l .k < a .count .0 = omega (arith, c .before .before .before .before .before .loop-test .taken) in
-    copy-turns _ _ _ _ _ _ (l .memory) (l .k) (c .before .before .before .before .load-at .result) _ h (c .before .before .before .before .load-at .ensures) (c .before .before .store-at .ensures) (l .inv)
+    copy-goes-on _ _ _ _ _ _ (l .memory) (l .k) (c .before .before .before .before .load-at .result) _ h (c .before .before .before .before .load-at .ensures) (c .before .before .store-at .ensures) (l .inv)
 
 same-length : tie.Need-same-length Inv-loop μ-loop
 same-length c = c .before .loop .inv .long

@@ -7,7 +7,7 @@ use Prim.Native.Nat.{ℕ, _-_}
 use borrow.Author.Needs.{needs}
 use mathlib.Core.Path.{_≡_, refl, sym, ap, _∙_}
 use Rattle.layout.specs.Layout.{Spot, spotOf, cur}
-use Rattle.packing.proofs.Laying.{LayTurn, lay-room, lay-free, lay-left, lay-next, lay-turn, laid-none}
+use Rattle.packing.proofs.Laying.{LayStep, lay-room, lay-free, lay-left, lay-next, lay-step, laid-none}
 use Rattle.listing.proofs.Flags.{flagged-bit}
 use Rattle.layout.proofs.Listing.{some-item}
 use native.Mathlib.Omega.{arith}
@@ -19,7 +19,7 @@ use Rattle.packing.proofs.lay.lay_out.Statement.{statement}
 
 abbrev Inv-loop : tie.InvT-loop
 Inv-loop kinds operands entries marks ats₀ nexts₀ lefts₀ n c₀ i₀ ats nexts lefts c i =
-    LayTurn (plan (listed kinds operands) (flagged marks)) n ats nexts lefts (spotOf c) i
+    LayStep (plan (listed kinds operands) (flagged marks)) n ats nexts lefts (spotOf c) i
 
 abbrev μ-loop : tie.MeasureT-loop
 μ-loop kinds operands entries marks ats₀ nexts₀ lefts₀ n c₀ i₀ ats nexts lefts c i = n - i
@@ -181,7 +181,7 @@ loop-again c =
     let pre-here = c .before .before .before .before .before .before .before .before .before .before .before .before .before .before .before .before .before .before .pre in
     let begun = c .before .before .before .before .before .before .before .begun in
     let class-of = c .before .before .before .before .class-of in
-    lay-turn (plan (listed (args .kinds .now) (args .operands .now)) (flagged (args .marks .now))) (length (args .kinds .now))
+    lay-step (plan (listed (args .kinds .now) (args .operands .now)) (flagged (args .marks .now))) (length (args .kinds .now))
     (loop .ats) (loop .nexts) (loop .lefts) (spotOf (loop .c)) (loop .i) (loop .inv) (loop-test .taken) (some-item (listed (args .kinds
     .now) (args .operands .now)) (pre-here .0 .input) .1) _ (spotOf (begun .result)) (flagged-bit (args .entries .now) (loop .i) _
     (pre-here .1 .1 .1 (loop .i) (loop-test .taken))) (begun .ensures) (c .before .form-of .result) (spotOf (c .finished .result)) (c .before .form-of .ensures

@@ -8,13 +8,13 @@ use Rattle.layout.specs.Flags.{flagged}
 use Rattle.layout.specs.Listing.{listed, any}
 use Rattle.layout.specs.Packing.{new}
 use Rattle.layout.proofs.Listing.{some-item, is-branch, target-below}
-use Rattle.packing.proofs.Marking.{MarkTurn, mark-start, as-before, test-is, left-small, mark-turn, pass-turn}
+use Rattle.packing.proofs.Marking.{MarkStep, mark-start, as-before, test-is, left-small, mark-step, pass-step}
 use Rattle.packing.proofs.mark.mark_branches.Tie as tie
 use Rattle.packing.proofs.mark.mark_branches.Statement.{statement}
 
 abbrev Inv-loop : tie.InvT-loop
 Inv-loop kinds operands ats nexts lefts marks₀ n added₀ i₀ marks added i =
-    MarkTurn (listed kinds operands) marks₀ n marks added i
+    MarkStep (listed kinds operands) marks₀ n marks added i
 
 abbrev μ-loop : tie.MeasureT-loop
 μ-loop kinds operands ats nexts lefts marks₀ n added₀ i₀ marks added i = n - i
@@ -110,7 +110,7 @@ loop-again c =
     let loop = c .before .before .before .before .before .before .before .before .loop in
     let loop-test = c .before .before .before .before .before .before .before .loop-test in
     let pre-here = c .before .before .before .before .before .before .before .before .before .before .before .before .before .before .before .pre in
-    mark-turn (listed (args .kinds .now) (args .operands .now)) (args .marks .now) (length (args .kinds .now)) (loop .marks)
+    mark-step (listed (args .kinds .now) (args .operands .now)) (args .marks .now) (length (args .kinds .now)) (loop .marks)
     (loop .added) (loop .i) (loop .inv) (loop-test .taken) (sym (test-is (listed (args .kinds .now) (args .operands .now))
     (pre-here .0 .input) (args .marks .now) (loop .marks) (args .ats .now) (args .nexts .now) (args .lefts .now) (pre-here .1 .1
     .1) (loop .i) (loop-test .taken) (as-before (listed (args .kinds .now) (args .operands .now)) (args .marks .now) (length
@@ -126,7 +126,7 @@ loop-again-2 c =
     let loop = c .before .before .before .before .before .before .before .before .loop in
     let loop-test = c .before .before .before .before .before .before .before .loop-test in
     let pre-here = c .before .before .before .before .before .before .before .before .before .before .before .before .before .before .before .pre in
-    pass-turn (listed (args .kinds .now) (args .operands .now)) (args .marks .now) (length (args .kinds .now)) (loop .marks)
+    pass-step (listed (args .kinds .now) (args .operands .now)) (args .marks .now) (length (args .kinds .now)) (loop .marks)
     (loop .added) (loop .i) (loop .inv) (loop-test .taken) (sym (test-is (listed (args .kinds .now) (args .operands .now))
     (pre-here .0 .input) (args .marks .now) (loop .marks) (args .ats .now) (args .nexts .now) (args .lefts .now) (pre-here .1 .1
     .1) (loop .i) (loop-test .taken) (as-before (listed (args .kinds .now) (args .operands .now)) (args .marks .now) (length

@@ -2,7 +2,7 @@
 -- Assumes nothing.
 use Rattle.layout.specs.Bytes.{fits}
 use mathlib.Core.Path.{_≡_}
-use Rattle.listing.proofs.Turns.{three-left}
+use Rattle.listing.proofs.Steps.{three-left}
 use borrow.Author.Needs.{needs}
 use Rattle.packing.proofs.measure.fits_in.Statement.{statement}
 use Rattle.packing.proofs.measure.fits_in.Tie as tie

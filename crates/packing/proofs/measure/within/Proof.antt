@@ -1,7 +1,7 @@
 -- `packing::measure::within` meets its contract.
 -- Assumes nothing.
 use borrow.Author.Tests.{lt-ltb}
-use Rattle.listing.proofs.Turns.{within-is}
+use Rattle.listing.proofs.Steps.{within-is}
 use borrow.Author.Needs.{needs}
 use Rattle.packing.proofs.measure.within.Statement.{statement}
 use Rattle.packing.proofs.measure.within.Tie as tie

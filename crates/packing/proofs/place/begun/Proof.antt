@@ -2,7 +2,7 @@
 -- Assumes nothing.
 use borrow.Author.Needs.{needs}
 use Rattle.layout.proofs.Placing.{fresh-entry}
-use Rattle.listing.proofs.Turns.{fresh-false}
+use Rattle.listing.proofs.Steps.{fresh-false}
 use Rattle.packing.proofs.place.begun.Tie as tie
 use Rattle.packing.proofs.place.begun.Statement.{statement}
 

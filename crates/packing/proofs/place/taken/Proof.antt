@@ -2,7 +2,7 @@
 -- Assumes nothing.
 use mathlib.Core.Path.{sym}
 use borrow.Author.Needs.{needs}
-use Rattle.listing.proofs.Turns.{taking-true, taking-false}
+use Rattle.listing.proofs.Steps.{taking-true, taking-false}
 use Rattle.packing.proofs.place.taken.Tie as tie
 use Rattle.packing.proofs.place.taken.Statement.{statement}
 

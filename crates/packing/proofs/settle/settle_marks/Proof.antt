@@ -7,13 +7,13 @@ use lib.ListN.{length}
 use borrow.Author.Tests.{not-false, not-true}
 use Rattle.layout.specs.Flags.{flagged}
 use Rattle.layout.proofs.Rounds.{count}
-use Rattle.packing.proofs.Settling.{RoundTurn, round-start, round-turn, round-less, marks-before, marks-after}
+use Rattle.packing.proofs.Settling.{RoundStep, round-start, round-step, round-less, marks-before, marks-after}
 use Rattle.packing.proofs.settle.settle_marks.Statement.{statement}
 use Rattle.packing.proofs.settle.settle_marks.Tie as tie
 
 abbrev Inv-loop : tie.InvT-loop
 Inv-loop kinds operands entries marks₀ ats₀ nexts₀ lefts₀ marks ats nexts lefts =
-    RoundTurn kinds operands marks ats nexts lefts
+    RoundStep kinds operands marks ats nexts lefts
 
 abbrev μ-loop : tie.MeasureT-loop
 μ-loop kinds operands entries marks₀ ats₀ nexts₀ lefts₀ marks ats nexts lefts = length kinds - count (flagged marks) (length kinds)
@@ -80,7 +80,7 @@ loop-again c =
     let loop = c .before .before .before .before .before .before .before .before .before .before .before .before .before .before .before .before .before .before .before .loop in
     let mark-branches = c .before .before .before .mark-branches in
     let lay-out = c .before .before .before .before .before .before .before .before .before .before .before .before .before .before .lay-out in
-    round-turn (args .kinds .now) (args .operands .now) (loop .marks) (loop .ats) (loop .nexts) (loop .lefts) (loop .inv)
+    round-step (args .kinds .now) (args .operands .now) (loop .marks) (loop .ats) (loop .nexts) (loop .lefts) (loop .inv)
     (mark-branches .last .1 .1 .1 .1 .1 .0) (mark-branches .result) (mark-branches .ensures .0) (mark-branches .ensures .1)
     ((mark-branches .kept .1 .1 .1 .1 .1 .0) ∙ loop .inv .flags-length) (not-false _ (c .if1 .left)) (lay-out .last .1 .1 .1 .1
     .0) (lay-out .last .1 .1 .1 .1 .1 .0) (lay-out .last .1 .1 .1 .1 .1 .1 .0) (lay-out .kept .1 .1 .1 .1 .0) (lay-out .kept .1

@@ -14,12 +14,12 @@ add-requires : tie.Need-add-requires
 add-requires c κs = search needs
 
 -- src/looping.rt:75:5
-propose-turn-requires : tie.Need-propose-turn-requires
-propose-turn-requires c κs = search needs
+propose-step-requires : tie.Need-propose-step-requires
+propose-step-requires c κs = search needs
 
 -- src/looping.rt:70:1
 returns : tie.Need-returns
-returns c = let a = c .before .before .before .before .args in loop-is (a .machine) (now (a .memory)) (a .r) _ _ (c .before .add .ensures) (c .propose-turn .ensures)
+returns c = let a = c .before .before .before .before .args in loop-is (a .machine) (now (a .memory)) (a .r) _ _ (c .before .add .ensures) (c .propose-step .ensures)
 
 pub propose-loop-spec : {M : Type 1} → statement M
-propose-loop-spec = tie.close (tie.spec mul-add add-requires propose-turn-requires returns)
+propose-loop-spec = tie.close (tie.spec mul-add add-requires propose-step-requires returns)

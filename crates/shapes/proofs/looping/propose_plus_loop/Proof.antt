@@ -40,12 +40,12 @@ add-requires-2 : tie.Need-add-requires-2
 add-requires-2 c κs = search needs
 
 -- src/looping.rt:87:5
-propose-turn-requires : tie.Need-propose-turn-requires
-propose-turn-requires c κs = search needs
+propose-step-requires : tie.Need-propose-step-requires
+propose-step-requires c κs = search needs
 
 -- src/looping.rt:78:1
 returns-2 : tie.Need-returns-2
-returns-2 c = let a = c .before .before .before .before .before .before .before .before .before .args in plus-loop-is (a .machine) (now (a .memory)) (a .r) _ _ _ _ (c .before .before .add .ensures) (c .before .add2 .ensures) (sym (c .before .before .before .before .before .before .before .fetch .ensures) ∙ c .before .before .before .before .before .got .given .1) (c .propose-turn .ensures)
+returns-2 c = let a = c .before .before .before .before .before .before .before .before .before .args in plus-loop-is (a .machine) (now (a .memory)) (a .r) _ _ _ _ (c .before .before .add .ensures) (c .before .add2 .ensures) (sym (c .before .before .before .before .before .before .before .fetch .ensures) ∙ c .before .before .before .before .before .got .given .1) (c .propose-step .ensures)
 
 pub propose-plus-loop-spec : {M : Type 1} → statement M
 propose-plus-loop-spec =
@@ -59,5 +59,5 @@ propose-plus-loop-spec =
     mul-add
     add-requires
     add-requires-2
-    propose-turn-requires
+    propose-step-requires
     returns-2)

@@ -22,12 +22,12 @@ returns : tie.Need-returns
 unfolding plain.plainOf
 returns c = simp (sym (c .before .before .before .fetch .ensures) ∙ c .before .enum-told .given .1) (c .fail-maybe .ensures ∙ ap plain.failed (c .before .enum-told .given .1))
 
-maybe-not-requires : tie.Need-maybe-not-requires
-maybe-not-requires c κs = search needs
+write-nothing-requires : tie.Need-write-nothing-requires
+write-nothing-requires c κs = search needs
 
 returns-2 : tie.Need-returns-2
 unfolding plain.plainOf
-returns-2 c = simp (sym (c .before .before .before .before .before .fetch .ensures) ∙ c .before .before .before .got .given .1, eq-eqb _ _ (c .before .if1 .taken)) (c .maybe-not .ensures)
+returns-2 c = simp (sym (c .before .before .before .before .before .fetch .ensures) ∙ c .before .before .before .got .given .1, eq-eqb _ _ (c .before .if1 .taken)) (c .write-nothing .ensures)
 
 subtract-requires : tie.Need-subtract-requires
 subtract-requires c κs = search needs
@@ -45,7 +45,7 @@ question-dup-spec =
     enum-told
     fail-maybe-requires
     returns
-    maybe-not-requires
+    write-nothing-requires
     returns-2
     subtract-requires
     returns-3)
