@@ -8,8 +8,8 @@ use Rattle.cell.specs.Memory.{cellAt}
 use Rattle.cell.specs.Refusals.{judgeMachine}
 use Rattle.cell.specs.declared.Judged.the-variants.{Passed}
 use Rattle.processor.specs.Answers.{machineOf}
-use Rattle.layout.specs.Listing.{Listing}
-use Rattle.layout.specs.Packing.{image, imageCells, Legal}
+use Rattle.pack_layout.specs.Listing.{Listing}
+use Rattle.pack_layout.specs.Packing.{image, imageCells, Legal}
 use Rattle.packer.specs.Pack.{PackResult}
 use Rattle.module.specs.Answers.{saveOf, loadOf}
 use Rattle.module.specs.Theorems.{savedFile}

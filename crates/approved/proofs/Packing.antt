@@ -9,14 +9,14 @@ use Rattle.cell.specs.declared.Judged.{Judged}
 use Rattle.cell.specs.declared.Judged.the-variants as judged
 use Rattle.cell.proofs.JudgementLaws.{both-pass, refusal-some}
 use Rattle.cell.proofs.MemoryLaws.{cell-below}
-use Rattle.layout.specs.Listing.{Listing, listed, judgedArrays}
-use Rattle.layout.specs.File.{fileBase, fileCount, fileKinds, fileOperands, cellsFrom, judgedFile, judgedLength}
-use Rattle.layout.specs.Output.{bytesOf, written}
-use Rattle.layout.specs.Packing.{image, imageCells, judgedPlace, Legal}
-use Rattle.layout.proofs.Packing.{size-is}
+use Rattle.pack_layout.specs.Listing.{Listing, listed, judgedArrays}
+use Rattle.pack_layout.specs.File.{fileBase, fileCount, fileKinds, fileOperands, cellsFrom, judgedFile, judgedLength}
+use Rattle.pack_layout.specs.Output.{bytesOf, written}
+use Rattle.pack_layout.specs.Packing.{image, imageCells, judgedPlace, Legal}
+use Rattle.pack_layout.proofs.Packing.{size-is}
 use Rattle.packer.specs.Judgement.{judgeOrder, judgeAll, judgePack}
 use Rattle.packer.specs.Pack.{PackResult, packIf, packOf}
-use Rattle.listing_files.specs.Files.{judgePackFile, packFileOf}
+use Rattle.pack_files.specs.Files.{judgePackFile, packFileOf}
 use Rattle.pack_prepare.proofs.Checking.{arrays-checked}
 use Rattle.approved.specs.Approved.{Cells, Packs, ofArrays, ofFile}
 

@@ -18,10 +18,10 @@ use Rattle.machine.specs.declared.Machine.{Machine}
 use Rattle.processor.specs.Cycles.{fourCells, startOf}
 use Rattle.processor.specs.Answers.{machineOf, startedTo, startAnswer}
 use Rattle.processor.specs.declared.Started.the-variants.{Ready}
-use Rattle.layout.specs.Listing.{Listing}
-use Rattle.layout.specs.Packing.{imageCells, Legal}
-use Rattle.layout.proofs.Listing.{some-item}
-use Rattle.layout.proofs.Packing.{placed, at-inside}
+use Rattle.pack_layout.specs.Listing.{Listing}
+use Rattle.pack_layout.specs.Packing.{imageCells, Legal}
+use Rattle.pack_layout.proofs.Listing.{some-item}
+use Rattle.pack_layout.proofs.Packing.{placed, at-inside}
 use Rattle.list_machine.specs.Demand3.{Holds, firstRegisters}
 use Rattle.list_machine.proofs.Image.{image-fetch, still-holds}
 

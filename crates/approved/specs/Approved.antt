@@ -11,10 +11,10 @@ use Rattle.cell.specs.declared.Judged.the-variants.{Passed}
 use Rattle.processor.specs.Answers.{machineOf, begun, startedTo, startAnswer}
 use Rattle.processor.specs.Cycles.{fourCells}
 use Rattle.processor.specs.declared.Started.the-variants.{Ready}
-use Rattle.layout.specs.Listing.{Listing, listed}
-use Rattle.layout.specs.File.{filed, fileBase}
+use Rattle.pack_layout.specs.Listing.{Listing, listed}
+use Rattle.pack_layout.specs.File.{filed, fileBase}
 use Rattle.packer.specs.Pack.{PackResult, packOf}
-use Rattle.listing_files.specs.Files.{packFileOf}
+use Rattle.pack_files.specs.Files.{packFileOf}
 use Rattle.module.specs.Answers.{saveOf, LoadResult, loadOf}
 use Rattle.module.specs.Conditions.{GoodPlace}
 use Rattle.module.specs.Theorems.{savedFile}

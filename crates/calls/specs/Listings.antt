@@ -9,7 +9,7 @@ use Rattle.packer.specs.Judgement.{judgePack}
 use Rattle.packer.specs.Pack.{PackResult, packOf}
 use Rattle.packer.specs.declared.Packed.{Packed}
 use Rattle.packer.specs.declared.Packed.the-variants as packed
-use Rattle.listing_files.specs.Files.{judgePackFile, packFileOf}
+use Rattle.pack_files.specs.Files.{judgePackFile, packFileOf}
 use Rattle.calls.specs.Lending.{written, withRoom}
 use Rattle.calls.specs.Modules.{Noted, noted, Moved, moved}
 

@@ -7,8 +7,8 @@ use calls::listings::note_packed;
 use cell::Address;
 use cell::Judged;
 use cell::judgement::refusal_number;
-use listing_files::file::judge_pack_file;
-use listing_files::file::pack_file;
+use pack_files::file::judge_pack_file;
+use pack_files::file::pack_file;
 use packer::judgement::judge_pack;
 use packer::pack::pack;
 

@@ -5,8 +5,8 @@ ghost use lib.Dec.{eqb};
 ghost use Rattle.calls.specs.Machines as machines;
 ghost use Rattle.list_calls.specs.Lists as lists;
 use cell::Address;
-use layout::ItemNumber;
 use list_calls::lists::resume_list;
+use pack_layout::ItemNumber;
 
 #[no_mangle]
 pub extern "C" fn beetle_list_run(

@@ -7,9 +7,9 @@ use lib.ListN.{length, getD}
 use Rattle.cell.specs.declared.Judged.{Judged}
 use Rattle.cell.specs.declared.Judged.the-variants.{Passed}
 use Rattle.list_judging.specs.declared.Stand.{Stand}
-use Rattle.follow.specs.Follow.{FollowResult, followedTo, standAt, resumeIn}
-use Rattle.follow.specs.declared.Followed.{Followed}
-use Rattle.follow.specs.declared.Followed.the-variants as followed
+use Rattle.list_run.specs.Follow.{FollowResult, followedTo, standAt, resumeIn}
+use Rattle.list_run.specs.declared.Followed.{Followed}
+use Rattle.list_run.specs.declared.Followed.the-variants as followed
 use Rattle.calls.specs.Lending.{written, withRoom}
 use Rattle.calls.specs.Machines.{Told, told, Called}
 

@@ -3,7 +3,7 @@ ghost use mathlib.Core.Path.{_≡_};
 ghost use mathlib.Core.List.{[], _∷_};
 ghost use Prim.Native.Nat.{_≤_};
 ghost use lib.ListN.{length, getD};
-ghost use Rattle.follow.specs.declared.Followed.the-variants as followed;
+ghost use Rattle.list_run.specs.declared.Followed.the-variants as followed;
 ghost use Rattle.calls.specs.Lending as lending;
 ghost use Rattle.calls.specs.Machines as machines;
 ghost use Rattle.list_calls.specs.Lists as lists;
@@ -12,13 +12,13 @@ use calls::lending::write_two;
 use cell::Address;
 use cell::Judged;
 use cell::judgement::refusal_number;
-use follow::Followed;
-use follow::answers::ending_number;
-use follow::answers::ending_reason;
-use follow::follow::follow_within;
-use items::ItemRun;
-use layout::ItemNumber;
+use list_items::ItemRun;
 use list_judging::Stand;
+use list_run::Followed;
+use list_run::answers::ending_number;
+use list_run::answers::ending_reason;
+use list_run::follow::follow_within;
+use pack_layout::ItemNumber;
 
 // The number at a place of a lent array, or 0 where it has no such place.
 fn number_at(lent: &[u32], at: usize) -> u32

@@ -5,9 +5,9 @@ use mathlib.Core.List.{List}
 use Prim.Native.Nat.{ℕ, suc, _+_, _-_, _*_, _≤_, _<_}
 use native.Mathlib.Omega.{arith}
 use lib.Dec.{eqb}
-use Rattle.layout.specs.declared.Entry.{Entry}
-use Rattle.layout.specs.declared.Entry.the-variants.{Item, Nothing}
-use Rattle.layout.specs.Packing.{pickEntry}
+use Rattle.pack_layout.specs.declared.Entry.{Entry}
+use Rattle.pack_layout.specs.declared.Entry.the-variants.{Item, Nothing}
+use Rattle.pack_layout.specs.Packing.{pickEntry}
 use Rattle.list_tables.specs.Tables.{placeIn, entryIn, rows, entryBelow}
 
 pick-entry : (b : Bool) (e f : Entry) → b ≡ true → pickEntry b e f ≡ e

@@ -9,15 +9,15 @@ use Rattle.instruction.specs.Plain.{plainAt}
 use Rattle.instruction.specs.Taking.{takingAt}
 use Rattle.instruction.specs.declared.OperandForm.the-variants as form
 use Rattle.instruction.specs.Dispatch.{decodeOf, operandClass}
-use Rattle.layout.specs.Kinds.{branches}
-use Rattle.layout.specs.Kinds as kinds
-use Rattle.layout.specs.declared.OperandClass.the-variants as class
-use Rattle.layout.specs.Listing.{Listing}
-use Rattle.layout.specs.Packing.{distance, addressOf, behind}
-use Rattle.layout.proofs.KindLaws.{literal-is, branch-among, one-among}
+use Rattle.pack_layout.specs.Kinds.{branches}
+use Rattle.pack_layout.specs.Kinds as kinds
+use Rattle.pack_layout.specs.declared.OperandClass.the-variants as class
+use Rattle.pack_layout.specs.Listing.{Listing}
+use Rattle.pack_layout.specs.Packing.{distance, addressOf, behind}
+use Rattle.pack_layout.proofs.KindLaws.{literal-is, branch-among, one-among}
 use Rattle.list_machine.specs.ListMachine.{Position, effectAs, effectAt, registersAt}
 use Rattle.list_machine.proofs.Opcodes.{plain-decodes}
-use Rattle.shapes.specs.Shapes.{takingKind}
+use Rattle.list_effects.specs.Shapes.{takingKind}
 
 -- 00h is no kind
 pub plain-some : (k : ℕ) → kinds.operandClass k ≡ class.Plain → 1 ≤ k

@@ -14,13 +14,13 @@ use Rattle.instruction.specs.Plain.{plainAt}
 use Rattle.instruction.specs.Taking.{takingAt}
 use Rattle.instruction.specs.Dispatch.{decodeOf}
 use Rattle.instruction.specs.declared.OperandForm.the-variants as form
-use Rattle.layout.specs.Kinds as sorts
-use Rattle.layout.specs.declared.Class.the-variants as class
-use Rattle.layout.specs.Listing.{listed}
-use Rattle.layout.specs.Packing.{distance, addressOf, behind}
+use Rattle.pack_layout.specs.Kinds as sorts
+use Rattle.pack_layout.specs.declared.Class.the-variants as class
+use Rattle.pack_layout.specs.Listing.{listed}
+use Rattle.pack_layout.specs.Packing.{distance, addressOf, behind}
 use Rattle.list_machine.specs.ListMachine.{registersAt, effectAt}
-use Rattle.shapes.specs.Shapes.{takingKind, Proposed}
-use Rattle.shapes.specs.declared.Shape.{Shape}
+use Rattle.list_effects.specs.Shapes.{takingKind, Proposed}
+use Rattle.list_effects.specs.declared.Shape.{Shape}
 use Rattle.list_tables.specs.Tables.{placeIn, nextIn, behindIn, Settled}
 use Rattle.list_tables.specs.declared.Image.{Image}
 use Rattle.list_tables.proofs.TableLaws.{room, place-low, behind-room, next-is, behind-is, target-in, target-is}

@@ -3,7 +3,7 @@ use mathlib.Core.Bool.{Bool}
 use mathlib.Core.List.{List}
 use Prim.Native.Nat.{ℕ}
 use Rattle.machine.specs.declared.Registers.{Registers}
-use Rattle.layout.specs.declared.ItemNumber.{ItemNumber}
+use Rattle.pack_layout.specs.declared.ItemNumber.{ItemNumber}
 use Rattle.list_machine.specs.ListMachine as lists
 use Rattle.list_judging.specs.declared.Stand.{Stand}
 

@@ -21,13 +21,13 @@ use Rattle.machine.specs.declared.Registers.{Registers}
 use Rattle.machine.specs.declared.Then.{Then}
 use Rattle.machine.specs.declared.Then.the-variants as then
 use Rattle.machine.specs.declared.Access.the-variants.{Push, Stream}
-use Rattle.layout.specs.declared.Entry.{Entry}
-use Rattle.layout.specs.declared.Entry.the-variants.{Item, Nothing}
+use Rattle.pack_layout.specs.declared.Entry.{Entry}
+use Rattle.pack_layout.specs.declared.Entry.the-variants.{Item, Nothing}
 use Rattle.list_machine.specs.declared.Outside.{Outside}
 use Rattle.list_machine.specs.declared.Outside.the-variants.{WritesImage, NoEntry, NoHandler, PastEnd}
 use Rattle.list_machine.specs.ListMachine as lists
-use Rattle.shapes.specs.Shapes.{shapeStores, shapeThen, shapeFault}
-use Rattle.shapes.specs.declared.Shape.{Shape}
+use Rattle.list_effects.specs.Shapes.{shapeStores, shapeThen, shapeFault}
+use Rattle.list_effects.specs.declared.Shape.{Shape}
 use Rattle.list_judging.specs.declared.Way.{Way}
 use Rattle.list_judging.specs.declared.Way.the-variants as way
 use Rattle.list_judging.specs.declared.Cause.{Cause}

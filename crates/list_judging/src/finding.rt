@@ -8,11 +8,11 @@ ghost use Rattle.list_judging.specs.Ways as ways;
 use crate::Way;
 use cell::Address;
 use cell::place::address_at;
-use layout::Entry;
-use layout::ItemNumber;
 use list_machine::Outside;
 use list_tables::tables::is_entry;
 use list_tables::tables::place_of;
+use pack_layout::Entry;
+use pack_layout::ItemNumber;
 
 // An item is an entry whose cell is at this address.
 fn is_placed(table: &[u32], base: Address, item: ItemNumber, a: Address) -> bool

@@ -2,7 +2,7 @@
 ghost use mathlib.Core.Path.{_≡_};
 ghost use Prim.Native.Nat.{_+_, _*_, _≤_, _<_, _^_};
 ghost use lib.ListN.{length};
-ghost use Rattle.shapes.specs.Shapes as shapes;
+ghost use Rattle.list_effects.specs.Shapes as shapes;
 ghost use Rattle.list_tables.specs.Tables as tables;
 ghost use Rattle.list_judging.specs.Ways as ways;
 use crate::Cause;
@@ -18,7 +18,11 @@ use cell::memory::load;
 use cell::number::subtract;
 use cell::place::address_at;
 use cell::place::fault_code;
-use layout::ItemNumber;
+use list_effects::Shape;
+use list_effects::judging::check_shape;
+use list_effects::judging::meets;
+use list_effects::judging::then_of;
+use list_effects::judging::writes;
 use list_machine::Outside;
 use list_tables::Image;
 use list_tables::tables::is_immediate;
@@ -29,11 +33,7 @@ use machine::fixed::BAD_HANDLER;
 use machine::fixed::BAD_STACK;
 use machine::fixed::HANDLER_CELL;
 use machine::places::check_place;
-use shapes::Shape;
-use shapes::judging::check_shape;
-use shapes::judging::meets;
-use shapes::judging::then_of;
-use shapes::judging::writes;
+use pack_layout::ItemNumber;
 
 // 'THROW is h: an entry, -259, or outside.
 fn handler_way(machine: Machine, memory: &[u8], table: &[u32], base: Address, h: Address) -> Way

@@ -4,8 +4,8 @@ pub mod judging;
 pub mod proposing;
 
 use cell::Fault;
-use layout::ItemNumber;
 use list_machine::Outside;
+use pack_layout::ItemNumber;
 
 // In front of an item: whether it was run on into from an item not in its immediate form, and the stack pointers.
 pub struct Stand {

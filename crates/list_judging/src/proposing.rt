@@ -3,27 +3,27 @@ ghost use mathlib.Core.Path.{_≡_};
 ghost use Prim.Native.Nat.{_+_, _*_, _≤_, _<_, _^_};
 ghost use lib.ListN.{length};
 ghost use Rattle.cell.specs.Refusals.{Lent};
-ghost use Rattle.layout.specs.Listing.{listed};
+ghost use Rattle.pack_layout.specs.Listing.{listed};
 ghost use Rattle.list_machine.specs.ListMachine as lists;
-ghost use Rattle.shapes.specs.Shapes as shapes;
+ghost use Rattle.list_effects.specs.Shapes as shapes;
 ghost use Rattle.list_tables.specs.Tables as tables;
 ghost use Rattle.list_judging.specs.Stands as stands;
 use crate::Stand;
 use cell::Address;
 use cell::place::address_at;
-use layout::Class;
-use layout::ItemNumber;
+use list_effects::Shape;
+use list_effects::from_01::propose_from_01;
+use list_effects::taking::propose_taking;
 use list_tables::Image;
 use list_tables::tables::behind_of;
 use list_tables::tables::next_of;
 use list_tables::tables::place_of;
-use listing::kinds::class_of;
 use machine::Machine;
 use machine::Registers;
-use packing::measure::distance_of;
-use shapes::Shape;
-use shapes::from_01::propose_from_01;
-use shapes::taking::propose_taking;
+use pack_judging::kinds::class_of;
+use pack_layout::Class;
+use pack_layout::ItemNumber;
+use pack_rounds::measure::distance_of;
 
 // The registers of an instruction at an address.
 fn registers_for(ep: Address, a: u32, s: Stand) -> Registers

@@ -23,19 +23,19 @@ use Rattle.instruction.specs.declared.OperandForm as stream
 use Rattle.instruction.specs.declared.OperandForm.the-variants as stream-form
 use Rattle.instruction.specs.Dispatch.{decodeOf, plain, taking, operandClass, taken, executeOf}
 use Rattle.processor.specs.Cycles.{cycleOf}
-use Rattle.layout.specs.Kinds as kinds
-use Rattle.layout.specs.declared.OperandClass as kind
-use Rattle.layout.specs.declared.OperandClass.the-variants.{Plain, Literal, Branch, NoKind}
-use Rattle.layout.specs.declared.ItemForm.{ItemForm}
-use Rattle.layout.specs.declared.ItemForm.the-variants.{Alone, Immediate, InCell}
-use Rattle.layout.specs.Listing.{Listing}
-use Rattle.layout.specs.Layout.{extra, opens, mid, left, formAt}
-use Rattle.layout.specs.Image.{byteOf}
-use Rattle.layout.specs.Packing as packing
-use Rattle.layout.specs.Packing.{marks, layout, value, addressOf, epValue, behind, register, Legal}
-use Rattle.layout.proofs.Listing.{is-kind}
-use Rattle.layout.proofs.Packing.{placed, ep-inside, size-is}
-use Rattle.layout.proofs.Meet.{opcode, advance, run-into, immediate-value, immediate-next, operand-cell, operand-inside, literal-value, branch-lands, branch-cell}
+use Rattle.pack_layout.specs.Kinds as kinds
+use Rattle.pack_layout.specs.declared.OperandClass as kind
+use Rattle.pack_layout.specs.declared.OperandClass.the-variants.{Plain, Literal, Branch, NoKind}
+use Rattle.pack_layout.specs.declared.ItemForm.{ItemForm}
+use Rattle.pack_layout.specs.declared.ItemForm.the-variants.{Alone, Immediate, InCell}
+use Rattle.pack_layout.specs.Listing.{Listing}
+use Rattle.pack_layout.specs.Layout.{extra, opens, mid, left, formAt}
+use Rattle.pack_layout.specs.Image.{byteOf}
+use Rattle.pack_layout.specs.Packing as packing
+use Rattle.pack_layout.specs.Packing.{marks, layout, value, addressOf, epValue, behind, register, Legal}
+use Rattle.pack_layout.proofs.Listing.{is-kind}
+use Rattle.pack_layout.proofs.Packing.{placed, ep-inside, size-is}
+use Rattle.pack_layout.proofs.Meet.{opcode, advance, run-into, immediate-value, immediate-next, operand-cell, operand-inside, literal-value, branch-lands, branch-cell}
 use Rattle.list_machine.specs.ListMachine.{operandAt, carryOut}
 use Rattle.list_machine.specs.Demand3.{Holds}
 use Rattle.list_machine.proofs.Opcodes.{leads, Taken, literal-taken, branch-taken, plain-decodes}

@@ -17,14 +17,14 @@ use Rattle.machine.specs.declared.Registers.{Registers}
 use Rattle.machine.specs.declared.Outcome.{Outcome}
 use Rattle.machine.specs.declared.Outcome.the-variants.{Went, Next, Raise, Halt, Throw}
 use Rattle.machine.specs.declared.Ended.the-variants as ended
-use Rattle.iteration.proofs.LengthLaws.{stored-length}
-use Rattle.layout.specs.Listing.{Listing}
-use Rattle.layout.specs.Layout.{formAt}
-use Rattle.layout.specs.Packing.{layout, imageCells, epValue, entryAt, Legal}
-use Rattle.layout.specs.declared.Entry.{Entry}
-use Rattle.layout.specs.declared.Entry.the-variants.{Item, Nothing}
-use Rattle.layout.proofs.Placing.{entry-opens}
-use Rattle.layout.proofs.Finding.{found}
+use Rattle.processor_laws.proofs.LengthLaws.{stored-length}
+use Rattle.pack_layout.specs.Listing.{Listing}
+use Rattle.pack_layout.specs.Layout.{formAt}
+use Rattle.pack_layout.specs.Packing.{layout, imageCells, epValue, entryAt, Legal}
+use Rattle.pack_layout.specs.declared.Entry.{Entry}
+use Rattle.pack_layout.specs.declared.Entry.the-variants.{Item, Nothing}
+use Rattle.pack_layout.proofs.Placing.{entry-opens}
+use Rattle.pack_layout.proofs.Finding.{found}
 use Rattle.list_machine.specs.declared.Outside.the-variants.{WritesImage, NoEntry, PastEnd}
 use Rattle.list_machine.specs.ListMachine.{Position, on, outside, isImmediate, actedTo, movedTo, enteredAt, writesImage, followed, acted, carriedBy}
 use Rattle.list_machine.specs.Demand3.{Holds}

@@ -8,7 +8,7 @@ use borrow.Author.Tests.{lt-ltb, ltb-true}
 use lib.Dec.{ltb}
 use Rattle.cell.specs.Choice.{if}
 use Rattle.machine.specs.declared.Machine.{Machine}
-use Rattle.layout.specs.Listing.{Listing}
+use Rattle.pack_layout.specs.Listing.{Listing}
 use Rattle.list_machine.specs.declared.Outside.the-variants.{PastEnd}
 use Rattle.list_machine.specs.ListMachine.{Position, Carried, on, stopped, outside, carryOut, cyclesAt}
 use Rattle.list_machine.specs.Runs.{Course, goesOn, stoppedBy, stoodOutside, isOver, Run, furtherBy, furtherIn, further, runOf, resuming}

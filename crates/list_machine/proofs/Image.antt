@@ -19,11 +19,11 @@ use Rattle.machine.specs.declared.Registers.{Registers}
 use Rattle.machine.specs.declared.Access.{Access}
 use Rattle.machine.specs.declared.Access.the-variants.{Stream}
 use Rattle.machine.specs.declared.Ended.the-variants.{Went}
-use Rattle.layout.specs.Listing.{Listing}
-use Rattle.layout.specs.Layout.{opens, mid}
-use Rattle.layout.specs.Packing.{layout, imageCells, image, addressOf, epValue, register, Legal}
-use Rattle.layout.proofs.Packing.{placed, at-inside}
-use Rattle.layout.proofs.Meet.{enter}
+use Rattle.pack_layout.specs.Listing.{Listing}
+use Rattle.pack_layout.specs.Layout.{opens, mid}
+use Rattle.pack_layout.specs.Packing.{layout, imageCells, image, addressOf, epValue, register, Legal}
+use Rattle.pack_layout.proofs.Packing.{placed, at-inside}
+use Rattle.pack_layout.proofs.Meet.{enter}
 use Rattle.list_machine.specs.Demand3.{Holds}
 
 good-cell : (len a : ℕ) → a < len → a % 4 ≡ 0 → checkCell len a ≡ Good

@@ -12,13 +12,13 @@ use Rattle.machine.specs.declared.Access.the-variants.{Stream}
 use Rattle.machine.specs.declared.Ended.{Ended}
 use Rattle.machine.specs.declared.Ended.the-variants.{Stopped}
 use Rattle.processor.specs.Answers.{isStop}
-use Rattle.layout.specs.Listing.{Listing}
-use Rattle.layout.specs.Layout.{opens}
-use Rattle.layout.specs.Packing.{layout, addressOf, epValue, register, entryAt, Legal}
-use Rattle.layout.specs.declared.Entry.{Entry}
-use Rattle.layout.specs.declared.Entry.the-variants.{Item, Nothing}
-use Rattle.layout.proofs.Placing.{entry-opens}
-use Rattle.layout.proofs.Finding.{found}
+use Rattle.pack_layout.specs.Listing.{Listing}
+use Rattle.pack_layout.specs.Layout.{opens}
+use Rattle.pack_layout.specs.Packing.{layout, addressOf, epValue, register, entryAt, Legal}
+use Rattle.pack_layout.specs.declared.Entry.{Entry}
+use Rattle.pack_layout.specs.declared.Entry.the-variants.{Item, Nothing}
+use Rattle.pack_layout.proofs.Placing.{entry-opens}
+use Rattle.pack_layout.proofs.Finding.{found}
 use Rattle.list_machine.specs.declared.Outside.{Outside}
 use Rattle.list_machine.specs.ListMachine.{Position, Carried, on, stopped, outside, enteredAt, transferred}
 use Rattle.list_machine.specs.Demand3.{Holds}

@@ -8,11 +8,11 @@ use native.Mathlib.Omega.{arith}
 use Rattle.instruction.specs.Taking.{Taking, branch, questionBranch, call, loop, plusLoop, literal}
 use Rattle.instruction.specs.declared.OperandForm.the-variants.{InCell, Immediate}
 use Rattle.instruction.specs.Dispatch.{decodeOf, OperandClass, next, plain, taking, operandClass}
-use Rattle.layout.specs.Kinds as kinds
-use Rattle.layout.specs.declared.OperandClass as kind
-use Rattle.layout.specs.declared.OperandClass.the-variants.{Plain, Literal, Branch, NoKind}
-use Rattle.layout.proofs.KindLaws.{literal-is, branch-among, AllOf, one-among}
-use Rattle.layout.proofs.Listing.{kind-low}
+use Rattle.pack_layout.specs.Kinds as kinds
+use Rattle.pack_layout.specs.declared.OperandClass as kind
+use Rattle.pack_layout.specs.declared.OperandClass.the-variants.{Plain, Literal, Branch, NoKind}
+use Rattle.pack_layout.proofs.KindLaws.{literal-is, branch-among, AllOf, one-among}
+use Rattle.pack_layout.proofs.Listing.{kind-low}
 
 -- whether an operand is an address that a branch leads to
 abbrev pub leads : Taking → Bool

@@ -6,10 +6,10 @@ use native.Mathlib.Omega.{arith}
 use lib.ListN.{length, getD}
 use Rattle.cell.specs.Memory.{cellAt, byte0, byte1, byte2, byte3}
 use Rattle.cell.proofs.BytesLaws.{join-bytes}
-use Rattle.layout.specs.Listing.{Listing}
-use Rattle.layout.specs.Output.{bytesOf}
-use Rattle.layout.specs.Packing.{imageCells, image, Legal}
-use Rattle.layout.proofs.Packing.{image-below, size-is}
+use Rattle.pack_layout.specs.Listing.{Listing}
+use Rattle.pack_layout.specs.Output.{bytesOf}
+use Rattle.pack_layout.specs.Packing.{imageCells, image, Legal}
+use Rattle.pack_layout.proofs.Packing.{image-below, size-is}
 use Rattle.list_machine.specs.Demand3.{PackedHolds}
 
 -- a cell behind the first one

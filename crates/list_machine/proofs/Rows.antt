@@ -9,12 +9,12 @@ use Rattle.machine.specs.Throws.{handlerOf, throwOf, throwingOf}
 use Rattle.instruction.specs.Plain.{plainOf}
 use Rattle.instruction.specs.Taking.{takingOf}
 use Rattle.instruction.specs.Dispatch.{decodeOf}
-use Rattle.layout.specs.Kinds.{classOf}
-use Rattle.layout.specs.Bytes.{fits}
-use Rattle.layout.specs.Listing.{any, entry}
-use Rattle.layout.specs.Layout.{cur}
-use Rattle.layout.specs.Rounds.{rounds, settle, settled}
-use Rattle.layout.specs.Packing.{marks, entryBelow, entryAt}
+use Rattle.pack_layout.specs.Kinds.{classOf}
+use Rattle.pack_layout.specs.Bytes.{fits}
+use Rattle.pack_layout.specs.Listing.{any, entry}
+use Rattle.pack_layout.specs.Layout.{cur}
+use Rattle.pack_layout.specs.Rounds.{rounds, settle, settled}
+use Rattle.pack_layout.specs.Packing.{marks, entryBelow, entryAt}
 use Rattle.list_machine.specs.ListMachine.{carryOut}
 use Rattle.list_machine.specs.Runs.{further, runOf}
 use Rattle.list_machine.specs.Worked.{Holding, cases}

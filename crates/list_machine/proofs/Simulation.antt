@@ -18,11 +18,11 @@ use Rattle.instruction.specs.Dispatch.{decodeOf, executeOf}
 use Rattle.processor.specs.Cycles.{cycleOf, advance, cyclesOf}
 use Rattle.processor.specs.Answers.{isStop, begun, doneOf}
 use Rattle.processor.proofs.CycleLaws.{cycles-cut, goes}
-use Rattle.layout.specs.Listing.{Listing}
-use Rattle.layout.specs.Layout.{cur, opens}
-use Rattle.layout.specs.Packing.{layout, addressOf, epValue, register, Legal}
-use Rattle.layout.proofs.Listing.{some-item}
-use Rattle.layout.proofs.Packing.{at-inside}
+use Rattle.pack_layout.specs.Listing.{Listing}
+use Rattle.pack_layout.specs.Layout.{cur, opens}
+use Rattle.pack_layout.specs.Packing.{layout, addressOf, epValue, register, Legal}
+use Rattle.pack_layout.proofs.Listing.{some-item}
+use Rattle.pack_layout.proofs.Packing.{at-inside}
 use Rattle.list_machine.specs.ListMachine.{Position, Carried, on, stopped, outside, carryOut, cyclesAt}
 use Rattle.list_machine.specs.Runs.{Course, goesOn, stoppedBy, stoodOutside, Run, furtherBy, furtherIn, further, runOf, beginning}
 use Rattle.list_machine.specs.Demand3.{Holds, firstRegisters, Agree, Demand3, running, stopOf, stopIn}

@@ -27,10 +27,10 @@ use Rattle.machine.specs.declared.Access.the-variants.{Stream, Push}
 use Rattle.machine.specs.declared.Ended.{Ended}
 use Rattle.machine.specs.declared.Ended.the-variants.{Went, Threw, Stopped}
 use Rattle.processor.specs.Answers.{isStop}
-use Rattle.iteration.proofs.LengthLaws.{noted-length}
-use Rattle.layout.specs.Listing.{Listing}
-use Rattle.layout.specs.Packing.{imageCells, epValue, Legal}
-use Rattle.layout.proofs.Packing.{placed}
+use Rattle.processor_laws.proofs.LengthLaws.{noted-length}
+use Rattle.pack_layout.specs.Listing.{Listing}
+use Rattle.pack_layout.specs.Packing.{imageCells, epValue, Legal}
+use Rattle.pack_layout.proofs.Packing.{placed}
 use Rattle.list_machine.specs.declared.Outside.the-variants.{WritesImage, NoHandler}
 use Rattle.list_machine.specs.ListMachine.{Position, outside, pushOf, writesImage, registersAt, handled, thrown}
 use Rattle.list_machine.specs.Demand3.{Holds}

@@ -20,12 +20,12 @@ use Rattle.machine.specs.declared.Machine.{Machine}
 use Rattle.machine.specs.declared.Access.the-variants.{Push}
 use Rattle.machine.specs.declared.Ended.{Ended}
 use Rattle.machine.specs.declared.Ended.the-variants.{Went, Threw, Stopped}
-use Rattle.layout.specs.Listing.{Listing}
-use Rattle.layout.specs.Layout.{formAt}
-use Rattle.layout.specs.Packing.{layout, entryAt}
-use Rattle.layout.specs.declared.Entry.{Entry}
-use Rattle.layout.specs.declared.Entry.the-variants.{Item, Nothing}
-use Rattle.layout.proofs.Finding.{found}
+use Rattle.pack_layout.specs.Listing.{Listing}
+use Rattle.pack_layout.specs.Layout.{formAt}
+use Rattle.pack_layout.specs.Packing.{layout, entryAt}
+use Rattle.pack_layout.specs.declared.Entry.{Entry}
+use Rattle.pack_layout.specs.declared.Entry.the-variants.{Item, Nothing}
+use Rattle.pack_layout.proofs.Finding.{found}
 use Rattle.list_machine.specs.declared.Outside.{Outside}
 use Rattle.list_machine.specs.declared.Outside.the-variants.{WritesImage, NoEntry, NoHandler, PastEnd}
 use Rattle.list_machine.specs.ListMachine.{Position, Carried, on, stopped, outside, isImmediate, pushOf, thrownTo, actedTo, movedTo, enteredAt, effectAt, writesImage, transferred, registersAt, handledBy, handled, thrown, ranOn, followed, acted, carriedBy, carryOut}

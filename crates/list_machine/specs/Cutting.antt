@@ -3,7 +3,7 @@ use mathlib.Core.Path.{_≡_}
 use mathlib.Core.Bool.{true}
 use Prim.Native.Nat.{ℕ, _+_}
 use Rattle.machine.specs.declared.Machine.{Machine}
-use Rattle.layout.specs.Listing.{Listing}
+use Rattle.pack_layout.specs.Listing.{Listing}
 use Rattle.list_machine.specs.ListMachine.{Position}
 use Rattle.list_machine.specs.Runs.{goesOn, isOver, Run, runOf, resuming}
 

@@ -25,9 +25,9 @@ use Rattle.processor.specs.Cycles.{cyclesOf}
 use Rattle.processor.specs.Answers.{machineOf, begun, doneOf, ranTo, runAnswer}
 use Rattle.processor.specs.declared.Ran.{Ran}
 use Rattle.processor.specs.declared.Ran.the-variants.{Spent, Stopped}
-use Rattle.layout.specs.Listing.{Listing}
-use Rattle.layout.specs.Output.{bytesOf}
-use Rattle.layout.specs.Packing.{imageCells, image, Legal}
+use Rattle.pack_layout.specs.Listing.{Listing}
+use Rattle.pack_layout.specs.Output.{bytesOf}
+use Rattle.pack_layout.specs.Packing.{imageCells, image, Legal}
 use Rattle.list_machine.specs.Runs.{Course, goesOn, stoppedBy, stoodOutside, Run, runOf, beginning}
 
 -- the cells from the base on are the image

@@ -26,13 +26,13 @@ use Rattle.machine.specs.declared.Ended.the-variants.{Went, Threw, Stopped}
 use Rattle.instruction.specs.Plain.{plainOf}
 use Rattle.instruction.specs.Taking.{Taking, branch, questionBranch, call, loop, plusLoop, literal, takingOf}
 use Rattle.instruction.specs.Dispatch.{decodeOf, OperandClass, next, plain, taking, operandClass}
-use Rattle.layout.specs.Listing.{Listing}
-use Rattle.layout.specs.Layout.{opens, formAt}
-use Rattle.layout.specs.Packing.{layout, imageCells, addressOf, epValue, behind, entryAt}
-use Rattle.layout.specs.declared.Entry.{Entry}
-use Rattle.layout.specs.declared.Entry.the-variants.{Item, Nothing}
-use Rattle.layout.specs.declared.ItemForm.{ItemForm}
-use Rattle.layout.specs.declared.ItemForm.the-variants.{Alone, Immediate, InCell}
+use Rattle.pack_layout.specs.Listing.{Listing}
+use Rattle.pack_layout.specs.Layout.{opens, formAt}
+use Rattle.pack_layout.specs.Packing.{layout, imageCells, addressOf, epValue, behind, entryAt}
+use Rattle.pack_layout.specs.declared.Entry.{Entry}
+use Rattle.pack_layout.specs.declared.Entry.the-variants.{Item, Nothing}
+use Rattle.pack_layout.specs.declared.ItemForm.{ItemForm}
+use Rattle.pack_layout.specs.declared.ItemForm.the-variants.{Alone, Immediate, InCell}
 use Rattle.list_machine.specs.declared.Outside.{Outside}
 use Rattle.list_machine.specs.declared.Outside.the-variants.{WritesImage, NoEntry, NoHandler, PastEnd}
 

@@ -6,7 +6,7 @@ use Prim.Native.Nat.{ℕ, zero, suc, _+_}
 use lib.Dec.{ltb}
 use Rattle.cell.specs.Choice.{if}
 use Rattle.machine.specs.declared.Machine.{Machine}
-use Rattle.layout.specs.Listing.{Listing}
+use Rattle.pack_layout.specs.Listing.{Listing}
 use Rattle.list_machine.specs.declared.Outside.{Outside}
 use Rattle.list_machine.specs.declared.Outside.the-variants.{PastEnd}
 use Rattle.list_machine.specs.ListMachine.{Position, Carried, on, stopped, outside, carryOut, cyclesAt}

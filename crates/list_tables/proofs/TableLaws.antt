@@ -9,17 +9,17 @@ use native.Mathlib.Omega.{arith}
 use lib.Dec.{eqb}
 use lib.ListN.{length, getD, set, length-set}
 use lib.Seq.{getD-set-same, getD-set-other}
-use Rattle.layout.specs.Kinds as sorts
-use Rattle.layout.specs.declared.Class.the-variants as class
-use Rattle.layout.specs.declared.ItemForm.{ItemForm}
-use Rattle.layout.specs.Flags.{bit, Flags, flagged}
-use Rattle.layout.specs.Listing.{Listing, listed, entry, Checked}
-use Rattle.layout.specs.Layout.{extra, opens, mid, left, formAt, Laid}
-use Rattle.layout.specs.Packing as packing
-use Rattle.layout.specs.Packing.{marks as marksOf, formOf, layout, imageCells, addressOf, epValue, behind, entryAt}
-use Rattle.layout.proofs.Packing.{Placed, base-of}
-use Rattle.layout.proofs.Placing.{left-le, at-most, at-before, reach, opens-is}
-use Rattle.layout.proofs.Listing.{target-below, some-item}
+use Rattle.pack_layout.specs.Kinds as sorts
+use Rattle.pack_layout.specs.declared.Class.the-variants as class
+use Rattle.pack_layout.specs.declared.ItemForm.{ItemForm}
+use Rattle.pack_layout.specs.Flags.{bit, Flags, flagged}
+use Rattle.pack_layout.specs.Listing.{Listing, listed, entry, Checked}
+use Rattle.pack_layout.specs.Layout.{extra, opens, mid, left, formAt, Laid}
+use Rattle.pack_layout.specs.Packing as packing
+use Rattle.pack_layout.specs.Packing.{marks as marksOf, formOf, layout, imageCells, addressOf, epValue, behind, entryAt}
+use Rattle.pack_layout.proofs.Packing.{Placed, base-of}
+use Rattle.pack_layout.proofs.Placing.{left-le, at-most, at-before, reach, opens-is}
+use Rattle.pack_layout.proofs.Listing.{target-below, some-item}
 use Rattle.list_machine.specs.ListMachine.{isImmediate}
 use Rattle.list_tables.specs.Tables.{placeIn, nextIn, behindIn, flagsIn, flagsOf, entryIn, opensIn, immediateIn, rows, withRow, entryBelow, Near, Row, Rows, Settled}
 use Rattle.list_tables.specs.declared.Image.{Image}

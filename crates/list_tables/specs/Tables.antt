@@ -6,12 +6,12 @@ use Prim.Native.Nat.{ℕ, zero, suc, _+_, _*_, _/_, _%_, _^_, _≤_, _<_}
 use lib.Dec.{eqb}
 use lib.ListN.{length, getD, set}
 use Rattle.cell.specs.declared.Judged.the-variants.{Passed}
-use Rattle.layout.specs.Flags.{bit}
-use Rattle.layout.specs.Listing.{Listing, listed, entry, Checked}
-use Rattle.layout.specs.Layout.{extra, opens, mid, formAt}
-use Rattle.layout.specs.Packing.{layout, imageCells, judgedPlace, pickEntry}
-use Rattle.layout.specs.declared.Entry.{Entry}
-use Rattle.layout.specs.declared.Entry.the-variants.{Item, Nothing}
+use Rattle.pack_layout.specs.Flags.{bit}
+use Rattle.pack_layout.specs.Listing.{Listing, listed, entry, Checked}
+use Rattle.pack_layout.specs.Layout.{extra, opens, mid, formAt}
+use Rattle.pack_layout.specs.Packing.{layout, imageCells, judgedPlace, pickEntry}
+use Rattle.pack_layout.specs.declared.Entry.{Entry}
+use Rattle.pack_layout.specs.declared.Entry.the-variants.{Item, Nothing}
 use Rattle.list_machine.specs.ListMachine.{isImmediate}
 use Rattle.list_tables.specs.declared.Image.{Image}
 

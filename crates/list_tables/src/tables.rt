@@ -4,7 +4,7 @@ ghost use Prim.Native.Nat.{_≤_, _<_};
 ghost use Rattle.cell.specs.Memory.{cellCount};
 ghost use Rattle.list_tables.specs.Tables as tables;
 use cell::CellCount;
-use layout::ItemNumber;
+use pack_layout::ItemNumber;
 
 // The index of an item's cell.
 pub fn place_of(table: &[u32], item: ItemNumber) -> CellCount

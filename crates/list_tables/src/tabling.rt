@@ -2,17 +2,17 @@
 ghost use mathlib.Core.Path.{_≡_};
 ghost use Prim.Native.Nat.{_+_, _*_, _≤_, _<_};
 ghost use lib.ListN.{length};
-ghost use Rattle.layout.specs.Flags.{Flags, flagged, bit};
-ghost use Rattle.layout.specs.Listing.{listed, entry, Checked};
-ghost use Rattle.layout.specs.Layout as placing;
-ghost use Rattle.layout.specs.Packing.{marks as marksOf, layout};
+ghost use Rattle.pack_layout.specs.Flags.{Flags, flagged, bit};
+ghost use Rattle.pack_layout.specs.Listing.{listed, entry, Checked};
+ghost use Rattle.pack_layout.specs.Layout as placing;
+ghost use Rattle.pack_layout.specs.Packing.{marks as marksOf, layout};
 ghost use Rattle.list_machine.specs.ListMachine as lists;
 ghost use Rattle.list_tables.specs.Tables as tables;
 use cell::CellCount;
-use layout::ItemForm;
-use layout::ItemNumber;
-use listing::kinds::class_of;
-use packing::place::form_of;
+use pack_judging::kinds::class_of;
+use pack_layout::ItemForm;
+use pack_layout::ItemNumber;
+use pack_rounds::place::form_of;
 
 fn is_short(form: ItemForm) -> bool
     ensures { λ r. ⌜ r ≡ lists.isImmediate form ⌝ }

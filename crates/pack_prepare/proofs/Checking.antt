@@ -12,11 +12,11 @@ use Rattle.cell.specs.Refusals.{judge}
 use Rattle.cell.specs.declared.Refusal.the-variants.{ItemCount}
 use Rattle.cell.specs.declared.Judged.the-variants.{Passed}
 use Rattle.cell.proofs.JudgementLaws.{both-pass, one-clear}
-use Rattle.layout.specs.Grounds.{unequal}
-use Rattle.layout.specs.Listing.{listed, judgedArrays, judgedListing, Checked}
-use Rattle.layout.specs.Packing.{layout, imageCells}
-use Rattle.layout.proofs.Listing.{some-item}
-use Rattle.layout.proofs.Placing.{at-most}
+use Rattle.pack_layout.specs.Grounds.{unequal}
+use Rattle.pack_layout.specs.Listing.{listed, judgedArrays, judgedListing, Checked}
+use Rattle.pack_layout.specs.Packing.{layout, imageCells}
+use Rattle.pack_layout.proofs.Listing.{some-item}
+use Rattle.pack_layout.proofs.Placing.{at-most}
 
 -- arrays that the input list passes
 pub arrays-checked : (kinds operands : List ℕ) → judgedArrays kinds operands ≡ Passed → Checked kinds operands

@@ -2,12 +2,12 @@
 ghost use mathlib.Core.Path.{_≡_};
 ghost use lib.ListN.{length};
 ghost use Rattle.cell.specs.Memory.{cellCount};
-ghost use Rattle.layout.specs.Listing.{listed, Checked};
-ghost use Rattle.layout.specs.Packing.{imageCells};
+ghost use Rattle.pack_layout.specs.Listing.{listed, Checked};
+ghost use Rattle.pack_layout.specs.Packing.{imageCells};
 ghost use Rattle.pack_prepare.specs.Prepared.{Places, Prepared};
 use cell::CellCount;
-use listing::entries::find_entries;
-use packing::settle::settle_marks;
+use pack_judging::entries::find_entries;
+use pack_rounds::settle::settle_marks;
 
 // Fills the working arrays. The answer is the number of cells of the image.
 pub fn prepare(

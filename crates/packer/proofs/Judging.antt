@@ -13,9 +13,9 @@ use Rattle.cell.specs.declared.Refusal.the-variants.{ShortOutput}
 use Rattle.cell.specs.declared.Judged.{Judged}
 use Rattle.cell.specs.declared.Judged.the-variants.{Passed, Refused}
 use Rattle.cell.proofs.JudgementLaws.{both-pass, one-clear}
-use Rattle.layout.specs.Listing.{Listing, listed, judgedArrays, Checked}
-use Rattle.layout.specs.Packing.{imageCells, judgedPlace}
-use Rattle.layout.proofs.Packing.{base-of}
+use Rattle.pack_layout.specs.Listing.{Listing, listed, judgedArrays, Checked}
+use Rattle.pack_layout.specs.Packing.{imageCells, judgedPlace}
+use Rattle.pack_layout.proofs.Packing.{base-of}
 use Rattle.pack_prepare.proofs.Checking.{arrays-checked}
 use Rattle.packer.specs.Judgement.{judgeOrder, judgeRoom, judgeInput, judgeImage, judgeAll, judgePack}
 

@@ -6,8 +6,8 @@ use lib.Dec.{ltb}
 use Rattle.cell.specs.Refusals.{Ground, judge, inOrder, byteOrder}
 use Rattle.cell.specs.declared.Refusal.the-variants.{ShortOutput}
 use Rattle.cell.specs.declared.Judged.{Judged}
-use Rattle.layout.specs.Listing.{Listing, listed, judgedArrays}
-use Rattle.layout.specs.Packing.{imageCells, judgedPlace}
+use Rattle.pack_layout.specs.Listing.{Listing, listed, judgedArrays}
+use Rattle.pack_layout.specs.Packing.{imageCells, judgedPlace}
 
 -- -4102: no byte order but 0 and 1
 unfoldable pub judgeOrder : ℕ → Judged

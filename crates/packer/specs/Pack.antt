@@ -7,9 +7,9 @@ use Rattle.cell.specs.Memory.{cellCount}
 use Rattle.cell.specs.Refusals.{refusalNumber}
 use Rattle.cell.specs.declared.Judged.{Judged}
 use Rattle.cell.specs.declared.Judged.the-variants as judged
-use Rattle.layout.specs.Listing.{Listing, listed}
-use Rattle.layout.specs.Packing.{image, imageCells}
-use Rattle.layout.specs.Output.{written}
+use Rattle.pack_layout.specs.Listing.{Listing, listed}
+use Rattle.pack_layout.specs.Packing.{image, imageCells}
+use Rattle.pack_layout.specs.Output.{written}
 use Rattle.packer.specs.declared.Packed.{Packed}
 use Rattle.packer.specs.declared.Packed.the-variants as packed
 use Rattle.packer.specs.Judgement.{judgePack}

@@ -6,8 +6,8 @@ use cell::Address;
 use cell::CellCount;
 use cell::Judged;
 use cell::Refusal;
-use listing::check::judge_arrays;
-use listing::check::judge_place;
+use pack_judging::check::judge_arrays;
+use pack_judging::check::judge_place;
 use pack_prepare::prepare::count_cells;
 
 pub fn judge_order(order: u8) -> Judged

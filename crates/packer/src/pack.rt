@@ -1,8 +1,8 @@
 // pack: a listing in two arrays.
 ghost use mathlib.Core.Path.{_≡_};
 ghost use lib.ListN.{length};
-ghost use Rattle.layout.specs.Listing.{listed, Checked};
-ghost use Rattle.layout.specs.Packing.{imageCells};
+ghost use Rattle.pack_layout.specs.Listing.{listed, Checked};
+ghost use Rattle.pack_layout.specs.Packing.{imageCells};
 ghost use Rattle.packer.specs.Judgement as judgement;
 ghost use Rattle.packer.specs.Pack as answers;
 ghost use Rattle.pack_prepare.specs.Prepared.{Places};
@@ -11,7 +11,7 @@ use crate::judgement::judge_image;
 use crate::judgement::judge_input;
 use cell::Address;
 use cell::Judged;
-use image::write::write_image;
+use pack_image::write::write_image;
 use pack_prepare::prepare::prepare;
 
 // A listing that the input list passed, with the working arrays lent.

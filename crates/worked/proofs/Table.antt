@@ -14,13 +14,13 @@ use Rattle.instruction.specs.Taking.{takingOf}
 use Rattle.instruction.specs.Dispatch.{decodeOf, executeOf}
 use Rattle.processor.specs.Cycles.{cycleOf, advance, cyclesOf, startOf}
 use Rattle.processor.specs.Answers.{startAnswer, cycleAnswer, doneOf, runAnswer}
-use Rattle.layout.specs.Kinds.{classOf}
-use Rattle.layout.specs.Bytes.{fits, pack}
-use Rattle.layout.specs.Listing.{any, entry, judgedFrom, judgedListing, judgedArrays}
-use Rattle.layout.specs.Layout.{cur}
-use Rattle.layout.specs.Image.{word, cells}
-use Rattle.layout.specs.Rounds.{rounds, settle, settled}
-use Rattle.layout.specs.Packing.{marks, image}
+use Rattle.pack_layout.specs.Kinds.{classOf}
+use Rattle.pack_layout.specs.Bytes.{fits, pack}
+use Rattle.pack_layout.specs.Listing.{any, entry, judgedFrom, judgedListing, judgedArrays}
+use Rattle.pack_layout.specs.Layout.{cur}
+use Rattle.pack_layout.specs.Image.{word, cells}
+use Rattle.pack_layout.specs.Rounds.{rounds, settle, settled}
+use Rattle.pack_layout.specs.Packing.{marks, image}
 use Rattle.module.specs.Format.{countOf}
 use Rattle.module.specs.Grounds.{judgeLoad}
 use Rattle.module.specs.Copies.{copied}

@@ -3,7 +3,7 @@ use mathlib.Core.List.{List, [], _∷_, map}
 use Prim.Native.Nat.{ℕ, _+_}
 use Rattle.cell.specs.Memory.{storeCell}
 use Rattle.processor.specs.Answers.{StartAnswer, startAnswer, RunAnswer, runAnswer}
-use Rattle.layout.specs.Worked as packed
+use Rattle.pack_layout.specs.Worked as packed
 use Rattle.worked.specs.Rows.{Row, numbers, lists}
 use Rattle.worked.specs.Processor.{blank}
 

@@ -3,8 +3,8 @@ use mathlib.Core.Path.{refl, sym, _∙_}
 use native.Mathlib.Omega.{arith}
 use denote.Ref.{now}
 use lib.ListN.{getD}
-use Rattle.layout.specs.Listing.{listed}
-use Rattle.layout.proofs.Listing.{is-kind}
+use Rattle.pack_layout.specs.Listing.{listed}
+use Rattle.pack_layout.proofs.Listing.{is-kind}
 use Rattle.list_tables.proofs.TableLaws.{in-rows, next-near, behind-near, target-in}
 use Rattle.list_judging.proofs.KindLaws.{plain-some}
 use Rattle.list_judging.proofs.ProposeLaws.{asks-plain, asks-literal, asks-branch}

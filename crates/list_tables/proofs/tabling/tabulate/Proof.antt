@@ -5,10 +5,10 @@ use Prim.Native.Nat.{_-_, _*_, _≤_}
 use native.Mathlib.Omega.{arith}
 use lib.Dec.{eqb}
 use lib.ListN.{length, getD}
-use Rattle.layout.specs.declared.Class.{Class}
-use Rattle.layout.specs.Listing.{listed}
-use Rattle.layout.specs.Packing.{formOf}
-use Rattle.layout.proofs.Listing.{some-item}
+use Rattle.pack_layout.specs.declared.Class.{Class}
+use Rattle.pack_layout.specs.Listing.{listed}
+use Rattle.pack_layout.specs.Packing.{formOf}
+use Rattle.pack_layout.proofs.Listing.{some-item}
 use Rattle.list_tables.specs.Tables.{Rows}
 use Rattle.list_tables.proofs.TableLaws.{left-low, behind-low, all-rows, next-row}
 use Rattle.list_tables.proofs.tabling.tabulate.Statement.{statement}

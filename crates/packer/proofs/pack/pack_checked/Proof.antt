@@ -4,7 +4,7 @@ use Rattle.packer.proofs.pack.pack_checked.Statement.{statement}
 use Rattle.packer.proofs.pack.pack_checked.Tie as tie
 use mathlib.Core.Path.{sym, _∙_}
 use lib.ListN.{length}
-use Rattle.layout.specs.Listing.{listed}
+use Rattle.pack_layout.specs.Listing.{listed}
 use Rattle.packer.proofs.Answering.{image-refused, image-packed}
 use Rattle.pack_prepare.proofs.Checking.{cells-most}
 use Rattle.packer.proofs.Judging.{counted-fits}

@@ -1,0 +1,17 @@
+-- `check_write` meets its contract: one place is checked.
+use borrow.Author.Needs.{needs}
+use Rattle.list_effects.proofs.judging.check_write.Statement.{statement}
+use Rattle.list_effects.proofs.judging.check_write.Tie as tie
+use mathlib.Core.Path.{sym, _∙_}
+use Rattle.machine.specs.Commits as commits
+use Rattle.machine.proofs.CommitLaws.{first-good}
+
+check-place-requires : tie.Need-check-place-requires
+check-place-requires c κs = search needs
+
+returns : tie.Need-returns
+unfolding commits.placesOf
+returns c = c .check-place .ensures ∙ sym (first-good _)
+
+pub check-write-spec : {M : Type 1} → statement M
+check-write-spec = tie.close (tie.spec check-place-requires returns)

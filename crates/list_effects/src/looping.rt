@@ -1,0 +1,88 @@
+// What (LOOP) and (+LOOP) would do, with their operand in A. The dispatch has calls of its own for them: a second call of the same function would keep
+// it from being laid into the processor's loop.
+ghost use mathlib.Core.Path.{_≡_};
+ghost use Rattle.machine.specs.Places as places;
+ghost use Rattle.machine.specs.Effects as effects;
+ghost use Rattle.instruction.specs.Taking as taking;
+ghost use Rattle.instruction.specs.declared.OperandForm.the-variants as form;
+ghost use Rattle.list_effects.specs.Looping as looping;
+use cell::Address;
+use cell::Fetched;
+use cell::number::add;
+use instruction::shape::fail_maybe;
+use instruction::shape::is_crossed;
+use instruction::shape::write_nothing;
+use machine::Access;
+use machine::Machine;
+use machine::MaybeStore;
+use machine::Registers;
+use machine::Then;
+use machine::Write;
+use machine::places::fetch;
+
+fn is_over(plus: bool, index: u32, next: u32, limit: u32) -> bool
+    ensures { λ r. ⌜ r ≡ looping.isOver plus index next limit ⌝ }
+{
+    if plus {
+        return is_crossed(index, next, limit);
+    }
+    next == limit
+}
+
+// The index gains n; sp is SP behind the loop.
+fn propose_step(
+    machine: Machine,
+    memory: &[u8],
+    sp: u32,
+    rp: u32,
+    to: u32,
+    n: u32,
+    plus: bool,
+) -> MaybeStore
+    requires { ⌜ places.Whole (now memory) ⌝ }
+    ensures { λ e. ⌜ effects.maybeStore e ≡ looping.loopedOf machine (now (memory .entry)) sp rp to n plus ⌝ }
+{
+    let got = fetch(machine, Access::ReturnRead, memory, Address(rp));
+    let Fetched::Cell(index) = got else {
+        return fail_maybe(got);
+    };
+    let got2 = fetch(machine, Access::ReturnRead, memory, Address(add(rp, 4)));
+    let Fetched::Cell(limit) = got2 else {
+        return fail_maybe(got2);
+    };
+    let next = add(index, n);
+    if is_over(plus, index, next, limit) {
+        return write_nothing(sp, add(rp, 8));
+    }
+    MaybeStore {
+        sp: sp,
+        rp: rp,
+        writes: true,
+        write: Write {
+            access: Access::ReturnWrite,
+            at: Address(rp),
+            value: next,
+        },
+        then: Then::Jump(Address(to)),
+    }
+}
+
+pub fn propose_loop(machine: Machine, memory: &[u8], r: Registers) -> MaybeStore
+    requires { ⌜ places.Whole (now memory) ⌝ }
+    ensures { λ e. ⌜ effects.maybeStore e ≡ taking.takingAt machine form.Immediate taking.loop (now (memory .entry)) r ⌝ }
+{
+    let to = add(r.ep, r.a % 0x40000000 * 4);
+    propose_step(machine, memory, r.sp, r.rp, to, 1, false)
+}
+
+pub fn propose_plus_loop(machine: Machine, memory: &[u8], r: Registers) -> MaybeStore
+    requires { ⌜ places.Whole (now memory) ⌝ }
+    ensures { λ e. ⌜ effects.maybeStore e ≡ taking.takingAt machine form.Immediate taking.plusLoop (now (memory .entry)) r ⌝ }
+{
+    let got = fetch(machine, Access::DataRead, memory, Address(r.sp));
+    let Fetched::Cell(n) = got else {
+        return fail_maybe(got);
+    };
+    let to = add(r.ep, r.a % 0x40000000 * 4);
+    propose_step(machine, memory, add(r.sp, 4), r.rp, to, n, true)
+}

@@ -1,0 +1,134 @@
+-- What a run of the list machine rests on once it passed, what it answers, and that it runs as its packed cells do.
+use mathlib.Core.Path.{_≡_, refl, sym, ap, _∙_}
+use mathlib.Core.Bool.{false}
+use mathlib.Core.List.{List}
+use Prim.{tt}
+use Prim.Native.Nat.{ℕ, _*_, _^_, _<_}
+use native.Mathlib.Omega.{arith}
+use lib.ListN.{length, getD}
+use Rattle.cell.specs.Memory.{cellCount}
+use Rattle.cell.specs.Refusals.{after, judgeMachine, Lent}
+use Rattle.cell.specs.declared.CellCount.{CellCount}
+use Rattle.cell.specs.declared.Refusal.{Refusal}
+use Rattle.cell.specs.declared.Judged.{Judged}
+use Rattle.cell.specs.declared.Judged.the-variants.{Passed, Refused}
+use Rattle.cell.proofs.JudgementLaws.{both-pass}
+use Rattle.machine.specs.declared.Machine.{Machine}
+use Rattle.processor.specs.Answers.{machineOf}
+use Rattle.processor.proofs.EntryLaws.{passed}
+use Rattle.pack_layout.specs.Listing.{Listing, listed, judgedArrays, Checked}
+use Rattle.pack_layout.specs.Packing.{imageCells, judgedPlace}
+use Rattle.pack_prepare.proofs.Checking.{arrays-checked}
+use Rattle.list_machine.specs.Runs.{Course, goesOn, stoppedBy, stoodOutside, Run, runOf, resuming}
+use Rattle.list_machine.proofs.Simulation.{demand3}
+use Rattle.list_tables.specs.Tables.{Rows, Settled}
+use Rattle.list_tables.specs.declared.Image.{Image}
+use Rattle.list_judging.specs.Stands.{positionOf}
+use Rattle.list_judging.specs.declared.Stand.{Stand}
+use Rattle.list_items.specs.Outcomes.{courseOf, runAs}
+use Rattle.list_items.specs.declared.Ending.{Ending}
+use Rattle.list_items.specs.declared.Ending.the-variants as ending
+use Rattle.list_items.specs.declared.ItemRun.{ItemRun}
+use Rattle.list_run.specs.Follow.{judgeBegin, judgeImage, judgeFollow, FollowResult, followedTo, standAt, endingOf, ranOf, followIf, resumeIn, followOf, AsPacked}
+use Rattle.list_run.specs.declared.Followed.{Followed}
+use Rattle.list_run.specs.declared.Followed.the-variants as followed
+
+-- what passed before the layout: the memory and the arrays
+pub begin-lent : (len order : ℕ) (kinds operands : List ℕ) → judgeBegin len order kinds operands ≡ Passed → Lent len
+unfolding judgeBegin
+begin-lent len order kinds operands e = passed len order (both-pass (judgeMachine len order) (judgedArrays kinds operands) e .0)
+
+pub begin-checked : (len order : ℕ) (kinds operands : List ℕ) → judgeBegin len order kinds operands ≡ Passed → Checked kinds operands
+unfolding judgeBegin
+begin-checked len order kinds operands e =
+    arrays-checked kinds operands (both-pass (judgeMachine len order) (judgedArrays kinds operands) e .1)
+
+-- the table of a listing whose image passed
+pub image-settled : (kinds operands table : List ℕ) (base : ℕ) (cells : CellCount) (room : Judged) (image : Image) → Checked kinds operands
+    → length table ≡ 4 * length kinds → Rows (listed kinds operands) table (length kinds) → cells ≡ cellCount (imageCells (listed kinds operands))
+    → image .base .0 ≡ base → image .cells ≡ cells → judgeImage base (cells .0) room ≡ Passed → Settled kinds operands table image
+unfolding judgeImage
+image-settled kinds operands table base cells room image ok whole rs e b c j =
+    record {
+      checked = ok;
+      whole = whole;
+      rows = rs;
+      size = ap (λ (x : CellCount). x .0) (c ∙ e);
+      place = rw (b, c) (both-pass (judgedPlace base (cells .0)) room j .0);
+    }
+
+-- the code's value of a run, and back
+ending-back : (e : Ending) → endingOf (courseOf e) ≡ e
+ending-back ending.GoesOn = refl
+ending-back (ending.Stopped x) = refl
+ending-back (ending.Outside why) = refl
+
+course-back : (c : Course) → courseOf (endingOf c) ≡ c
+course-back goesOn = refl
+course-back (stoppedBy x) = refl
+course-back (stoodOutside why) = refl
+
+run-back : (m : List ℕ) (x : ItemRun) → ranOf (runAs m x) ≡ x
+run-back m x = ap (λ (e : Ending). record { stand = x .stand; items = x .items; cycles = x .cycles; ending = e }) (ending-back (x .ending))
+
+pub run-there : (r : Run) → runAs (r .position .memory) (ranOf r) ≡ r
+run-there r = ap (λ (c : Course). record { position = r .position; items = r .items; cycles = r .cycles; course = c }) (course-back (r .course))
+
+-- an answer after the layout: a refusal, or the run
+module _ (machine : Machine) (base : ℕ) (l : Listing) (m : List ℕ) (start : Stand) (items : ℕ) (cells : CellCount) (size : cells ≡ cellCount (imageCells l))
+    (room : Judged) where
+  pub image-refused : (r : Refusal) → judgeImage base (cells .0) room ≡ Refused r
+      → followedTo m start (followed.Refused r) ≡ followIf (judgeImage base (imageCells l) room) machine base l m start items
+  image-refused r e = rw (← ap (λ (x : CellCount). x .0) size, e)
+
+  pub image-ran : judgeImage base (cells .0) room ≡ Passed → (m2 : List ℕ) (x : ItemRun)
+      → runAs m2 x ≡ runOf machine base l items (resuming l (positionOf m start))
+      → followedTo m2 start (followed.Run x) ≡ followIf (judgeImage base (imageCells l) room) machine base l m start items
+  image-ran e m2 x ran =
+      rw (← ap (λ (x : CellCount). x .0) size, e, ← ran)
+      (ap (λ (y : ItemRun). followedTo m2 start (followed.Run y)) (sym (run-back m2 x)))
+
+-- an answer from the judgement before the layout on
+module _ (room : Judged) (order : ℕ) (kinds operands : List ℕ) (base : ℕ) (m : List ℕ) (start : Stand) (items : ℕ) where
+  pub begin-refused : (r : Refusal) → judgeBegin (length m) order kinds operands ≡ Refused r
+      → followedTo m start (followed.Refused r) ≡ resumeIn room order kinds operands base m start items
+  unfolding resumeIn judgeFollow
+  begin-refused r e = rw e
+
+  pub begin-passed : (s : FollowResult) → judgeBegin (length m) order kinds operands ≡ Passed
+      → s ≡ followIf (judgeImage base (imageCells (listed kinds operands)) room) (machineOf order) base (listed kinds operands) m start items
+      → s ≡ resumeIn room order kinds operands base m start items
+  unfolding resumeIn judgeFollow
+  begin-passed s e q = q ∙ rw e
+
+-- demand 3 of the answer; an operand is a cell
+module _ (order : ℕ) (kinds operands : List ℕ) (base : ℕ) (m : List ℕ) (sp rp items : ℕ) (cells : (i : ℕ) → getD operands i 0 < 2 ^ 32) where
+  abbrev run : Run
+  run = runOf (machineOf order) base (listed kinds operands) items (resuming (listed kinds operands) (positionOf m (standAt 0 false sp rp)))
+
+  ran-packed : (m2 : List ℕ) (x : ItemRun) (j : Judged) → judgeFollow (length m) order kinds operands base Passed ≡ j
+      → followedTo m2 (standAt 0 false sp rp) (followed.Run x)
+      ≡ followIf j (machineOf order) base (listed kinds operands) m (standAt 0 false sp rp) items
+      → AsPacked order base (listed kinds operands) m sp rp m2 (followed.Run x)
+  unfolding judgeFollow judgeImage
+  ran-packed m2 x (Refused r) q e holds =
+      absurd (let f : followed.Run x ≡ followed.Refused r = ap (λ (s : FollowResult). s .answer) e in let z : _≡_ {A = ℕ} 0 1 = cc in omega arith)
+  ran-packed m2 x Passed q e holds =
+      let p = both-pass (judgeBegin (length m) order kinds operands) (after (judgedPlace base (imageCells (listed kinds operands))) Passed) q in
+      let f : followed.Run x ≡ followed.Run (ranOf run) = ap (λ (s : FollowResult). s .answer) e in
+      let g : x ≡ ranOf run = cc in
+      let h : m2 ≡ run .position .memory = ap (λ (s : FollowResult). s .memory) e in
+      rw (h, g, run-there run)
+      (demand3 (machineOf order) base (listed kinds operands) m sp rp items
+      (record {
+        input = begin-checked (length m) order kinds operands (p .0) .input;
+        state = both-pass (judgedPlace base (imageCells (listed kinds operands))) Passed (p .1) .0;
+        cell = λ i h. cells i;
+      })
+      holds)
+
+  pub as-packed : (m2 : List ℕ) (a : Followed) → followedTo m2 (standAt 0 false sp rp) a ≡ followOf order kinds operands base m sp rp items
+      → AsPacked order base (listed kinds operands) m sp rp m2 a
+  unfolding resumeIn
+  as-packed m2 (followed.Refused r) e = tt
+  as-packed m2 (followed.Run x) e = ran-packed m2 x (judgeFollow (length m) order kinds operands base Passed) refl e

@@ -1,0 +1,41 @@
+// The number and the reason of each answer.
+ghost use mathlib.Core.Path.{_≡_};
+ghost use Rattle.list_run.specs.Follow as follows;
+use crate::Followed;
+use cell::judgement::refusal_number;
+use list_items::Ending;
+use list_machine::outside_number;
+
+// 0 where all items asked for were carried out, 1 stopped by a reason, 2 outside.
+pub fn ending_number(ending: Ending) -> u32
+    ensures { λ n. ⌜ n ≡ follows.endingNumber ending ⌝ }
+{
+    match ending {
+        Ending::GoesOn => 0,
+        Ending::Stopped(_) => 1,
+        Ending::Outside(_) => 2,
+    }
+}
+
+// The reason of a stop, the number of the reason to stand outside, else 0.
+pub fn ending_reason(ending: Ending) -> u32
+    ensures { λ n. ⌜ n ≡ follows.endingReason ending ⌝ }
+{
+    match ending {
+        Ending::GoesOn => 0,
+        Ending::Stopped(x) => x,
+        Ending::Outside(why) => outside_number(why),
+    }
+}
+
+pub fn follow_number(answer: Followed) -> u32
+    ensures { λ n. ⌜ n ≡ follows.followNumber answer ⌝ }
+{
+    match answer {
+        Followed::Refused(r) => refusal_number(r),
+        Followed::Run(ran) => {
+            let ending = ran.ending;
+            ending_number(ending)
+        }
+    }
+}

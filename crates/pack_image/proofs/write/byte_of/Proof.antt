@@ -1,0 +1,30 @@
+-- `image::write::byte_of` meets its contract.
+-- Assumes nothing.
+use borrow.Author.Needs.{needs}
+use Rattle.pack_image.proofs.write.byte_of.Statement.{statement}
+use Rattle.pack_image.proofs.write.byte_of.Tie as tie
+
+enum-told : tie.Need-enum-told
+enum-told c = search needs
+
+enum-told-2 : tie.Need-enum-told-2
+enum-told-2 c = search needs
+
+add-result : tie.Need-add-result
+add-result c = search needs
+
+enum-told-3 : tie.Need-enum-told-3
+enum-told-3 c = search needs
+
+returns : tie.Need-returns
+returns c = search needs
+
+returns-2 : tie.Need-returns-2
+returns-2 c = simp (c .enum-told2 .given .1)
+
+returns-3 : tie.Need-returns-3
+returns-3 c = search needs
+
+pub byte-of-spec : {M : Type 1} → statement M
+byte-of-spec =
+    tie.close (tie.spec enum-told enum-told-2 add-result enum-told-3 returns returns-2 returns-3)
