@@ -1,3 +1,3 @@
--- What crate `shapes` means.
+-- What crate `list_effects` means.
 pub mod Shapes
 pub mod Looping

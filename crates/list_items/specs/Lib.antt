@@ -1,2 +1,2 @@
--- What crate `items` means.
+-- What crate `list_items` means.
 pub mod Outcomes

@@ -1,3 +1,3 @@
--- What crate `follow` means: what refuses a run of the list machine, what it leaves and answers, and that it may be cut at any item.
+-- What crate `list_run` means: what refuses a run of the list machine, what it leaves and answers, and that it may be cut at any item.
 pub mod Follow
 pub mod Cutting

@@ -1,2 +1,2 @@
--- What crate `listing_files` means.
+-- What crate `pack_files` means.
 pub mod Files

@@ -1,4 +1,4 @@
-// The packer: a listing becomes cells. Listing files are packed in `listing_files`.
+// The packer: a listing becomes cells. Listing files are packed in `pack_files`.
 pub mod answers;
 pub mod judgement;
 pub mod pack;

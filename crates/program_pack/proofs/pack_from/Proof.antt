@@ -1,4 +1,4 @@
--- `pack::pack_from` meets its contract: what the two reads put into the array lies inside it. Assumes nothing.
+-- `program_pack::pack_from` meets its contract: what the two reads put into the array lies inside it. Assumes nothing.
 use borrow.Author.Needs.{needs}
 use Rattle.program_pack.proofs.pack_from.Statement.{statement}
 use Rattle.program_pack.proofs.pack_from.Tie as tie

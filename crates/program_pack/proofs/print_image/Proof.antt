@@ -1,4 +1,4 @@
--- `pack::print_image` meets its contract: the output has the cells that are printed. Assumes nothing.
+-- `program_pack::print_image` meets its contract: the output has the cells that are printed. Assumes nothing.
 use borrow.Author.Needs.{needs}
 use Rattle.program_pack.proofs.print_image.Statement.{statement}
 use Rattle.program_pack.proofs.print_image.Tie as tie

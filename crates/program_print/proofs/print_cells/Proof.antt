@@ -1,4 +1,4 @@
--- `print::print_cells` meets its contract. Assumes nothing.
+-- `program_print::print_cells` meets its contract. Assumes nothing.
 use Rattle.program_print.proofs.print_cells.Statement.{statement}
 use Rattle.program_print.proofs.print_cells.Tie as tie
 use native.Mathlib.Omega.{arith}

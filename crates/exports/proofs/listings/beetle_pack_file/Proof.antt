@@ -1,4 +1,4 @@
--- `beetle_pack_file` meets its contract: a refusal, or the answer of crate `listing_files` noted.
+-- `beetle_pack_file` meets its contract: a refusal, or the answer of crate `pack_files` noted.
 use borrow.Author.Needs.{needs}
 use Rattle.exports.proofs.listings.beetle_pack_file.Statement.{statement}
 use Rattle.exports.proofs.listings.beetle_pack_file.Tie as tie

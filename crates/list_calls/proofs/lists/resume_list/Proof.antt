@@ -1,4 +1,4 @@
--- `resume_list` meets its contract: the answer of crate `follow`, told.
+-- `resume_list` meets its contract: the answer of crate `list_run`, told.
 use lib.ListN.{length}
 use Rattle.list_calls.specs.Lists.{standGiven}
 use Rattle.list_calls.proofs.ListLaws.{has-room, list-noted}

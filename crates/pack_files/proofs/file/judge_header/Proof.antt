@@ -1,4 +1,4 @@
--- `listing_files::file::judge_header` meets its contract. Assumes nothing.
+-- `pack_files::file::judge_header` meets its contract. Assumes nothing.
 use borrow.Author.Needs.{needs}
 use Rattle.pack_files.proofs.file.judge_header.Statement.{statement}
 use Rattle.pack_files.proofs.file.judge_header.Tie as tie

@@ -1,4 +1,4 @@
--- `listing_files::file::judge_pack_file` meets its contract. Assumes nothing.
+-- `pack_files::file::judge_pack_file` meets its contract. Assumes nothing.
 use borrow.Author.Needs.{needs}
 use Rattle.pack_files.proofs.file.judge_pack_file.Statement.{statement}
 use Rattle.pack_files.proofs.file.judge_pack_file.Tie as tie

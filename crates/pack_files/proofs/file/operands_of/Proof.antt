@@ -1,4 +1,4 @@
--- `listing_files::file::operands_of` meets its contract. Assumes nothing.
+-- `pack_files::file::operands_of` meets its contract. Assumes nothing.
 use borrow.Author.Needs.{needs}
 use Rattle.pack_files.proofs.file.operands_of.Statement.{statement}
 use Rattle.pack_files.proofs.file.operands_of.Tie as tie

@@ -1,4 +1,4 @@
--- `image::write::pack_item` meets its contract.
+-- `pack_image::write::pack_item` meets its contract.
 -- Assumes nothing.
 use mathlib.Core.Path.{ap, ap₂, _∙_}
 use Rattle.cell.specs.declared.CellCount.{CellCount}

@@ -1,4 +1,4 @@
--- `image::write::pack_of` meets its contract.
+-- `pack_image::write::pack_of` meets its contract.
 -- Assumes nothing.
 use mathlib.Core.Path.{refl}
 use Rattle.pack_layout.specs.Bytes.{pack}

@@ -1,4 +1,4 @@
--- `image::write::put_bytes` meets its contract.
+-- `pack_image::write::put_bytes` meets its contract.
 -- Assumes nothing.
 use native.Mathlib.Omega.{arith}
 use lib.ListN.{length-set}

@@ -1,4 +1,4 @@
--- `image::write::put_cell` meets its contract.
+-- `pack_image::write::put_cell` meets its contract.
 -- Assumes nothing.
 use mathlib.Core.Path.{ap, _∙_}
 use Prim.Native.Nat.{_*_}

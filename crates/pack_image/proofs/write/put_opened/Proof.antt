@@ -1,4 +1,4 @@
--- `image::write::put_opened` meets its contract.
+-- `pack_image::write::put_opened` meets its contract.
 -- Assumes nothing.
 use mathlib.Core.Path.{refl, ap}
 use native.Mathlib.Omega.{arith}

@@ -1,4 +1,4 @@
--- `image::write::put_operand` meets its contract.
+-- `pack_image::write::put_operand` meets its contract.
 -- Assumes nothing.
 use mathlib.Core.Path.{ap}
 use native.Mathlib.Omega.{arith}

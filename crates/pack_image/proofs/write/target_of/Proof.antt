@@ -1,4 +1,4 @@
--- `image::write::target_of` meets its contract.
+-- `pack_image::write::target_of` meets its contract.
 -- Assumes nothing.
 use mathlib.Core.Path.{sym, _∙_}
 use borrow.Author.Needs.{needs}

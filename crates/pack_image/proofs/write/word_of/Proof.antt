@@ -1,4 +1,4 @@
--- `image::write::word_of` meets its contract.
+-- `pack_image::write::word_of` meets its contract.
 -- Assumes nothing.
 use borrow.Author.Needs.{needs}
 use Rattle.pack_image.proofs.Writing.{byte-small}

@@ -1,4 +1,4 @@
--- `image::write::write_image` meets its contract: the items from the present one on are written.
+-- `pack_image::write::write_image` meets its contract: the items from the present one on are written.
 -- Assumes nothing.
 use mathlib.Core.Path.{_∙_}
 use Prim.Native.Nat.{_-_, _<_}

@@ -1,4 +1,4 @@
--- `listing::check::judge_arrays` meets its contract.
+-- `pack_judging::check::judge_arrays` meets its contract.
 -- Assumes nothing.
 use borrow.Author.Tests.{eq-eqb, ne-eqb, lt-ltb, le-ltb}
 use Rattle.pack_layout.specs.Listing.{judgedListing, judgedArrays}

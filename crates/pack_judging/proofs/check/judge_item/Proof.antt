@@ -1,4 +1,4 @@
--- `listing::check::judge_item` meets its contract.
+-- `pack_judging::check::judge_item` meets its contract.
 -- Assumes nothing.
 use borrow.Author.Tests.{le-leb, lt-leb, ne-eqb}
 use borrow.Author.Needs.{needs}

@@ -1,4 +1,4 @@
--- `listing::check::judge_items` meets its contract: what the items from the present one on are judged is what all are.
+-- `pack_judging::check::judge_items` meets its contract: what the items from the present one on are judged is what all are.
 -- Assumes nothing.
 use lib.ListN.{getD, length}
 use Rattle.pack_layout.specs.declared.Class.{Class}

@@ -1,4 +1,4 @@
--- `listing::check::judge_place` meets its contract.
+-- `pack_judging::check::judge_place` meets its contract.
 -- Assumes nothing.
 use borrow.Author.Tests.{eq-eqb, ne-eqb, lt-ltb, le-ltb}
 use borrow.Author.Needs.{needs}

@@ -1,4 +1,4 @@
--- `listing::entries::add_targets` meets its contract: the flags hold the targets of the items passed.
+-- `pack_judging::entries::add_targets` meets its contract: the flags hold the targets of the items passed.
 -- Assumes nothing.
 use Rattle.pack_layout.specs.Listing.{listed, entry}
 use Prim.Native.Nat.{_-_, _≤_}

@@ -1,4 +1,4 @@
--- `listing::entries::after_calls` meets its contract: the flags of the items passed are right.
+-- `pack_judging::entries::after_calls` meets its contract: the flags of the items passed are right.
 -- Assumes nothing.
 use Rattle.pack_layout.specs.Flags.{bit, Flags}
 use Prim.Native.Nat.{_-_, _≤_}

@@ -1,4 +1,4 @@
--- `listing::entries::find_entries` meets its contract.
+-- `pack_judging::entries::find_entries` meets its contract.
 -- Assumes nothing.
 use mathlib.Core.Path.{_∙_}
 use Rattle.pack_layout.specs.Listing.{listed}

@@ -1,4 +1,4 @@
--- `listing::entries::is_branch` meets its contract.
+-- `pack_judging::entries::is_branch` meets its contract.
 -- Assumes nothing.
 use borrow.Author.Needs.{needs}
 use Rattle.pack_judging.proofs.entries.is_branch.Statement.{statement}

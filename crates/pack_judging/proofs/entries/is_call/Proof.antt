@@ -1,4 +1,4 @@
--- `listing::entries::is_call` meets its contract.
+-- `pack_judging::entries::is_call` meets its contract.
 -- Assumes nothing.
 use Rattle.pack_judging.proofs.Flags.{call-below, call-from}
 use Rattle.pack_judging.proofs.entries.is_call.Tie as tie

@@ -1,4 +1,4 @@
--- `listing::file::judge_length` meets its contract.
+-- `pack_judging::file::judge_length` meets its contract.
 -- Assumes nothing.
 use borrow.Author.Tests.{eq-eqb, ne-eqb, le-ltb, lt-ltb}
 use borrow.Author.Needs.{needs}

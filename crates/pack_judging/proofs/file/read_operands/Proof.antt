@@ -1,4 +1,4 @@
--- `listing::file::read_operands` meets its contract: the operands passed are read.
+-- `pack_judging::file::read_operands` meets its contract: the operands passed are read.
 -- Assumes nothing.
 use mathlib.Core.Path.{_≡_, refl, _∙_}
 use Prim.Native.Nat.{ℕ, _+_, _-_, _*_, _≤_, _<_}

@@ -1,4 +1,4 @@
--- `listing::kinds::class_of` meets its contract: each arm's numbers are of its class.
+-- `pack_judging::kinds::class_of` meets its contract: each arm's numbers are of its class.
 -- Assumes nothing.
 use mathlib.Core.Path.{refl}
 use mathlib.Core.List.{[], _∷_}

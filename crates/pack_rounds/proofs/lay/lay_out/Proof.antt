@@ -1,4 +1,4 @@
--- `packing::lay::lay_out` meets its contract: before each item the cursor and the arrays are those of the layout.
+-- `pack_rounds::lay::lay_out` meets its contract: before each item the cursor and the arrays are those of the layout.
 -- Assumes nothing.
 use Rattle.pack_layout.specs.declared.Class.{Class}
 use Rattle.cell.specs.Memory.{cellCount}

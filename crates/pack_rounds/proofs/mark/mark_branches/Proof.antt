@@ -1,4 +1,4 @@
--- `packing::mark::mark_branches` meets its contract: the marks of the items passed are those after the round, the others those before it.
+-- `pack_rounds::mark::mark_branches` meets its contract: the marks of the items passed are those after the round, the others those before it.
 -- Assumes nothing.
 use mathlib.Core.Path.{_≡_, sym, ap, _∙_}
 use Prim.Native.Nat.{_-_}

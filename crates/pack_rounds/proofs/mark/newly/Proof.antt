@@ -1,4 +1,4 @@
--- `packing::mark::newly` meets its contract: only an immediate branch can be marked.
+-- `pack_rounds::mark::newly` meets its contract: only an immediate branch can be marked.
 -- Assumes nothing.
 use mathlib.Core.Path.{sym, ap, _∙_}
 use mathlib.Core.Bool.{not}

@@ -1,4 +1,4 @@
--- `packing::measure::fits_in` meets its contract.
+-- `pack_rounds::measure::fits_in` meets its contract.
 -- Assumes nothing.
 use Rattle.pack_layout.specs.Bytes.{fits}
 use mathlib.Core.Path.{_≡_}

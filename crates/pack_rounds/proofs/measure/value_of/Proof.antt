@@ -1,4 +1,4 @@
--- `packing::measure::value_of` meets its contract: each class and form has its arm.
+-- `pack_rounds::measure::value_of` meets its contract: each class and form has its arm.
 -- Assumes nothing.
 use mathlib.Core.Path.{ap}
 use borrow.Author.Needs.{needs}

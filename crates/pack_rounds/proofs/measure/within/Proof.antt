@@ -1,4 +1,4 @@
--- `packing::measure::within` meets its contract.
+-- `pack_rounds::measure::within` meets its contract.
 -- Assumes nothing.
 use borrow.Author.Tests.{lt-ltb}
 use Rattle.pack_judging.proofs.Steps.{within-is}

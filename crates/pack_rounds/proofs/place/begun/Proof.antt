@@ -1,4 +1,4 @@
--- `packing::place::begun` meets its contract.
+-- `pack_rounds::place::begun` meets its contract.
 -- Assumes nothing.
 use borrow.Author.Needs.{needs}
 use Rattle.pack_layout.proofs.Placing.{fresh-entry}

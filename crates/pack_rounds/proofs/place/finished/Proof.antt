@@ -1,4 +1,4 @@
--- `packing::place::finished` meets its contract.
+-- `pack_rounds::place::finished` meets its contract.
 -- Assumes nothing.
 use borrow.Author.Needs.{needs}
 use Rattle.pack_rounds.proofs.place.finished.Tie as tie

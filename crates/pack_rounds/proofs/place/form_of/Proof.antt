@@ -1,4 +1,4 @@
--- `packing::place::form_of` meets its contract.
+-- `pack_rounds::place::form_of` meets its contract.
 -- Assumes nothing.
 use borrow.Author.Needs.{needs}
 use Rattle.pack_rounds.proofs.place.form_of.Tie as tie

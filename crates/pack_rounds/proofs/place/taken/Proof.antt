@@ -1,4 +1,4 @@
--- `packing::place::taken` meets its contract.
+-- `pack_rounds::place::taken` meets its contract.
 -- Assumes nothing.
 use mathlib.Core.Path.{sym}
 use borrow.Author.Needs.{needs}

@@ -1,4 +1,4 @@
--- `packing::settle::clear` meets its contract.
+-- `pack_rounds::settle::clear` meets its contract.
 -- Assumes nothing.
 use mathlib.Core.Path.{_≡_, refl, _∙_}
 use Prim.Native.Nat.{ℕ, _-_, _≤_, _<_}

@@ -1,4 +1,4 @@
--- `packing::settle::settle_marks` meets its contract. The measure is the number of items without a mark.
+-- `pack_rounds::settle::settle_marks` meets its contract. The measure is the number of items without a mark.
 -- Assumes nothing.
 use mathlib.Core.Path.{sym, _∙_}
 use Prim.Native.Nat.{_-_}

@@ -1,4 +1,4 @@
--- `packs::files::front` meets its contract: the output has the cells that are printed. Assumes nothing.
+-- `program_packs::files::front` meets its contract: the output has the cells that are printed. Assumes nothing.
 use borrow.Author.Needs.{needs}
 use Rattle.program_packs.proofs.files.front.Statement.{statement}
 use Rattle.program_packs.proofs.files.front.Tie as tie

@@ -1,4 +1,4 @@
--- `packs::rows::show_in` meets its contract: the output has the cells that are printed. Assumes nothing.
+-- `program_packs::rows::show_in` meets its contract: the output has the cells that are printed. Assumes nothing.
 use borrow.Author.Needs.{needs}
 use Rattle.program_packs.proofs.rows.show_in.Statement.{statement}
 use Rattle.program_packs.proofs.rows.show_in.Tie as tie
