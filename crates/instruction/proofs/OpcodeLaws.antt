@@ -1,4 +1,4 @@
--- The opcodes that raise -256.
+-- Opcodes from the end of the table on, the loops among them, and a choice of two cases.
 use mathlib.Core.Path.{_≡_}
 use mathlib.Core.Logic.{_⊎_, inl, inr}
 use Prim.Native.Nat.{ℕ, suc, _/_, _<_, _≤_}

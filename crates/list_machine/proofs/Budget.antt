@@ -28,7 +28,8 @@ budgeted order base m sp rp r q a =
       registers = cyclesOf (machineOf order) (r .cycles) s .result .registers;
       answer =
           rw (q, a .exact)
-          (ap (λ (x : List ℕ). ranTo given (r .cycles) x (ranAs (cyclesOf (machineOf order) (r .cycles) s .result .registers) (r .cycles) (cyclesOf (machineOf order) (r .cycles) s .result .ended))) (a .memory)
+          (ap (λ (x : List ℕ). ranTo given (r .cycles) x (ranAs (cyclesOf (machineOf order) (r .cycles) s .result .registers) (r .cycles) (cyclesOf (machineOf
+          order) (r .cycles) s .result .ended))) (a .memory)
           ∙ ap (ranTo given (r .cycles) (r .position .memory))
           (ran-as (cyclesOf (machineOf order) (r .cycles) s .result .registers) (r .cycles) (cyclesOf (machineOf order) (r .cycles) s .result .ended)
           ∙ ap (λ (x : Stop). ranWith x (cyclesOf (machineOf order) (r .cycles) s .result .registers) (r .cycles)) (a .stop)));

@@ -98,7 +98,8 @@ computed = refl
 
 pub plain-decodes : (k : ℕ) → kinds.operandClass k ≡ Plain → operandClass (decodeOf k) ≡ plain
 plain-decodes k e =
-    plain-of (operandClass (decodeOf k)) (go (kinds.operandClass k) e (all-at decodesPlain 0x5C k computed (kind-low k (λ (q : kinds.operandClass k ≡ NoKind). let z : _≡_ {A = ℕ} 0 1 = cc in omega arith))))
+    plain-of (operandClass (decodeOf k)) (go (kinds.operandClass k) e (all-at decodesPlain 0x5C k computed (kind-low k (λ (q : kinds.operandClass k ≡ NoKind).
+    let z : _≡_ {A = ℕ} 0 1 = cc in omega arith))))
   where
     go : (c : kind.OperandClass) → c ≡ Plain → (not (isPlainKind c) || isPlain (operandClass (decodeOf k))) ≡ true → isPlain (operandClass (decodeOf k)) ≡ true
     go Plain q h = h

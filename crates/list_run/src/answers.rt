@@ -1,8 +1,6 @@
 // The number and the reason of each answer.
 ghost use mathlib.Core.Path.{_≡_};
 ghost use Rattle.list_run.specs.Follow as follows;
-use crate::Followed;
-use cell::judgement::refusal_number;
 use list_items::Ending;
 use list_machine::outside_number;
 
@@ -25,17 +23,5 @@ pub fn ending_reason(ending: Ending) -> u32
         Ending::GoesOn => 0,
         Ending::Stopped(x) => x,
         Ending::Outside(why) => outside_number(why),
-    }
-}
-
-pub fn follow_number(answer: Followed) -> u32
-    ensures { λ n. ⌜ n ≡ follows.followNumber answer ⌝ }
-{
-    match answer {
-        Followed::Refused(r) => refusal_number(r),
-        Followed::Run(ran) => {
-            let ending = ran.ending;
-            ending_number(ending)
-        }
     }
 }

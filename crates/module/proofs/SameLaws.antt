@@ -65,7 +65,20 @@ module _ (m : List ℕ) (a : ℕ) (code : List ℕ) where
       let f2 : j + 2 ≡ suc (suc j) = omega arith in
       let f3 : j + 3 ≡ suc (suc (suc j)) = omega arith in
       let f4 : j + 4 ≡ suc (suc (suc (suc j))) = omega arith in
-      rw (e1, e2, e3, f1, f2, f3, f4, paste-suc m a code j 0 (omega arith) (omega arith), paste-suc m a code (suc j) 0 (omega arith) (omega arith), paste-suc m a code (suc (suc j)) 0 (omega arith) (omega arith), paste-suc m a code (suc (suc (suc j))) 0 (omega arith) (omega arith))
+      rw (
+        e1,
+        e2,
+        e3,
+        f1,
+        f2,
+        f3,
+        f4,
+        paste-suc m a code j 0 (omega arith) (omega arith),
+        paste-suc m a code (suc j) 0 (omega arith) (omega arith),
+        paste-suc m
+            a code (suc (suc j)) 0 (omega arith) (omega arith),
+        paste-suc m a code (suc (suc (suc j))) 0 (omega arith) (omega arith),
+      )
 
   pub copied-same : (order : ℕ) → Bytewise code → (k : ℕ) → a + 4 * k ≤ length m → 4 * k ≤ length code
       → copied order order code m a k ≡ paste m a code (4 * k)

@@ -1,4 +1,4 @@
-// Arithmetic, comparison and logic. The files follow the sections of table 7 (document 001).
+// Arithmetic, comparison and logic.
 pub mod arithmetic;
 pub mod comparison;
 pub mod logic;

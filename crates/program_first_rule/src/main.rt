@@ -5,25 +5,7 @@ use processor::Ran;
 use processor::Started;
 use processor::entry::run;
 use processor::entry::start;
-
-fn digit(n: u32) -> u8 {
-    let d = (n % 16) as u8;
-    if d < 10 { 48 + d } else { 55 + d }
-}
-
-fn write_cell(x: u32) {
-    let digits = [
-        digit(x / 268435456),
-        digit(x / 16777216),
-        digit(x / 1048576),
-        digit(x / 65536),
-        digit(x / 4096),
-        digit(x / 256),
-        digit(x / 16),
-        digit(x),
-    ];
-    io::write_all(STDOUT_FILENO, &digits);
-}
+use program_print::print_digits;
 
 fn main() {
     let mut memory = [0u8; 1024];
@@ -47,9 +29,9 @@ fn main() {
         }
         Ran::Stopped(_, reason, done) => {
             io::write_all(STDOUT_FILENO, b"reason ");
-            write_cell(reason);
+            print_digits(reason);
             io::write_all(STDOUT_FILENO, b", cycles ");
-            write_cell(done);
+            print_digits(done);
             io::write_all(STDOUT_FILENO, b"\n");
         }
     }

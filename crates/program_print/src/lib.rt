@@ -1,4 +1,4 @@
-// What the packing programs print: the cells of an image, one a line, or a refusal's number.
+// What programs print: a cell in digits, the cells of an image, one a line, or a refusal's number.
 use cell::CellCount;
 use cell::memory::load_at;
 use io::print_decimal;
@@ -17,8 +17,8 @@ fn digit(n: u32) -> u8 {
 }
 
 // A cell, eight capital digits.
-fn print_cell(x: u32) {
-    let line = [
+pub fn print_digits(x: u32) {
+    let digits = [
         digit(x / 268435456),
         digit(x / 16777216),
         digit(x / 1048576),
@@ -27,9 +27,14 @@ fn print_cell(x: u32) {
         digit(x / 256),
         digit(x / 16),
         digit(x),
-        b'\n',
     ];
-    write_all(STDOUT_FILENO, &line);
+    write_all(STDOUT_FILENO, &digits);
+}
+
+// A cell on a line of its own.
+fn print_cell(x: u32) {
+    print_digits(x);
+    write_all(STDOUT_FILENO, b"\n");
 }
 
 // The first cells of an output in order 0.

@@ -46,7 +46,12 @@ same-length-2 : tie.Need-same-length-2
 same-length-2 c = search needs
 
 returns-2 : tie.Need-returns-2
-returns-2 c = rw (c .before .before .before .before .before .before .before .before .before .answer2 .given .1, c .before .before .before .before .before .before .write-registers .ensures, c .before .before .write-one .ensures)
+returns-2 c =
+    rw (
+      c .before .before .before .before .before .before .before .before .before .answer2 .given .1,
+      c .before .before .before .before .before .before .write-registers .ensures,
+      c .before .before .write-one .ensures,
+    )
 
 same-length-3 : tie.Need-same-length-3
 same-length-3 c = search needs
@@ -55,7 +60,12 @@ same-length-4 : tie.Need-same-length-4
 same-length-4 c = search needs
 
 returns-3 : tie.Need-returns-3
-returns-3 c = rw (c .before .before .before .before .before .before .before .before .before .answer3 .given .1, c .before .before .before .before .before .before .write-registers2 .ensures, c .before .before .write-one2 .ensures)
+returns-3 c =
+    rw (
+      c .before .before .before .before .before .before .before .before .before .answer3 .given .1,
+      c .before .before .before .before .before .before .write-registers2 .ensures,
+      c .before .before .write-one2 .ensures,
+    )
 
 same-length-5 : tie.Need-same-length-5
 same-length-5 c = search needs
@@ -64,7 +74,12 @@ same-length-6 : tie.Need-same-length-6
 same-length-6 c = search needs
 
 returns-4 : tie.Need-returns-4
-returns-4 c = rw (c .before .before .before .before .before .before .before .before .before .answer4 .given .1, c .before .before .before .before .before .before .write-registers3 .ensures, c .before .before .write-one3 .ensures)
+returns-4 c =
+    rw (
+      c .before .before .before .before .before .before .before .before .before .answer4 .given .1,
+      c .before .before .before .before .before .before .write-registers3 .ensures,
+      c .before .before .write-one3 .ensures,
+    )
 
 pub tell-cycled-spec : {M : Type 1} → statement M
 tell-cycled-spec =

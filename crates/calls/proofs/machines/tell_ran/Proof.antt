@@ -37,7 +37,12 @@ same-length-2 : tie.Need-same-length-2
 same-length-2 c = search needs
 
 returns-2 : tie.Need-returns-2
-returns-2 c = rw (c .before .before .before .before .before .before .before .before .before .answer2 .given .1, c .before .before .before .before .before .before .write-registers .ensures, c .before .before .write-two .ensures)
+returns-2 c =
+    rw (
+      c .before .before .before .before .before .before .before .before .before .answer2 .given .1,
+      c .before .before .before .before .before .before .write-registers .ensures,
+      c .before .before .write-two .ensures,
+    )
 
 same-length-3 : tie.Need-same-length-3
 same-length-3 c = search needs
@@ -46,7 +51,12 @@ same-length-4 : tie.Need-same-length-4
 same-length-4 c = search needs
 
 returns-3 : tie.Need-returns-3
-returns-3 c = rw (c .before .before .before .before .before .before .before .before .before .answer3 .given .1, c .before .before .before .before .before .before .write-registers2 .ensures, c .before .before .write-two2 .ensures)
+returns-3 c =
+    rw (
+      c .before .before .before .before .before .before .before .before .before .answer3 .given .1,
+      c .before .before .before .before .before .before .write-registers2 .ensures,
+      c .before .before .write-two2 .ensures,
+    )
 
 pub tell-ran-spec : {M : Type 1} → statement M
 tell-ran-spec =

@@ -23,7 +23,14 @@ add-requires c κs = search needs
 
 returns-2 : tie.Need-returns-2
 unfolding division.flooredOf
-returns-2 c = rw (← c .before .before .before .before .before .before .divide-symmetric .ensures) (simp (ne-eqb _ _ (c .before .before .before .before .if1 .left), sym (c .before .before .before .is-apart .ensures) ∙ c .before .before .if2 .taken, c .before .subtract .ensures, c .add .ensures))
+returns-2 c =
+    rw (← c .before .before .before .before .before .before .divide-symmetric .ensures) (simp (
+      ne-eqb _ _ (c .before .before .before .before .if1 .left),
+      sym
+          (c .before .before .before .is-apart .ensures) ∙ c .before .before .if2 .taken,
+      c .before .subtract .ensures,
+      c .add .ensures,
+    ))
 
 returns-3 : tie.Need-returns-3
 unfolding division.flooredOf

@@ -27,7 +27,14 @@ with-sign-requires-2 c κs = search needs
 
 returns : tie.Need-returns
 unfolding division.symmetricOf
-returns c = simp (c .with-sign2 .ensures, c .before .with-sign .ensures, c .before .before .is-apart .ensures, c .before .before .before .magnitude2 .ensures, c .before .before .before .before .magnitude .ensures)
+returns c =
+    simp (
+      c .with-sign2 .ensures,
+      c .before .with-sign .ensures,
+      c .before .before .is-apart .ensures,
+      c .before .before .before .magnitude2 .ensures,
+      c .before .before .before .before .magnitude .ensures,
+    )
 
 pub divide-symmetric-spec : {M : Type 1} → statement M
 divide-symmetric-spec =

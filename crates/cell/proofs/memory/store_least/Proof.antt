@@ -47,7 +47,9 @@ same-length c = search needs
 
 returns : tie.Need-returns
 unfolding mem.storeCell
-returns c = ap (λ (x : ℕ). set (set (set (set (c .args .bytes .now) (c .args .at) (c .args .x % 256)) (c .args .at + 1) (c .args .x / 256 % 256)) (c .args .at + 2) (c .args .x / 65536 % 256)) (c .args .at + 3) x) (sym (top (c .args .x) (search needs)))
+returns c =
+    ap (λ (x : ℕ). set (set (set (set (c .args .bytes .now) (c .args .at) (c .args .x % 256)) (c .args .at + 1) (c .args .x / 256 % 256)) (c .args .at + 2)
+    (c .args .x / 65536 % 256)) (c .args .at + 3) x) (sym (top (c .args .x) (search needs)))
 
 pub store-least-spec : {M : Type 1} → statement M
 store-least-spec =

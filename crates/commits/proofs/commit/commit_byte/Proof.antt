@@ -21,7 +21,10 @@ raise-requires : tie.Need-raise-requires
 raise-requires c κs = search needs
 
 returns : tie.Need-returns
-returns c = let a = c .before .before .before .before .before .args in rw (c .raise .ensures, c .before .enum-told2 .given .1) (sym (commit-raising (a .machine) (now (a .memory)) (a .r) (a .e .sp) (a .e .rp) (effects.byteStores (a .e)) (a .e .then) _ (sym (c .before .before .before .fault-of .ensures) ∙ c .before .enum-told2 .given .1)))
+returns c =
+    let a = c .before .before .before .before .before .args in rw (c .raise .ensures, c .before .enum-told2 .given .1) (sym (commit-raising (a .machine) (now
+    (a .memory)) (a .r) (a .e .sp) (a .e .rp) (effects.byteStores (a .e)) (a .e .then) _ (sym (c .before .before .before .fault-of .ensures) ∙
+    c .before .enum-told2 .given .1)))
 
 check-byte-place-requires : tie.Need-check-byte-place-requires
 check-byte-place-requires c κs = search needs
@@ -37,7 +40,11 @@ raise-requires-2 c κs = search needs
 
 returns-2 : tie.Need-returns-2
 unfolding commits.placesOf
-returns-2 c = let a = c .before .before .before .before .before .before .before .before .before .args in rw (c .raise2 .ensures, c .before .enum-told4 .given .1) (sym (commit-bad (a .machine) (now (a .memory)) (a .r) (a .e .sp) (a .e .rp) (effects.byteStores (a .e)) (a .e .then) _ (sym (c .before .before .before .before .before .before .before .fault-of .ensures) ∙ c .before .before .before .before .before .enum-told .given .1) (simp (sym (c .before .before .before .check-byte-place .ensures) ∙ c .before .enum-told4 .given .1))))
+returns-2 c =
+    let a = c .before .before .before .before .before .before .before .before .before .args in rw (c .raise2 .ensures, c .before .enum-told4 .given .1) (sym
+    (commit-bad (a .machine) (now (a .memory)) (a .r) (a .e .sp) (a .e .rp) (effects.byteStores (a .e)) (a .e .then) _ (sym
+    (c .before .before .before .before .before .before .before .fault-of .ensures) ∙ c .before .before .before .before .before .enum-told .given .1) (simp (sym
+    (c .before .before .before .check-byte-place .ensures) ∙ c .before .enum-told4 .given .1))))
 
 cast-at : tie.Need-cast-at
 cast-at c = search needs
@@ -56,7 +63,12 @@ same-length c = search needs
 
 returns-3 : tie.Need-returns-3
 unfolding commits.placesOf commits.storedOf
-returns-3 c = let a = c .before .before .before .before .before .before .before .before .before .before .before .args in rw (c .settle .ensures) (sym (commit-good (a .machine) (now (a .memory)) (a .r) (a .e .sp) (a .e .rp) (effects.byteStores (a .e)) (a .e .then) (sym (c .before .before .before .before .before .before .before .before .before .fault-of .ensures) ∙ c .before .before .before .before .before .before .before .enum-told .given .1) (simp (sym (c .before .before .before .before .before .check-byte-place .ensures) ∙ c .before .before .before .enum-told3 .given .1))))
+returns-3 c =
+    let a = c .before .before .before .before .before .before .before .before .before .before .before .args in rw (c .settle .ensures) (sym (commit-good
+    (a .machine) (now (a .memory)) (a .r) (a .e .sp) (a .e .rp) (effects.byteStores (a .e)) (a .e .then) (sym
+    (c .before .before .before .before .before .before .before .before .before .fault-of .ensures) ∙
+    c .before .before .before .before .before .before .before .enum-told .given .1) (simp (sym
+    (c .before .before .before .before .before .check-byte-place .ensures) ∙ c .before .before .before .enum-told3 .given .1))))
 
 pub commit-byte-spec : {M : Type 1} → statement M
 commit-byte-spec =

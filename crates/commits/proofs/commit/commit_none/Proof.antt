@@ -21,14 +21,18 @@ raise-requires : tie.Need-raise-requires
 raise-requires c κs = search needs
 
 returns : tie.Need-returns
-returns c = let a = c .before .before .before .before .before .args in rw (c .raise .ensures, c .before .enum-told2 .given .1) (sym (commit-raising (a .machine) (now (a .memory)) (a .r) (a .e .sp) (a .e .rp) ([]) (a .e .then) _ (sym (c .before .before .before .fault-of .ensures) ∙ c .before .enum-told2 .given .1)))
+returns c =
+    let a = c .before .before .before .before .before .args in rw (c .raise .ensures, c .before .enum-told2 .given .1) (sym (commit-raising (a .machine) (now
+    (a .memory)) (a .r) (a .e .sp) (a .e .rp) ([]) (a .e .then) _ (sym (c .before .before .before .fault-of .ensures) ∙ c .before .enum-told2 .given .1)))
 
 settle-requires : tie.Need-settle-requires
 settle-requires c κs = search needs
 
 returns-2 : tie.Need-returns-2
 unfolding commits.placesOf commits.storedOf
-returns-2 c = let a = c .before .before .before .before .before .args in rw (c .settle .ensures) (sym (commit-good (a .machine) (now (a .memory)) (a .r) (a .e .sp) (a .e .rp) ([]) (a .e .then) (sym (c .before .before .before .fault-of .ensures) ∙ c .before .enum-told .given .1) refl))
+returns-2 c =
+    let a = c .before .before .before .before .before .args in rw (c .settle .ensures) (sym (commit-good (a .machine) (now (a .memory)) (a .r) (a .e .sp)
+    (a .e .rp) ([]) (a .e .then) (sym (c .before .before .before .fault-of .ensures) ∙ c .before .enum-told .given .1) refl))
 
 pub commit-none-spec : {M : Type 1} → statement M
 commit-none-spec =

@@ -22,7 +22,10 @@ raise-requires : tie.Need-raise-requires
 raise-requires c κs = search needs
 
 returns : tie.Need-returns
-returns c = let a = c .before .before .before .before .before .before .args in rw (c .raise .ensures, c .before .enum-told2 .given .1) (sym (commit-raising (a .machine) (now (a .memory)) (a .r) (a .e .sp) (a .e .rp) (effects.storeOf (a .e .write) ∷ []) (a .e .then) _ (sym (c .before .before .before .fault-of .ensures) ∙ c .before .enum-told2 .given .1)))
+returns c =
+    let a = c .before .before .before .before .before .before .args in rw (c .raise .ensures, c .before .enum-told2 .given .1) (sym (commit-raising (a .machine)
+    (now (a .memory)) (a .r) (a .e .sp) (a .e .rp) (effects.storeOf (a .e .write) ∷ []) (a .e .then) _ (sym (c .before .before .before .fault-of .ensures) ∙
+    c .before .enum-told2 .given .1)))
 
 check-write-requires : tie.Need-check-write-requires
 check-write-requires c κs = search needs
@@ -38,10 +41,16 @@ raise-requires-2 c κs = search needs
 
 returns-2 : tie.Need-returns-2
 unfolding commits.placesOf
-returns-2 c = let a = c .before .before .before .before .before .before .before .before .before .args in rw (c .raise2 .ensures, c .before .enum-told4 .given .1) (sym (commit-bad (a .machine) (now (a .memory)) (a .r) (a .e .sp) (a .e .rp) (effects.storeOf (a .e .write) ∷ []) (a .e .then) _ (sym (c .before .before .before .before .before .before .fault-of .ensures) ∙ c .before .before .before .before .enum-told .given .1) (simp (sym (c .before .before .before .check-write .ensures) ∙ c .before .enum-told4 .given .1))))
+returns-2 c =
+    let a = c .before .before .before .before .before .before .before .before .before .args in rw (c .raise2 .ensures, c .before .enum-told4 .given .1) (sym
+    (commit-bad (a .machine) (now (a .memory)) (a .r) (a .e .sp) (a .e .rp) (effects.storeOf (a .e .write) ∷ []) (a .e .then) _ (sym
+    (c .before .before .before .before .before .before .fault-of .ensures) ∙ c .before .before .before .before .enum-told .given .1) (simp (sym
+    (c .before .before .before .check-write .ensures) ∙ c .before .enum-told4 .given .1))))
 
 put-requires : tie.Need-put-requires
-put-requires c κs = room-place _ _ _ _ (c .before .before .before .before .before .before .before .before .before .pre) (sym (c .before .before .before .check-write .ensures) ∙ c .before .enum-told3 .given .1)
+put-requires c κs =
+    room-place _ _ _ _ (c .before .before .before .before .before .before .before .before .before .pre) (sym (c .before .before .before .check-write .ensures) ∙
+    c .before .enum-told3 .given .1)
 
 settle-requires : tie.Need-settle-requires
 settle-requires c κs = search needs
@@ -51,7 +60,14 @@ same-length c = search needs
 
 returns-3 : tie.Need-returns-3
 unfolding commits.placesOf commits.storedOf
-returns-3 c = let a = c .before .before .before .before .before .before .before .before .before .before .before .before .before .args in rw (c .settle .ensures, c .before .before .before .put .ensures) (sym (commit-good (a .machine) (now (a .memory)) (a .r) (a .e .sp) (a .e .rp) (effects.storeOf (a .e .write) ∷ []) (a .e .then) (sym (c .before .before .before .before .before .before .before .before .before .before .fault-of .ensures) ∙ c .before .before .before .before .before .before .before .before .enum-told .given .1) (simp (sym (c .before .before .before .before .before .before .before .check-write .ensures) ∙ c .before .before .before .before .before .enum-told3 .given .1))))
+returns-3 c =
+    let a = c .before .before .before .before .before .before .before .before .before .before .before .before .before .args in rw (
+      c .settle .ensures,
+      c .before .before .before .put .ensures,
+    ) (sym (commit-good (a .machine) (now (a .memory)) (a .r) (a .e .sp) (a .e .rp) (effects.storeOf (a .e .write) ∷ [])
+    (a .e .then) (sym (c .before .before .before .before .before .before .before .before .before .before .fault-of .ensures) ∙
+    c .before .before .before .before .before .before .before .before .enum-told .given .1) (simp (sym
+    (c .before .before .before .before .before .before .before .check-write .ensures) ∙ c .before .before .before .before .before .enum-told3 .given .1))))
 
 pub commit-one-spec : {M : Type 1} → statement M
 commit-one-spec =

@@ -24,7 +24,10 @@ raise-requires : tie.Need-raise-requires
 raise-requires c κs = search needs
 
 returns : tie.Need-returns
-returns c = let a = c .before .before .before .before .before .before .before .before .args in rw (c .raise .ensures, c .before .enum-told2 .given .1) (sym (commit-raising (a .machine) (now (a .memory)) (a .r) (a .e .sp) (a .e .rp) (effects.storeOf (a .e .first) ∷ effects.storeOf (a .e .second) ∷ effects.storeOf (a .e .third) ∷ []) (a .e .then) _ (sym (c .before .before .before .fault-of .ensures) ∙ c .before .enum-told2 .given .1)))
+returns c =
+    let a = c .before .before .before .before .before .before .before .before .args in rw (c .raise .ensures, c .before .enum-told2 .given .1) (sym
+    (commit-raising (a .machine) (now (a .memory)) (a .r) (a .e .sp) (a .e .rp) (effects.storeOf (a .e .first) ∷ effects.storeOf (a .e .second) ∷
+    effects.storeOf (a .e .third) ∷ []) (a .e .then) _ (sym (c .before .before .before .fault-of .ensures) ∙ c .before .enum-told2 .given .1)))
 
 check-write-requires : tie.Need-check-write-requires
 check-write-requires c κs = search needs
@@ -40,7 +43,14 @@ raise-requires-2 c κs = search needs
 
 returns-2 : tie.Need-returns-2
 unfolding commits.placesOf
-returns-2 c = let a = c .before .before .before .before .before .before .before .before .before .before .before .args in rw (c .raise2 .ensures, c .before .enum-told4 .given .1) (sym (commit-bad (a .machine) (now (a .memory)) (a .r) (a .e .sp) (a .e .rp) (effects.storeOf (a .e .first) ∷ effects.storeOf (a .e .second) ∷ effects.storeOf (a .e .third) ∷ []) (a .e .then) _ (sym (c .before .before .before .before .before .before .fault-of .ensures) ∙ c .before .before .before .before .enum-told .given .1) (simp (sym (c .before .before .before .check-write .ensures) ∙ c .before .enum-told4 .given .1))))
+returns-2 c =
+    let a = c .before .before .before .before .before .before .before .before .before .before .before .args in rw (
+      c .raise2 .ensures,
+      c .before .enum-told4 .given .1,
+    ) (sym (commit-bad (a .machine) (now (a .memory)) (a .r) (a .e .sp) (a .e .rp) (effects.storeOf (a .e .first) ∷
+    effects.storeOf (a .e .second) ∷ effects.storeOf (a .e .third) ∷ []) (a .e .then) _ (sym
+    (c .before .before .before .before .before .before .fault-of .ensures) ∙ c .before .before .before .before .enum-told .given .1) (simp (sym
+    (c .before .before .before .check-write .ensures) ∙ c .before .enum-told4 .given .1))))
 
 check-write-requires-2 : tie.Need-check-write-requires-2
 check-write-requires-2 c κs = search needs
@@ -56,7 +66,19 @@ raise-requires-3 c κs = search needs
 
 returns-3 : tie.Need-returns-3
 unfolding commits.placesOf
-returns-3 c = let a = c .before .before .before .before .before .before .before .before .before .before .before .before .before .before .args in rw (c .raise3 .ensures, c .before .enum-told6 .given .1) (sym (commit-bad (a .machine) (now (a .memory)) (a .r) (a .e .sp) (a .e .rp) (effects.storeOf (a .e .first) ∷ effects.storeOf (a .e .second) ∷ effects.storeOf (a .e .third) ∷ []) (a .e .then) _ (sym (c .before .before .before .before .before .before .before .before .before .fault-of .ensures) ∙ c .before .before .before .before .before .before .before .enum-told .given .1) (simp (sym (c .before .before .before .before .before .before .check-write .ensures) ∙ c .before .before .before .before .enum-told3 .given .1, sym (c .before .before .before .check-write2 .ensures) ∙ c .before .enum-told6 .given .1))))
+returns-3 c =
+    let a = c .before .before .before .before .before .before .before .before .before .before .before .before .before .before .args in rw (
+      c .raise3 .ensures,
+      c .before .enum-told6 .given .1,
+    ) (sym (commit-bad (a .machine) (now (a .memory)) (a .r) (a .e .sp) (a .e .rp) (effects.storeOf (a .e .first) ∷
+    effects.storeOf (a .e .second) ∷ effects.storeOf (a .e .third) ∷ []) (a .e .then) _ (sym
+    (c .before .before .before .before .before .before .before .before .before .fault-of .ensures) ∙
+    c .before .before .before .before .before .before .before .enum-told .given .1) (simp (
+      sym
+          (c .before .before .before .before .before .before .check-write .ensures) ∙ c .before .before .before .before .enum-told3 .given .1,
+      sym
+          (c .before .before .before .check-write2 .ensures) ∙ c .before .enum-told6 .given .1,
+    ))))
 
 check-write-requires-3 : tie.Need-check-write-requires-3
 check-write-requires-3 c κs = search needs
@@ -72,16 +94,55 @@ raise-requires-4 c κs = search needs
 
 returns-4 : tie.Need-returns-4
 unfolding commits.placesOf
-returns-4 c = let a = c .before .before .before .before .before .before .before .before .before .before .before .before .before .before .before .before .before .args in rw (c .raise4 .ensures, c .before .enum-told8 .given .1) (sym (commit-bad (a .machine) (now (a .memory)) (a .r) (a .e .sp) (a .e .rp) (effects.storeOf (a .e .first) ∷ effects.storeOf (a .e .second) ∷ effects.storeOf (a .e .third) ∷ []) (a .e .then) _ (sym (c .before .before .before .before .before .before .before .before .before .before .before .before .fault-of .ensures) ∙ c .before .before .before .before .before .before .before .before .before .before .enum-told .given .1) (simp (sym (c .before .before .before .before .before .before .before .before .before .check-write .ensures) ∙ c .before .before .before .before .before .before .before .enum-told3 .given .1, sym (c .before .before .before .before .before .before .check-write2 .ensures) ∙ c .before .before .before .before .enum-told5 .given .1, sym (c .before .before .before .check-write3 .ensures) ∙ c .before .enum-told8 .given .1))))
+returns-4 c =
+    let a = c .before .before .before .before .before .before .before .before .before .before .before .before .before .before .before .before .before .args in
+    rw (c .raise4 .ensures, c .before .enum-told8 .given .1) (sym (commit-bad (a .machine) (now (a .memory)) (a .r) (a .e .sp) (a .e .rp) (effects.storeOf
+    (a .e .first) ∷ effects.storeOf (a .e .second) ∷ effects.storeOf (a .e .third) ∷ []) (a .e .then) _ (sym
+    (c .before .before .before .before .before .before .before .before .before .before .before .before .fault-of .ensures) ∙
+    c .before .before .before .before .before .before .before .before .before .before .enum-told .given .1) (simp (
+      sym
+          (c .before .before .before .before .before .before .before .before .before .check-write .ensures) ∙
+          c .before .before .before .before .before .before .before .enum-told3 .given .1,
+      sym
+          (c .before .before .before .before .before .before .check-write2 .ensures) ∙ c .before .before .before .before .enum-told5 .given .1,
+      sym
+          (c .before .before .before .check-write3 .ensures) ∙ c .before .enum-told8 .given .1,
+    ))))
 
 put-requires : tie.Need-put-requires
-put-requires c κs = room-place _ _ _ _ (c .before .before .before .before .before .before .before .before .before .before .before .before .before .before .before .before .before .pre) (sym (c .before .before .before .before .before .before .before .before .before .check-write .ensures) ∙ c .before .before .before .before .before .before .before .enum-told3 .given .1)
+put-requires c κs =
+    room-place _ _ _ _
+    (c .before .before .before .before .before .before .before .before .before .before .before .before .before .before .before .before .before .pre) (sym
+    (c .before .before .before .before .before .before .before .before .before .check-write .ensures) ∙
+    c .before .before .before .before .before .before .before .enum-told3 .given .1)
 
 put-requires-2 : tie.Need-put-requires-2
-put-requires-2 c κs = let a = c .before .before .before .before .before .before .before .before .before .before .before .before .before .before .before .before .before .before .before .before .before .args in omega (arith, c .before .before .before .put .kept .1 .0, room-place (a .machine) (a .e .second .access) (length (now (a .memory))) (a .e .second .at .0) (c .before .before .before .before .before .before .before .before .before .before .before .before .before .before .before .before .before .before .before .before .before .pre) (sym (c .before .before .before .before .before .before .before .before .before .before .check-write2 .ensures) ∙ c .before .before .before .before .before .before .before .before .enum-told5 .given .1))
+put-requires-2 c κs =
+    let a =
+    c .before .before .before .before .before .before .before .before .before .before .before .before .before .before .before .before .before .before .before .before .before .args
+    in omega (
+      arith,
+      c .before .before .before .put .kept .1 .0,
+      room-place (a .machine) (a .e .second .access) (length (now (a .memory))) (a .e .second .at .0)
+          (c .before .before .before .before .before .before .before .before .before .before .before .before .before .before .before .before .before .before .before .before .before .pre)
+          (sym (c .before .before .before .before .before .before .before .before .before .before .check-write2 .ensures) ∙
+          c .before .before .before .before .before .before .before .before .enum-told5 .given .1),
+    )
 
 put-requires-3 : tie.Need-put-requires-3
-put-requires-3 c κs = let a = c .before .before .before .before .before .before .before .before .before .before .before .before .before .before .before .before .before .before .before .before .before .before .before .before .before .args in omega (arith, c .before .before .before .before .before .before .before .put .kept .1 .0, c .before .before .before .put2 .kept .1 .0, room-place (a .machine) (a .e .third .access) (length (now (a .memory))) (a .e .third .at .0) (c .before .before .before .before .before .before .before .before .before .before .before .before .before .before .before .before .before .before .before .before .before .before .before .before .before .pre) (sym (c .before .before .before .before .before .before .before .before .before .before .before .check-write3 .ensures) ∙ c .before .before .before .before .before .before .before .before .before .enum-told7 .given .1))
+put-requires-3 c κs =
+    let a =
+    c .before .before .before .before .before .before .before .before .before .before .before .before .before .before .before .before .before .before .before .before .before .before .before .before .before .args
+    in omega (
+      arith,
+      c .before .before .before .before .before .before .before .put .kept .1 .0,
+      c .before .before .before .put2 .kept .1 .0,
+      room-place
+          (a .machine) (a .e .third .access) (length (now (a .memory))) (a .e .third .at .0)
+          (c .before .before .before .before .before .before .before .before .before .before .before .before .before .before .before .before .before .before .before .before .before .before .before .before .before .pre)
+          (sym (c .before .before .before .before .before .before .before .before .before .before .before .check-write3 .ensures) ∙
+          c .before .before .before .before .before .before .before .before .before .enum-told7 .given .1),
+    )
 
 settle-requires : tie.Need-settle-requires
 settle-requires c κs = search needs
@@ -91,7 +152,30 @@ same-length c = search needs
 
 returns-5 : tie.Need-returns-5
 unfolding commits.placesOf commits.storedOf
-returns-5 c = let a = c .before .before .before .before .before .before .before .before .before .before .before .before .before .before .before .before .before .before .before .before .before .before .before .before .before .before .before .before .before .args in rw (c .settle .ensures, c .before .before .before .put3 .ensures, c .before .before .before .before .before .before .before .put2 .ensures, c .before .before .before .before .before .before .before .before .before .before .before .put .ensures) (sym (commit-good (a .machine) (now (a .memory)) (a .r) (a .e .sp) (a .e .rp) (effects.storeOf (a .e .first) ∷ effects.storeOf (a .e .second) ∷ effects.storeOf (a .e .third) ∷ []) (a .e .then) (sym (c .before .before .before .before .before .before .before .before .before .before .before .before .before .before .before .before .before .before .before .before .before .before .before .before .fault-of .ensures) ∙ c .before .before .before .before .before .before .before .before .before .before .before .before .before .before .before .before .before .before .before .before .before .before .enum-told .given .1) (simp (sym (c .before .before .before .before .before .before .before .before .before .before .before .before .before .before .before .before .before .before .before .before .before .check-write .ensures) ∙ c .before .before .before .before .before .before .before .before .before .before .before .before .before .before .before .before .before .before .before .enum-told3 .given .1, sym (c .before .before .before .before .before .before .before .before .before .before .before .before .before .before .before .before .before .before .check-write2 .ensures) ∙ c .before .before .before .before .before .before .before .before .before .before .before .before .before .before .before .before .enum-told5 .given .1, sym (c .before .before .before .before .before .before .before .before .before .before .before .before .before .before .before .check-write3 .ensures) ∙ c .before .before .before .before .before .before .before .before .before .before .before .before .before .enum-told7 .given .1))))
+returns-5 c =
+    let a =
+    c .before .before .before .before .before .before .before .before .before .before .before .before .before .before .before .before .before .before .before .before .before .before .before .before .before .before .before .before .before .args
+    in rw (
+      c .settle .ensures,
+      c .before .before .before .put3 .ensures,
+      c .before .before .before .before .before .before .before .put2 .ensures,
+      c .before .before .before .before .before .before .before .before .before .before .before .put .ensures,
+    ) (sym (commit-good (a .machine) (now (a .memory))
+    (a .r) (a .e .sp) (a .e .rp) (effects.storeOf (a .e .first) ∷ effects.storeOf (a .e .second) ∷ effects.storeOf (a .e .third) ∷ []) (a .e .then) (sym
+    (c .before .before .before .before .before .before .before .before .before .before .before .before .before .before .before .before .before .before .before .before .before .before .before .before .fault-of .ensures)
+    ∙
+    c .before .before .before .before .before .before .before .before .before .before .before .before .before .before .before .before .before .before .before .before .before .before .enum-told .given .1)
+    (simp (
+      sym
+          (c .before .before .before .before .before .before .before .before .before .before .before .before .before .before .before .before .before .before .before .before .before .check-write .ensures)
+          ∙
+          c .before .before .before .before .before .before .before .before .before .before .before .before .before .before .before .before .before .before .before .enum-told3 .given .1,
+      sym
+          (c .before .before .before .before .before .before .before .before .before .before .before .before .before .before .before .before .before .before .check-write2 .ensures)
+          ∙ c .before .before .before .before .before .before .before .before .before .before .before .before .before .before .before .before .enum-told5 .given .1,
+      sym (c .before .before .before .before .before .before .before .before .before .before .before .before .before .before .before .check-write3 .ensures) ∙
+          c .before .before .before .before .before .before .before .before .before .before .before .before .before .enum-told7 .given .1,
+    ))))
 
 pub commit-three-spec : {M : Type 1} → statement M
 commit-three-spec =

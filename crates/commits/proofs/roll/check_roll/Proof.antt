@@ -33,7 +33,11 @@ enum-told-2 : tie.Need-enum-told-2 Inv-loop μ-loop
 enum-told-2 c = search needs
 
 returns-2 : tie.Need-returns-2 Inv-loop μ-loop
-returns-2 c = let a = c .before .before .before .before .before .before .before .before .before .args in judge-bad (a .machine) (now (a .memory)) (a .top .0) (a .depth .0) (c .before .before .before .before .before .loop .k) _ _ (c .before .before .before .before .loop-test .taken) (rw (c .before .before .before .address-at .ensures) at (c .before .before .check-place .ensures)) (c .enum-told2 .given .1) (c .before .before .before .before .before .loop .inv)
+returns-2 c =
+    let a = c .before .before .before .before .before .before .before .before .before .args in judge-bad (a .machine) (now (a .memory)) (a .top .0)
+    (a .depth .0) (c .before .before .before .before .before .loop .k) _ _ (c .before .before .before .before .loop-test .taken) (rw
+    (c .before .before .before .address-at .ensures) at (c .before .before .check-place .ensures)) (c .enum-told2 .given .1)
+    (c .before .before .before .before .before .loop .inv)
 
 sub-k : tie.Need-sub-k Inv-loop μ-loop
 sub-k c = omega (arith, c .before .before .before .before .loop-test .taken)
@@ -42,13 +46,19 @@ loop-less : tie.Need-loop-less Inv-loop μ-loop
 loop-less c = omega (arith, c .before .before .before .before .loop-test .taken)
 
 loop-again : tie.Need-loop-again Inv-loop μ-loop
-loop-again c = let a = c .before .before .before .before .before .before .before .before .before .args in judge-again (a .machine) (now (a .memory)) (a .top .0) (a .depth .0) (c .before .before .before .before .before .loop .k) _ (c .before .before .before .before .loop-test .taken) (rw (c .before .before .before .address-at .ensures) at (c .before .before .check-place .ensures)) (c .enum-told .given .1) (c .before .before .before .before .before .loop .inv)
+loop-again c =
+    let a = c .before .before .before .before .before .before .before .before .before .args in judge-again (a .machine) (now (a .memory)) (a .top .0)
+    (a .depth .0) (c .before .before .before .before .before .loop .k) _ (c .before .before .before .before .loop-test .taken) (rw
+    (c .before .before .before .address-at .ensures) at (c .before .before .check-place .ensures)) (c .enum-told .given .1)
+    (c .before .before .before .before .before .loop .inv)
 
 check-place-requires-2 : tie.Need-check-place-requires-2 Inv-loop μ-loop
 check-place-requires-2 c κs = search needs
 
 returns-3 : tie.Need-returns-3 Inv-loop μ-loop
-returns-3 c = let a = c .before .before .before .before .before .before .args in judge-done (a .machine) (now (a .memory)) (a .top .0) (a .depth .0) (c .before .before .loop .k) _ (c .before .loop-test .left) (c .check-place2 .ensures) (c .before .before .loop .inv)
+returns-3 c =
+    let a = c .before .before .before .before .before .before .args in judge-done (a .machine) (now (a .memory)) (a .top .0) (a .depth .0)
+    (c .before .before .loop .k) _ (c .before .loop-test .left) (c .check-place2 .ensures) (c .before .before .loop .inv)
 
 pub check-roll-spec : {M : Type 1} → statement M
 check-roll-spec =

@@ -24,7 +24,8 @@ returns : tie.Need-returns
 returns c =
     let a = c .before .before .before .before .before .before .before .args in
     rw (c .raise .ensures, c .before .enum-told2 .given .1)
-    (sym (commit-raising (a .machine) (now (a .memory)) (a .r) (a .e .sp) (a .e .rp) (effects.rolled (a .machine .order) (now (a .memory)) (a .e .top .0) (a .e .depth .0)) (a .e .then) _ (sym (c .before .before .before .fault-of .ensures) ∙ c .before .enum-told2 .given .1)))
+    (sym (commit-raising (a .machine) (now (a .memory)) (a .r) (a .e .sp) (a .e .rp) (effects.rolled (a .machine .order) (now (a .memory)) (a .e .top .0)
+    (a .e .depth .0)) (a .e .then) _ (sym (c .before .before .before .fault-of .ensures) ∙ c .before .enum-told2 .given .1)))
 
 check-roll-requires : tie.Need-check-roll-requires
 check-roll-requires c κs = search needs
@@ -45,7 +46,9 @@ returns-2 : tie.Need-returns-2
 returns-2 c =
     let a = c .before .before .before .before .before .before .before .before .before .before .before .args in
     rw (c .raise2 .ensures, c .before .enum-told4 .given .1)
-    (sym (commit-bad (a .machine) (now (a .memory)) (a .r) (a .e .sp) (a .e .rp) (effects.rolled (a .machine .order) (now (a .memory)) (a .e .top .0) (a .e .depth .0)) (a .e .then) _ (sym (c .before .before .before .before .before .before .before .fault-of .ensures) ∙ c .before .before .before .before .before .enum-told .given .1)
+    (sym (commit-bad (a .machine) (now (a .memory)) (a .r) (a .e .sp) (a .e .rp) (effects.rolled (a .machine .order) (now (a .memory)) (a .e .top .0)
+    (a .e .depth .0)) (a .e .then) _ (sym (c .before .before .before .before .before .before .before .fault-of .ensures) ∙
+    c .before .before .before .before .before .enum-told .given .1)
     (sym (c .before .before .before .check-roll .ensures) ∙ c .before .enum-told4 .given .1)))
 
 roll-cells-requires : tie.Need-roll-cells-requires
@@ -66,7 +69,9 @@ returns-3 : tie.Need-returns-3
 returns-3 c =
     let a = c .before .before .before .before .before .before .before .before .before .before .before .before .before .before .before .args in
     rw (c .settle .ensures, c .before .before .before .roll-cells .ensures)
-    (sym (commit-good (a .machine) (now (a .memory)) (a .r) (a .e .sp) (a .e .rp) (effects.rolled (a .machine .order) (now (a .memory)) (a .e .top .0) (a .e .depth .0)) (a .e .then) (sym (c .before .before .before .before .before .before .before .before .before .before .before .fault-of .ensures) ∙ c .before .before .before .before .before .before .before .before .before .enum-told .given .1)
+    (sym (commit-good (a .machine) (now (a .memory)) (a .r) (a .e .sp) (a .e .rp) (effects.rolled (a .machine .order) (now (a .memory)) (a .e .top .0)
+    (a .e .depth .0)) (a .e .then) (sym (c .before .before .before .before .before .before .before .before .before .before .before .fault-of .ensures) ∙
+    c .before .before .before .before .before .before .before .before .before .enum-told .given .1)
     (sym (c .before .before .before .before .before .before .before .check-roll .ensures) ∙ c .before .before .before .before .before .enum-told3 .given .1)))
 
 pub commit-roll-spec : {M : Type 1} → statement M

@@ -30,16 +30,56 @@ sub-next : tie.Need-sub-next Inv-loop μ-loop
 sub-next c = omega arith
 
 address-at-requires-2 : tie.Need-address-at-requires-2 Inv-loop μ-loop
-address-at-requires-2 c κs = omega (arith, c .before .before .loop .inv .within, c .before .before .loop .inv .long, c .before .before .before .before .before .before .before .before .before .pre .0, c .before .before .before .before .before .before .before .before .before .pre .1 (omega (arith, c .before .before .before .before .before .before .if1 .left)))
+address-at-requires-2 c κs =
+    omega (
+      arith,
+      c .before .before .loop .inv .within,
+      c .before .before .loop .inv .long,
+      c .before .before .before .before .before .before .before .before .before .pre .0,
+      c .before .before .before .before .before .before .before .before .before .pre .1 (omega (
+        arith,
+        c .before .before .before .before .before .before .if1 .left,
+      )),
+    )
 
 load-requires-2 : tie.Need-load-requires-2 Inv-loop μ-loop
-load-requires-2 c κs = rw (c .address-at2 .ensures) (omega (arith, c .before .before .before .loop .inv .within, c .before .before .before .loop .inv .long, c .before .before .before .before .before .before .before .before .before .before .pre .0, c .before .before .before .before .before .before .before .before .before .before .pre .1 (omega (arith, c .before .before .before .before .before .before .before .if1 .left))))
+load-requires-2 c κs =
+    rw (c .address-at2 .ensures) (omega (
+      arith,
+      c .before .before .before .loop .inv .within,
+      c .before .before .before .loop .inv .long,
+      c .before .before .before .before .before .before .before .before .before .before .pre .0,
+      c .before .before .before .before .before .before .before .before .before .before .pre .1 (omega (
+        arith,
+        c .before .before .before .before .before .before .before .if1 .left,
+      )),
+    ))
 
 address-at-requires-3 : tie.Need-address-at-requires-3 Inv-loop μ-loop
-address-at-requires-3 c κs = omega (arith, c .before .before .before .before .before .loop .inv .within, c .before .before .before .before .before .loop .inv .long, c .before .before .before .before .before .before .before .before .before .before .before .before .pre .0, c .before .before .before .before .before .before .before .before .before .before .before .before .pre .1 (omega (arith, c .before .before .before .before .before .before .before .before .before .if1 .left)))
+address-at-requires-3 c κs =
+    omega (
+      arith,
+      c .before .before .before .before .before .loop .inv .within,
+      c .before .before .before .before .before .loop .inv .long,
+      c .before .before .before .before .before .before .before .before .before .before .before .before .pre .0,
+      c .before .before .before .before .before .before .before .before .before .before .before .before .pre .1 (omega (
+        arith,
+        c .before .before .before .before .before .before .before .before .before .if1 .left,
+      )),
+    )
 
 store-requires : tie.Need-store-requires Inv-loop μ-loop
-store-requires c κs = rw (c .address-at3 .ensures) (omega (arith, c .before .before .before .before .before .before .loop .inv .within, c .before .before .before .before .before .before .loop .inv .long, c .before .before .before .before .before .before .before .before .before .before .before .before .before .pre .0, c .before .before .before .before .before .before .before .before .before .before .before .before .before .pre .1 (omega (arith, c .before .before .before .before .before .before .before .before .before .before .if1 .left))))
+store-requires c κs =
+    rw (c .address-at3 .ensures) (omega (
+      arith,
+      c .before .before .before .before .before .before .loop .inv .within,
+      c .before .before .before .before .before .before .loop .inv .long,
+      c .before .before .before .before .before .before .before .before .before .before .before .before .before .pre .0,
+      c .before .before .before .before .before .before .before .before .before .before .before .before .before .pre .1 (omega (
+        arith,
+        c .before .before .before .before .before .before .before .before .before .before .if1 .left,
+      )),
+    ))
 
 loop-less : tie.Need-loop-less Inv-loop μ-loop
 loop-less c = omega (arith, c .before .before .before .before .before .before .before .before .loop-test .taken)
@@ -47,14 +87,27 @@ loop-less c = omega (arith, c .before .before .before .before .before .before .b
 loop-again : tie.Need-loop-again Inv-loop μ-loop
 loop-again c =
     let a = c .before .before .before .before .before .before .before .before .before .before .before .before .before .before .before .before .args in
-    roll-again (a .machine) (now (a .memory)) (a .top .0) (a .depth .0) (c .before .before .before .before .before .before .before .before .before .before .load .result) (c .before .before .before .before .before .before .before .before .before .loop .memory) (c .before .before .before .before .before .before .before .before .before .loop .k)
+    roll-again (a .machine) (now (a .memory)) (a .top .0) (a .depth .0)
+    (c .before .before .before .before .before .before .before .before .before .before .load .result)
+    (c .before .before .before .before .before .before .before .before .before .loop .memory)
+    (c .before .before .before .before .before .before .before .before .before .loop .k)
     (c .before .before .before .before .before .load2 .result) _ (c .before .before .before .before .before .before .before .before .loop-test .taken)
     (rw (c .before .before .before .before .before .before .address-at2 .ensures) at (c .before .before .before .before .before .load2 .ensures))
     (rw (c .before .before .before .address-at3 .ensures) at (c .before .before .store .ensures))
     (c .before .before .before .before .before .before .before .before .before .loop .inv)
 
 store-requires-2 : tie.Need-store-requires-2 Inv-loop μ-loop
-store-requires-2 c κs = omega (arith, c .before .before .loop .inv .within, c .before .before .loop .inv .long, c .before .before .before .before .before .before .before .before .before .pre .0, c .before .before .before .before .before .before .before .before .before .pre .1 (omega (arith, c .before .before .before .before .before .before .if1 .left)))
+store-requires-2 c κs =
+    omega (
+      arith,
+      c .before .before .loop .inv .within,
+      c .before .before .loop .inv .long,
+      c .before .before .before .before .before .before .before .before .before .pre .0,
+      c .before .before .before .before .before .before .before .before .before .pre .1 (omega (
+        arith,
+        c .before .before .before .before .before .before .if1 .left,
+      )),
+    )
 
 same-length : tie.Need-same-length Inv-loop μ-loop
 same-length c = c .before .before .store2 .kept .1 .0 ∙ c .before .before .before .before .before .loop .inv .long
@@ -62,7 +115,8 @@ same-length c = c .before .before .store2 .kept .1 .0 ∙ c .before .before .bef
 returns-2 : tie.Need-returns-2 Inv-loop μ-loop
 returns-2 c =
     let a = c .before .before .before .before .before .before .before .before .before .before .before .before .args in
-    roll-done (a .machine) (now (a .memory)) (a .top .0) (a .depth .0) (c .before .before .before .before .before .before .load .result) (c .before .before .before .before .before .loop .memory) (c .before .before .before .before .before .loop .k) _
+    roll-done (a .machine) (now (a .memory)) (a .top .0) (a .depth .0) (c .before .before .before .before .before .before .load .result)
+    (c .before .before .before .before .before .loop .memory) (c .before .before .before .before .before .loop .k) _
     (c .before .before .before .before .before .before .before .before .before .if1 .left)
     (rw (c .before .before .before .before .before .before .before .address-at .ensures) at (c .before .before .before .before .before .before .load .ensures))
     (c .before .before .before .before .loop-test .left) (c .before .before .store2 .ensures) (c .before .before .before .before .before .loop .inv)

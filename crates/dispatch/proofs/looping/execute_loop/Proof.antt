@@ -31,7 +31,16 @@ same-length c = search needs
 -- src/looping.rt:41:1
 returns : tie.Need-returns
 unfolding dispatch.executeOf
-returns c = let a = c .before .before .before .before .before .before .before .before .before .args in rw (loop-is (a .opcode) (c .before .before .before .before .before .before .before .before .before .pre .1), c .onward .ensures, ← c .before .before .before .before .before .before .before .form-of .ensures) (ap (dispatch.taken (c .before .before .before .before .before .before .before .form-of .result)) (c .before .before .before .commit-maybe .ensures ∙ ap (commits.commitOf (a .machine) (now (a .memory)) (a .r)) (c .before .before .before .before .before .loop-effect .ensures)))
+returns c =
+    let a = c .before .before .before .before .before .before .before .before .before .args in rw (
+      loop-is (a .opcode)
+          (c .before .before .before .before .before .before .before .before .before .pre .1),
+      c .onward .ensures,
+      ←
+          c .before .before .before .before .before .before .before .form-of .ensures,
+    ) (ap (dispatch.taken
+    (c .before .before .before .before .before .before .before .form-of .result)) (c .before .before .before .commit-maybe .ensures ∙ ap (commits.commitOf
+    (a .machine) (now (a .memory)) (a .r)) (c .before .before .before .before .before .loop-effect .ensures)))
 
 pub execute-loop-spec : {M : Type 1} → statement M
 execute-loop-spec =

@@ -26,11 +26,20 @@ pack-requires : tie.Need-pack-requires
 pack-requires c κs = search needs
 
 note-packed-requires : tie.Need-note-packed-requires
-note-packed-requires c κs = roomy (c .before .before .before .before .before .before .before .before .judge-pack .result) (length (c .before .before .before .before .before .before .before .before .before .before .before .before .before .args .out .now)) 1 (sym (c .before .before .before .before .before .before .before .with-room .ensures) ∙ c .before .before .before .before .before .enum-told .given .1) .room
+note-packed-requires c κs =
+    roomy (c .before .before .before .before .before .before .before .before .judge-pack .result) (length
+    (c .before .before .before .before .before .before .before .before .before .before .before .before .before .args .out .now)) 1 (sym
+    (c .before .before .before .before .before .before .before .with-room .ensures) ∙ c .before .before .before .before .before .enum-told .given .1) .room
 
 returns : tie.Need-returns
 unfolding listings.packCall
-returns c = rw (← c .before .before .before .before .before .judge-pack .ensures, sym (c .before .before .before .before .with-room .ensures) ∙ c .before .before .n .given .1, c .refusal-number .ensures)
+returns c =
+    rw (
+      ← c .before .before .before .before .before .judge-pack .ensures,
+      sym (c .before .before .before .before .with-room .ensures) ∙
+          c .before .before .n .given .1,
+      c .refusal-number .ensures,
+    )
 
 same-length : tie.Need-same-length
 same-length c = search needs
@@ -40,7 +49,15 @@ same-length-2 c = search needs
 
 returns-2 : tie.Need-returns-2
 unfolding listings.packCall
-returns-2 c = rw (← c .before .before .before .before .before .before .before .before .before .before .before .judge-pack .ensures, sym (c .before .before .before .before .before .before .before .before .before .before .with-room .ensures) ∙ c .before .before .before .before .before .before .before .before .enum-told .given .1, ← c .before .before .before .before .before .before .pack .ensures, ← c .before .before .note-packed .ensures)
+returns-2 c =
+    rw (
+      ← c .before .before .before .before .before .before .before .before .before .before .before .judge-pack .ensures,
+      sym
+          (c .before .before .before .before .before .before .before .before .before .before .with-room .ensures) ∙
+          c .before .before .before .before .before .before .before .before .enum-told .given .1,
+      ← c .before .before .before .before .before .before .pack .ensures,
+      ← c .before .before .note-packed .ensures,
+    )
 
 pub beetle-pack-spec : {M : Type 1} → statement M
 beetle-pack-spec =

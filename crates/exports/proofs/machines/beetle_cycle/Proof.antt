@@ -25,7 +25,9 @@ cycle-requires : tie.Need-cycle-requires
 cycle-requires c κs = search needs
 
 tell-cycled-requires : tie.Need-tell-cycled-requires
-tell-cycled-requires c κs = call-roomy _ _ _ _ _ (sym (c .before .before .before .before .before .before .before .before .before .before .judge-call .ensures) ∙ c .before .before .before .before .before .before .before .before .enum-told .given .1)
+tell-cycled-requires c κs =
+    call-roomy _ _ _ _ _ (sym (c .before .before .before .before .before .before .before .before .before .before .judge-call .ensures) ∙
+    c .before .before .before .before .before .before .before .before .enum-told .given .1)
 
 returns : tie.Need-returns
 unfolding machines.cycleCall
@@ -42,7 +44,16 @@ same-length-3 c = search needs
 
 returns-2 : tie.Need-returns-2
 unfolding machines.cycleCall
-returns-2 c = rw (sym (c .before .before .before .before .before .before .before .before .before .before .before .before .before .before .before .judge-call .ensures) ∙ c .before .before .before .before .before .before .before .before .before .before .before .before .before .enum-told .given .1, ← c .before .before .before .before .before .before .before .before .before .before .before .read-registers .ensures, ← c .before .before .before .before .before .before .before .before .before .cycle .ensures, ← c .before .before .before .before .tell-cycled .ensures)
+returns-2 c =
+    rw (
+      sym (c .before .before .before .before .before .before .before .before .before .before .before .before .before .before .before .judge-call .ensures) ∙
+          c .before .before .before .before .before .before .before .before .before .before .before .before .before .enum-told .given .1,
+      ←
+          c .before .before .before .before .before .before .before .before .before .before .before .read-registers .ensures,
+      ←
+          c .before .before .before .before .before .before .before .before .before .cycle .ensures,
+      ← c .before .before .before .before .tell-cycled .ensures,
+    )
 
 pub beetle-cycle-spec : {M : Type 1} → statement M
 beetle-cycle-spec =

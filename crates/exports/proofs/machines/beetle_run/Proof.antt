@@ -25,7 +25,9 @@ run-requires : tie.Need-run-requires
 run-requires c κs = search needs
 
 tell-ran-requires : tie.Need-tell-ran-requires
-tell-ran-requires c κs = call-roomy _ _ _ _ _ (sym (c .before .before .before .before .before .before .before .before .before .before .judge-call .ensures) ∙ c .before .before .before .before .before .before .before .before .enum-told .given .1)
+tell-ran-requires c κs =
+    call-roomy _ _ _ _ _ (sym (c .before .before .before .before .before .before .before .before .before .before .judge-call .ensures) ∙
+    c .before .before .before .before .before .before .before .before .enum-told .given .1)
 
 returns : tie.Need-returns
 unfolding machines.runCall
@@ -42,7 +44,16 @@ same-length-3 c = search needs
 
 returns-2 : tie.Need-returns-2
 unfolding machines.runCall
-returns-2 c = rw (sym (c .before .before .before .before .before .before .before .before .before .before .before .before .before .before .before .judge-call .ensures) ∙ c .before .before .before .before .before .before .before .before .before .before .before .before .before .enum-told .given .1, ← c .before .before .before .before .before .before .before .before .before .before .before .read-registers .ensures, ← c .before .before .before .before .before .before .before .before .before .run .ensures, ← c .before .before .before .before .tell-ran .ensures)
+returns-2 c =
+    rw (
+      sym (c .before .before .before .before .before .before .before .before .before .before .before .before .before .before .before .judge-call .ensures) ∙
+          c .before .before .before .before .before .before .before .before .before .before .before .before .before .enum-told .given .1,
+      ←
+          c .before .before .before .before .before .before .before .before .before .before .before .read-registers .ensures,
+      ←
+          c .before .before .before .before .before .before .before .before .before .run .ensures,
+      ← c .before .before .before .before .tell-ran .ensures,
+    )
 
 pub beetle-run-spec : {M : Type 1} → statement M
 beetle-run-spec =

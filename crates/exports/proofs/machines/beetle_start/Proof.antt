@@ -22,7 +22,9 @@ start-requires : tie.Need-start-requires
 start-requires c κs = search needs
 
 tell-started-requires : tie.Need-tell-started-requires
-tell-started-requires c κs = call-roomy _ _ _ _ _ (sym (c .before .before .before .before .before .before .before .before .judge-call .ensures) ∙ c .before .before .before .before .before .before .enum-told .given .1)
+tell-started-requires c κs =
+    call-roomy _ _ _ _ _ (sym (c .before .before .before .before .before .before .before .before .judge-call .ensures) ∙
+    c .before .before .before .before .before .before .enum-told .given .1)
 
 returns : tie.Need-returns
 unfolding machines.startCall
@@ -39,7 +41,14 @@ same-length-3 c = search needs
 
 returns-2 : tie.Need-returns-2
 unfolding machines.startCall
-returns-2 c = rw (sym (c .before .before .before .before .before .before .before .before .before .before .before .before .before .judge-call .ensures) ∙ c .before .before .before .before .before .before .before .before .before .before .before .enum-told .given .1, ← c .before .before .before .before .before .before .before .before .before .start .ensures, ← c .before .before .before .before .tell-started .ensures)
+returns-2 c =
+    rw (
+      sym (c .before .before .before .before .before .before .before .before .before .before .before .before .before .judge-call .ensures) ∙
+          c .before .before .before .before .before .before .before .before .before .before .before .enum-told .given .1,
+      ←
+          c .before .before .before .before .before .before .before .before .before .start .ensures,
+      ← c .before .before .before .before .tell-started .ensures,
+    )
 
 pub beetle-start-spec : {M : Type 1} → statement M
 beetle-start-spec =

@@ -26,11 +26,20 @@ load-object-requires : tie.Need-load-object-requires
 load-object-requires c κs = search needs
 
 note-loaded-requires : tie.Need-note-loaded-requires
-note-loaded-requires c κs = roomy (c .before .before .before .before .before .before .before .before .judge-load .result) (length (c .before .before .before .before .before .before .before .before .before .before .before .before .args .out .now)) 1 (sym (c .before .before .before .before .before .before .before .with-room .ensures) ∙ c .before .before .before .before .before .enum-told .given .1) .room
+note-loaded-requires c κs =
+    roomy (c .before .before .before .before .before .before .before .before .judge-load .result) (length
+    (c .before .before .before .before .before .before .before .before .before .before .before .before .args .out .now)) 1 (sym
+    (c .before .before .before .before .before .before .before .with-room .ensures) ∙ c .before .before .before .before .before .enum-told .given .1) .room
 
 returns : tie.Need-returns
 unfolding modules.loadCall
-returns c = rw (← c .before .before .before .before .before .judge-load .ensures, sym (c .before .before .before .before .with-room .ensures) ∙ c .before .before .n .given .1, c .refusal-number .ensures)
+returns c =
+    rw (
+      ← c .before .before .before .before .before .judge-load .ensures,
+      sym (c .before .before .before .before .with-room .ensures) ∙
+          c .before .before .n .given .1,
+      c .refusal-number .ensures,
+    )
 
 same-length : tie.Need-same-length
 same-length c = search needs
@@ -40,7 +49,16 @@ same-length-2 c = search needs
 
 returns-2 : tie.Need-returns-2
 unfolding modules.loadCall
-returns-2 c = rw (← c .before .before .before .before .before .before .before .before .before .before .before .judge-load .ensures, sym (c .before .before .before .before .before .before .before .before .before .before .with-room .ensures) ∙ c .before .before .before .before .before .before .before .before .enum-told .given .1, ← c .before .before .before .before .before .before .load-object .ensures, ← c .before .before .note-loaded .ensures)
+returns-2 c =
+    rw (
+      ← c .before .before .before .before .before .before .before .before .before .before .before .judge-load .ensures,
+      sym
+          (c .before .before .before .before .before .before .before .before .before .before .with-room .ensures) ∙
+          c .before .before .before .before .before .before .before .before .enum-told .given .1,
+      ←
+          c .before .before .before .before .before .before .load-object .ensures,
+      ← c .before .before .note-loaded .ensures,
+    )
 
 pub beetle-load-spec : {M : Type 1} → statement M
 beetle-load-spec =

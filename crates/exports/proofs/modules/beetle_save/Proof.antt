@@ -26,11 +26,20 @@ save-object-requires : tie.Need-save-object-requires
 save-object-requires c κs = search needs
 
 note-saved-requires : tie.Need-note-saved-requires
-note-saved-requires c κs = roomy (c .before .before .before .before .before .before .before .before .judge-save .result) (length (c .before .before .before .before .before .before .before .before .before .before .before .before .args .out .now)) 1 (sym (c .before .before .before .before .before .before .before .with-room .ensures) ∙ c .before .before .before .before .before .enum-told .given .1) .room
+note-saved-requires c κs =
+    roomy (c .before .before .before .before .before .before .before .before .judge-save .result) (length
+    (c .before .before .before .before .before .before .before .before .before .before .before .before .args .out .now)) 1 (sym
+    (c .before .before .before .before .before .before .before .with-room .ensures) ∙ c .before .before .before .before .before .enum-told .given .1) .room
 
 returns : tie.Need-returns
 unfolding modules.saveCall
-returns c = rw (← c .before .before .before .before .before .judge-save .ensures, sym (c .before .before .before .before .with-room .ensures) ∙ c .before .before .n .given .1, c .refusal-number .ensures)
+returns c =
+    rw (
+      ← c .before .before .before .before .before .judge-save .ensures,
+      sym (c .before .before .before .before .with-room .ensures) ∙
+          c .before .before .n .given .1,
+      c .refusal-number .ensures,
+    )
 
 same-length : tie.Need-same-length
 same-length c = search needs
@@ -40,7 +49,16 @@ same-length-2 c = search needs
 
 returns-2 : tie.Need-returns-2
 unfolding modules.saveCall
-returns-2 c = rw (← c .before .before .before .before .before .before .before .before .before .before .before .judge-save .ensures, sym (c .before .before .before .before .before .before .before .before .before .before .with-room .ensures) ∙ c .before .before .before .before .before .before .before .before .enum-told .given .1, ← c .before .before .before .before .before .before .save-object .ensures, ← c .before .before .note-saved .ensures)
+returns-2 c =
+    rw (
+      ← c .before .before .before .before .before .before .before .before .before .before .before .judge-save .ensures,
+      sym
+          (c .before .before .before .before .before .before .before .before .before .before .with-room .ensures) ∙
+          c .before .before .before .before .before .before .before .before .enum-told .given .1,
+      ←
+          c .before .before .before .before .before .before .save-object .ensures,
+      ← c .before .before .note-saved .ensures,
+    )
 
 pub beetle-save-spec : {M : Type 1} → statement M
 beetle-save-spec =

@@ -44,14 +44,30 @@ fail-none-requires-2 c κs = (_, c .enum-told2 .given .1)
 
 returns-3 : tie.Need-returns-3
 unfolding taking.takingOf
-returns-3 c = simp (sym (c .before .before .before .before .before .before .before .before .fetch .ensures) ∙ c .before .before .before .before .before .before .got .given .1, sym (c .before .before .before .branch-operand .ensures) ∙ c .before .enum-told2 .given .1, eq-eqb _ _ (c .before .before .before .before .if1 .left)) (c .fail-none2 .ensures ∙ ap plain.failed (c .before .enum-told2 .given .1))
+returns-3 c =
+    simp (
+      sym (c .before .before .before .before .before .before .before .before .fetch .ensures) ∙
+          c .before .before .before .before .before .before .got .given .1,
+      sym (c .before .before .before .branch-operand .ensures) ∙
+          c .before .enum-told2 .given .1,
+      eq-eqb _ _ (c .before .before .before .before .if1 .left),
+    ) (c .fail-none2 .ensures ∙ ap plain.failed
+    (c .before .enum-told2 .given .1))
 
 add-requires-2 : tie.Need-add-requires-2
 add-requires-2 c κs = search needs
 
 returns-4 : tie.Need-returns-4
 unfolding taking.takingOf
-returns-4 c = simp (sym (c .before .before .before .before .before .before .before .before .before .fetch .ensures) ∙ c .before .before .before .before .before .before .before .got .given .1, sym (c .before .before .before .before .branch-operand .ensures) ∙ c .before .before .got2 .given .1, eq-eqb _ _ (c .before .before .before .before .before .if1 .left), c .add2 .ensures)
+returns-4 c =
+    simp (
+      sym (c .before .before .before .before .before .before .before .before .before .fetch .ensures) ∙
+          c .before .before .before .before .before .before .before .got .given .1,
+      sym (c .before .before .before .before .branch-operand .ensures) ∙
+          c .before .before .got2 .given .1,
+      eq-eqb _ _ (c .before .before .before .before .before .if1 .left),
+      c .add2 .ensures,
+    )
 
 pub question-branch-spec : {M : Type 1} → statement M
 question-branch-spec =

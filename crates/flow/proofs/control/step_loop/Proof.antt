@@ -42,7 +42,14 @@ fail-maybe-requires-2 c κs = (_, c .enum-told2 .given .1)
 
 returns-2 : tie.Need-returns-2
 unfolding taking.takingOf
-returns-2 c = simp (sym (c .before .before .before .before .before .before .before .before .fetch .ensures) ∙ c .before .before .before .before .before .before .got .given .1, rw (c .before .before .before .before .add .ensures) at (sym (c .before .before .before .fetch2 .ensures) ∙ c .before .enum-told2 .given .1)) (c .fail-maybe2 .ensures ∙ ap plain.failed (c .before .enum-told2 .given .1))
+returns-2 c =
+    simp (
+      sym (c .before .before .before .before .before .before .before .before .fetch .ensures) ∙
+          c .before .before .before .before .before .before .got .given .1,
+      rw (c .before .before .before .before .add .ensures) at (sym
+          (c .before .before .before .fetch2 .ensures) ∙ c .before .enum-told2 .given .1),
+    ) (c .fail-maybe2 .ensures ∙ ap plain.failed
+    (c .before .enum-told2 .given .1))
 
 add-requires-2 : tie.Need-add-requires-2
 add-requires-2 c κs = search needs
@@ -54,7 +61,14 @@ write-nothing-requires : tie.Need-write-nothing-requires
 write-nothing-requires c κs = search needs
 
 returns-3 : tie.Need-returns-3
-returns-3 c = let a = c .before .before .before .before .before .before .before .before .before .before .before .before .before .before .args in c .write-nothing .ensures ∙ ap (plain.moved (a .r .sp)) (c .before .add3 .ensures) ∙ sym (loop-ends (a .machine) (now (a .memory)) (a .r .sp) (a .r .rp) _ _ _ (sym (c .before .before .before .before .before .before .before .before .before .before .before .before .fetch .ensures) ∙ c .before .before .before .before .before .before .before .before .before .before .got .given .1) (rw (c .before .before .before .before .before .before .before .before .add .ensures) at (sym (c .before .before .before .before .before .before .before .fetch2 .ensures) ∙ c .before .before .before .before .before .got2 .given .1)) _ (eq-eqb _ _ (sym (c .before .before .before .add2 .ensures) ∙ c .before .before .if1 .taken)))
+returns-3 c =
+    let a = c .before .before .before .before .before .before .before .before .before .before .before .before .before .before .args in c .write-nothing .ensures
+    ∙ ap (plain.moved (a .r .sp)) (c .before .add3 .ensures) ∙ sym (loop-ends (a .machine) (now (a .memory)) (a .r .sp) (a .r .rp) _ _ _ (sym
+    (c .before .before .before .before .before .before .before .before .before .before .before .before .fetch .ensures) ∙
+    c .before .before .before .before .before .before .before .before .before .before .got .given .1) (rw
+    (c .before .before .before .before .before .before .before .before .add .ensures) at (sym
+    (c .before .before .before .before .before .before .before .fetch2 .ensures) ∙ c .before .before .before .before .before .got2 .given .1)) _ (eq-eqb _ _
+    (sym (c .before .before .before .add2 .ensures) ∙ c .before .before .if1 .taken)))
 
 branch-operand-requires : tie.Need-branch-operand-requires
 branch-operand-requires c κs = search needs
@@ -69,10 +83,27 @@ fail-maybe-requires-3 : tie.Need-fail-maybe-requires-3
 fail-maybe-requires-3 c κs = (_, c .enum-told3 .given .1)
 
 returns-4 : tie.Need-returns-4
-returns-4 c = let a = c .before .before .before .before .before .before .before .before .before .before .before .before .before .before .before .before .args in c .fail-maybe3 .ensures ∙ ap plain.failed (c .before .enum-told3 .given .1) ∙ sym (loop-fails (a .machine) (now (a .memory)) (a .r .sp) (a .r .rp) _ _ _ (sym (c .before .before .before .before .before .before .before .before .before .before .before .before .before .before .fetch .ensures) ∙ c .before .before .before .before .before .before .before .before .before .before .before .before .got .given .1) (rw (c .before .before .before .before .before .before .before .before .before .before .add .ensures) at (sym (c .before .before .before .before .before .before .before .before .before .fetch2 .ensures) ∙ c .before .before .before .before .before .before .before .got2 .given .1)) _ _ (ne-eqb _ _ (λ e. c .before .before .before .before .if1 .left (c .before .before .before .before .before .add2 .ensures ∙ e))) (sym (c .before .before .before .branch-operand .ensures) ∙ c .before .enum-told3 .given .1))
+returns-4 c =
+    let a = c .before .before .before .before .before .before .before .before .before .before .before .before .before .before .before .before .args in
+    c .fail-maybe3 .ensures ∙ ap plain.failed (c .before .enum-told3 .given .1) ∙ sym (loop-fails (a .machine) (now (a .memory)) (a .r .sp) (a .r .rp) _ _ _
+    (sym (c .before .before .before .before .before .before .before .before .before .before .before .before .before .before .fetch .ensures) ∙
+    c .before .before .before .before .before .before .before .before .before .before .before .before .got .given .1) (rw
+    (c .before .before .before .before .before .before .before .before .before .before .add .ensures) at (sym
+    (c .before .before .before .before .before .before .before .before .before .fetch2 .ensures) ∙
+    c .before .before .before .before .before .before .before .got2 .given .1)) _ _ (ne-eqb _ _ (λ e. c .before .before .before .before .if1 .left
+    (c .before .before .before .before .before .add2 .ensures ∙ e))) (sym (c .before .before .before .branch-operand .ensures) ∙
+    c .before .enum-told3 .given .1))
 
 returns-5 : tie.Need-returns-5
-returns-5 c = let a = c .before .before .before .before .before .before .before .before .before .before .before .before .before .before .before .before .args in rw (c .before .before .before .before .before .add2 .ensures) (sym (loop-goes-on (a .machine) (now (a .memory)) (a .r .sp) (a .r .rp) _ _ _ (sym (c .before .before .before .before .before .before .before .before .before .before .before .before .before .before .fetch .ensures) ∙ c .before .before .before .before .before .before .before .before .before .before .before .before .got .given .1) (rw (c .before .before .before .before .before .before .before .before .before .before .add .ensures) at (sym (c .before .before .before .before .before .before .before .before .before .fetch2 .ensures) ∙ c .before .before .before .before .before .before .before .got2 .given .1)) _ _ (ne-eqb _ _ (λ e. c .before .before .before .before .if1 .left (c .before .before .before .before .before .add2 .ensures ∙ e))) (sym (c .before .before .before .branch-operand .ensures) ∙ c .before .got3 .given .1)))
+returns-5 c =
+    let a = c .before .before .before .before .before .before .before .before .before .before .before .before .before .before .before .before .args in rw
+    (c .before .before .before .before .before .add2 .ensures) (sym (loop-goes-on (a .machine) (now (a .memory)) (a .r .sp) (a .r .rp) _ _ _ (sym
+    (c .before .before .before .before .before .before .before .before .before .before .before .before .before .before .fetch .ensures) ∙
+    c .before .before .before .before .before .before .before .before .before .before .before .before .got .given .1) (rw
+    (c .before .before .before .before .before .before .before .before .before .before .add .ensures) at (sym
+    (c .before .before .before .before .before .before .before .before .before .fetch2 .ensures) ∙
+    c .before .before .before .before .before .before .before .got2 .given .1)) _ _ (ne-eqb _ _ (λ e. c .before .before .before .before .if1 .left
+    (c .before .before .before .before .before .add2 .ensures ∙ e))) (sym (c .before .before .before .branch-operand .ensures) ∙ c .before .got3 .given .1)))
 
 pub step-loop-spec : {M : Type 1} → statement M
 step-loop-spec =

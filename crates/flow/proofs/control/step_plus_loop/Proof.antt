@@ -38,7 +38,13 @@ fail-maybe-requires-2 c κs = (_, c .enum-told2 .given .1)
 
 returns-2 : tie.Need-returns-2
 unfolding taking.takingOf
-returns-2 c = simp (sym (c .before .before .before .before .before .before .before .fetch .ensures) ∙ c .before .before .before .before .before .got .given .1, sym (c .before .before .before .fetch2 .ensures) ∙ c .before .enum-told2 .given .1) (c .fail-maybe2 .ensures ∙ ap plain.failed (c .before .enum-told2 .given .1))
+returns-2 c =
+    simp (
+      sym (c .before .before .before .before .before .before .before .fetch .ensures) ∙ c .before .before .before .before .before .got .given .1,
+      sym
+          (c .before .before .before .fetch2 .ensures) ∙ c .before .enum-told2 .given .1,
+    ) (c .fail-maybe2 .ensures ∙ ap plain.failed
+    (c .before .enum-told2 .given .1))
 
 add-requires : tie.Need-add-requires
 add-requires c κs = search needs
@@ -57,7 +63,16 @@ fail-maybe-requires-3 c κs = (_, c .enum-told3 .given .1)
 
 returns-3 : tie.Need-returns-3
 unfolding taking.takingOf
-returns-3 c = simp (sym (c .before .before .before .before .before .before .before .before .before .before .before .before .fetch .ensures) ∙ c .before .before .before .before .before .before .before .before .before .before .got .given .1, sym (c .before .before .before .before .before .before .before .before .fetch2 .ensures) ∙ c .before .before .before .before .before .before .got2 .given .1, rw (c .before .before .before .before .add .ensures) at (sym (c .before .before .before .fetch3 .ensures) ∙ c .before .enum-told3 .given .1)) (c .fail-maybe3 .ensures ∙ ap plain.failed (c .before .enum-told3 .given .1))
+returns-3 c =
+    simp (
+      sym (c .before .before .before .before .before .before .before .before .before .before .before .before .fetch .ensures) ∙
+          c .before .before .before .before .before .before .before .before .before .before .got .given .1,
+      sym
+          (c .before .before .before .before .before .before .before .before .fetch2 .ensures) ∙ c .before .before .before .before .before .before .got2 .given .1,
+      rw
+          (c .before .before .before .before .add .ensures) at (sym (c .before .before .before .fetch3 .ensures) ∙ c .before .enum-told3 .given .1),
+    )
+    (c .fail-maybe3 .ensures ∙ ap plain.failed (c .before .enum-told3 .given .1))
 
 add-requires-2 : tie.Need-add-requires-2
 add-requires-2 c κs = search needs
@@ -75,7 +90,20 @@ write-nothing-requires : tie.Need-write-nothing-requires
 write-nothing-requires c κs = search needs
 
 returns-4 : tie.Need-returns-4
-returns-4 c = let a = c .before .before .before .before .before .before .before .before .before .before .before .before .before .before .before .before .before .before .before .before .args in c .write-nothing .ensures ∙ ap₂ plain.moved (c .before .before .add3 .ensures) (c .before .add4 .ensures) ∙ sym (plus-loop-ends (a .machine) (now (a .memory)) (a .r .sp) (a .r .rp) _ _ _ (sym (c .before .before .before .before .before .before .before .before .before .before .before .before .before .before .fetch2 .ensures) ∙ c .before .before .before .before .before .before .before .before .before .before .before .before .got2 .given .1) (rw (c .before .before .before .before .before .before .before .before .before .before .add .ensures) at (sym (c .before .before .before .before .before .before .before .before .before .fetch3 .ensures) ∙ c .before .before .before .before .before .before .before .got3 .given .1)) _ (sym (c .before .before .before .before .before .before .before .before .before .before .before .before .before .before .before .before .before .before .fetch .ensures) ∙ c .before .before .before .before .before .before .before .before .before .before .before .before .before .before .before .before .got .given .1) _ (rw (c .before .before .before .before .before .add2 .ensures) at (sym (c .before .before .before .before .is-crossed .ensures) ∙ c .before .before .before .if1 .taken)))
+returns-4 c =
+    let a =
+    c .before .before .before .before .before .before .before .before .before .before .before .before .before .before .before .before .before .before .before .before .args
+    in c .write-nothing .ensures ∙ ap₂ plain.moved (c .before .before .add3 .ensures) (c .before .add4 .ensures) ∙ sym (plus-loop-ends (a .machine) (now
+    (a .memory)) (a .r .sp) (a .r .rp) _ _ _ (sym
+    (c .before .before .before .before .before .before .before .before .before .before .before .before .before .before .fetch2 .ensures) ∙
+    c .before .before .before .before .before .before .before .before .before .before .before .before .got2 .given .1) (rw
+    (c .before .before .before .before .before .before .before .before .before .before .add .ensures) at (sym
+    (c .before .before .before .before .before .before .before .before .before .fetch3 .ensures) ∙
+    c .before .before .before .before .before .before .before .got3 .given .1)) _ (sym
+    (c .before .before .before .before .before .before .before .before .before .before .before .before .before .before .before .before .before .before .fetch .ensures)
+    ∙ c .before .before .before .before .before .before .before .before .before .before .before .before .before .before .before .before .got .given .1) _ (rw
+    (c .before .before .before .before .before .add2 .ensures) at (sym (c .before .before .before .before .is-crossed .ensures) ∙
+    c .before .before .before .if1 .taken)))
 
 branch-operand-requires : tie.Need-branch-operand-requires
 branch-operand-requires c κs = search needs
@@ -90,13 +118,40 @@ fail-maybe-requires-4 : tie.Need-fail-maybe-requires-4
 fail-maybe-requires-4 c κs = (_, c .enum-told4 .given .1)
 
 returns-5 : tie.Need-returns-5
-returns-5 c = let a = c .before .before .before .before .before .before .before .before .before .before .before .before .before .before .before .before .before .before .before .before .before .args in c .fail-maybe4 .ensures ∙ ap plain.failed (c .before .enum-told4 .given .1) ∙ sym (plus-loop-fails (a .machine) (now (a .memory)) (a .r .sp) (a .r .rp) _ _ _ (sym (c .before .before .before .before .before .before .before .before .before .before .before .before .before .before .before .fetch2 .ensures) ∙ c .before .before .before .before .before .before .before .before .before .before .before .before .before .got2 .given .1) (rw (c .before .before .before .before .before .before .before .before .before .before .before .add .ensures) at (sym (c .before .before .before .before .before .before .before .before .before .before .fetch3 .ensures) ∙ c .before .before .before .before .before .before .before .before .got3 .given .1)) _ (sym (c .before .before .before .before .before .before .before .before .before .before .before .before .before .before .before .before .before .before .before .fetch .ensures) ∙ c .before .before .before .before .before .before .before .before .before .before .before .before .before .before .before .before .before .got .given .1) _ _ (rw (c .before .before .before .before .before .before .add2 .ensures) at (sym (c .before .before .before .before .before .is-crossed .ensures) ∙ c .before .before .before .before .if1 .left)) (sym (c .before .before .before .branch-operand .ensures) ∙ c .before .enum-told4 .given .1))
+returns-5 c =
+    let a =
+    c .before .before .before .before .before .before .before .before .before .before .before .before .before .before .before .before .before .before .before .before .before .args
+    in c .fail-maybe4 .ensures ∙ ap plain.failed (c .before .enum-told4 .given .1) ∙ sym (plus-loop-fails (a .machine) (now (a .memory)) (a .r .sp) (a .r .rp) _
+    _ _ (sym (c .before .before .before .before .before .before .before .before .before .before .before .before .before .before .before .fetch2 .ensures) ∙
+    c .before .before .before .before .before .before .before .before .before .before .before .before .before .got2 .given .1) (rw
+    (c .before .before .before .before .before .before .before .before .before .before .before .add .ensures) at (sym
+    (c .before .before .before .before .before .before .before .before .before .before .fetch3 .ensures) ∙
+    c .before .before .before .before .before .before .before .before .got3 .given .1)) _ (sym
+    (c .before .before .before .before .before .before .before .before .before .before .before .before .before .before .before .before .before .before .before .fetch .ensures)
+    ∙ c .before .before .before .before .before .before .before .before .before .before .before .before .before .before .before .before .before .got .given .1)
+    _ _ (rw (c .before .before .before .before .before .before .add2 .ensures) at (sym (c .before .before .before .before .before .is-crossed .ensures) ∙
+    c .before .before .before .before .if1 .left)) (sym (c .before .before .before .branch-operand .ensures) ∙ c .before .enum-told4 .given .1))
 
 add-requires-5 : tie.Need-add-requires-5
 add-requires-5 c κs = search needs
 
 returns-6 : tie.Need-returns-6
-returns-6 c = let a = c .before .before .before .before .before .before .before .before .before .before .before .before .before .before .before .before .before .before .before .before .before .before .args in rw (c .before .before .before .before .before .before .before .add2 .ensures, c .add5 .ensures) (sym (plus-loop-goes-on (a .machine) (now (a .memory)) (a .r .sp) (a .r .rp) _ _ _ (sym (c .before .before .before .before .before .before .before .before .before .before .before .before .before .before .before .before .fetch2 .ensures) ∙ c .before .before .before .before .before .before .before .before .before .before .before .before .before .before .got2 .given .1) (rw (c .before .before .before .before .before .before .before .before .before .before .before .before .add .ensures) at (sym (c .before .before .before .before .before .before .before .before .before .before .before .fetch3 .ensures) ∙ c .before .before .before .before .before .before .before .before .before .got3 .given .1)) _ (sym (c .before .before .before .before .before .before .before .before .before .before .before .before .before .before .before .before .before .before .before .before .fetch .ensures) ∙ c .before .before .before .before .before .before .before .before .before .before .before .before .before .before .before .before .before .before .got .given .1) _ _ (rw (c .before .before .before .before .before .before .before .add2 .ensures) at (sym (c .before .before .before .before .before .before .is-crossed .ensures) ∙ c .before .before .before .before .before .if1 .left)) (sym (c .before .before .before .before .branch-operand .ensures) ∙ c .before .before .got4 .given .1)))
+returns-6 c =
+    let a =
+    c .before .before .before .before .before .before .before .before .before .before .before .before .before .before .before .before .before .before .before .before .before .before .args
+    in rw (c .before .before .before .before .before .before .before .add2 .ensures, c .add5 .ensures) (sym (plus-loop-goes-on (a .machine) (now (a .memory))
+    (a .r .sp) (a .r .rp) _ _ _ (sym
+    (c .before .before .before .before .before .before .before .before .before .before .before .before .before .before .before .before .fetch2 .ensures) ∙
+    c .before .before .before .before .before .before .before .before .before .before .before .before .before .before .got2 .given .1) (rw
+    (c .before .before .before .before .before .before .before .before .before .before .before .before .add .ensures) at (sym
+    (c .before .before .before .before .before .before .before .before .before .before .before .fetch3 .ensures) ∙
+    c .before .before .before .before .before .before .before .before .before .got3 .given .1)) _ (sym
+    (c .before .before .before .before .before .before .before .before .before .before .before .before .before .before .before .before .before .before .before .before .fetch .ensures)
+    ∙
+    c .before .before .before .before .before .before .before .before .before .before .before .before .before .before .before .before .before .before .got .given .1)
+    _ _ (rw (c .before .before .before .before .before .before .before .add2 .ensures) at (sym
+    (c .before .before .before .before .before .before .is-crossed .ensures) ∙ c .before .before .before .before .before .if1 .left)) (sym
+    (c .before .before .before .before .branch-operand .ensures) ∙ c .before .before .got4 .given .1)))
 
 pub step-plus-loop-spec : {M : Type 1} → statement M
 step-plus-loop-spec =

@@ -38,14 +38,27 @@ fail-none-requires-2 c κs = (_, c .enum-told4 .given .1)
 
 returns-2 : tie.Need-returns-2
 unfolding plain.plainOf
-returns-2 c = simp (sym (c .before .before .before .before .before .before .before .fetch .ensures) ∙ c .before .before .before .before .before .enum-told .given .1, rw (c .before .before .before .before .add .ensures) at (sym (c .before .before .before .fetch2 .ensures) ∙ c .before .enum-told4 .given .1)) (c .fail-none2 .ensures ∙ ap plain.failed (c .before .enum-told4 .given .1))
+returns-2 c =
+    simp (
+      sym (c .before .before .before .before .before .before .before .fetch .ensures) ∙ c .before .before .before .before .before .enum-told .given .1,
+      rw
+          (c .before .before .before .before .add .ensures) at (sym (c .before .before .before .fetch2 .ensures) ∙ c .before .enum-told4 .given .1),
+    )
+    (c .fail-none2 .ensures ∙ ap plain.failed (c .before .enum-told4 .given .1))
 
 add-requires-2 : tie.Need-add-requires-2
 add-requires-2 c κs = search needs
 
 returns-3 : tie.Need-returns-3
 unfolding plain.plainOf
-returns-3 c = simp (sym (c .before .before .before .before .before .before .before .fetch .ensures) ∙ c .before .before .before .before .before .enum-told .given .1, rw (c .before .before .before .before .add .ensures) at (sym (c .before .before .before .fetch2 .ensures) ∙ c .before .enum-told3 .given .1), c .before .before .before .before .add .ensures, c .add2 .ensures)
+returns-3 c =
+    simp (
+      sym (c .before .before .before .before .before .before .before .fetch .ensures) ∙ c .before .before .before .before .before .enum-told .given .1,
+      rw
+          (c .before .before .before .before .add .ensures) at (sym (c .before .before .before .fetch2 .ensures) ∙ c .before .enum-told3 .given .1),
+      c .before .before .before .before .add .ensures,
+      c .add2 .ensures,
+    )
 
 pub unloop-spec : {M : Type 1} → statement M
 unloop-spec =

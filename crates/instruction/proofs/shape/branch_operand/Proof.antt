@@ -25,7 +25,9 @@ returns : tie.Need-returns
 returns c = rw (c .before .enum-told .given .1) (c .fetch .ensures)
 
 returns-2 : tie.Need-returns-2
-returns-2 c = rw (c .before .before .enum-told2 .given .1) (ap Cell (c .add .ensures ∙ branch-target (c .before .before .before .before .before .args .r .ep) (c .before .before .before .before .before .args .r .a)))
+returns-2 c =
+    rw (c .before .before .enum-told2 .given .1) (ap Cell (c .add .ensures ∙ branch-target (c .before .before .before .before .before .args .r .ep)
+    (c .before .before .before .before .before .args .r .a)))
 
 pub branch-operand-spec : {M : Type 1} → statement M
 branch-operand-spec =

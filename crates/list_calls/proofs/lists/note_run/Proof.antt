@@ -28,7 +28,13 @@ same-length-2 : tie.Need-same-length-2
 same-length-2 c = search needs
 
 returns : tie.Need-returns
-returns c = rw (c .before .before .before .before .before .before .before .before .write-two .ensures, c .before .before .before .write-five .ensures, c .before .before .before .before .ending-reason .ensures, c .ending-number .ensures)
+returns c =
+    rw (
+      c .before .before .before .before .before .before .before .before .write-two .ensures,
+      c .before .before .before .write-five .ensures,
+      c .before .before .before .before .ending-reason .ensures,
+      c .ending-number .ensures,
+    )
 
 pub note-run-spec : {M : Type 1} → statement M
 note-run-spec =

@@ -25,7 +25,9 @@ fail-maybe-requires c κs = (_, c .enum-told .given .1)
 
 -- src/looping.rt:84:9
 returns : tie.Need-returns
-returns c = let a = c .before .before .before .before .before .args in plus-loop-fails (a .machine) (now (a .memory)) (a .r) _ _ (sym (c .before .before .before .fetch .ensures) ∙ c .before .enum-told .given .1) (c .fail-maybe .ensures ∙ ap plain.failed (c .before .enum-told .given .1))
+returns c =
+    let a = c .before .before .before .before .before .args in plus-loop-fails (a .machine) (now (a .memory)) (a .r) _ _ (sym
+    (c .before .before .before .fetch .ensures) ∙ c .before .enum-told .given .1) (c .fail-maybe .ensures ∙ ap plain.failed (c .before .enum-told .given .1))
 
 -- src/looping.rt:86:24
 mul-add : tie.Need-mul-add
@@ -45,7 +47,10 @@ propose-step-requires c κs = search needs
 
 -- src/looping.rt:78:1
 returns-2 : tie.Need-returns-2
-returns-2 c = let a = c .before .before .before .before .before .before .before .before .before .args in plus-loop-is (a .machine) (now (a .memory)) (a .r) _ _ _ _ (c .before .before .add .ensures) (c .before .add2 .ensures) (sym (c .before .before .before .before .before .before .before .fetch .ensures) ∙ c .before .before .before .before .before .got .given .1) (c .propose-step .ensures)
+returns-2 c =
+    let a = c .before .before .before .before .before .before .before .before .before .args in plus-loop-is (a .machine) (now (a .memory)) (a .r) _ _ _ _
+    (c .before .before .add .ensures) (c .before .add2 .ensures) (sym (c .before .before .before .before .before .before .before .fetch .ensures) ∙
+    c .before .before .before .before .before .got .given .1) (c .propose-step .ensures)
 
 pub propose-plus-loop-spec : {M : Type 1} → statement M
 propose-plus-loop-spec =

@@ -25,7 +25,10 @@ fail-maybe-requires c κs = (_, c .enum-told .given .1)
 
 -- src/looping.rt:47:9
 returns : tie.Need-returns
-returns c = let a = c .before .before .before .before .before .args in c .fail-maybe .ensures ∙ ap plain.failed (c .before .enum-told .given .1) ∙ sym (looped-fails (a .machine) (now (a .memory)) (a .sp) (a .rp) (a .to) (a .n) (a .plus) _ (sym (c .before .before .before .fetch .ensures) ∙ c .before .enum-told .given .1))
+returns c =
+    let a = c .before .before .before .before .before .args in c .fail-maybe .ensures ∙ ap plain.failed (c .before .enum-told .given .1) ∙ sym (looped-fails
+    (a .machine) (now (a .memory)) (a .sp) (a .rp) (a .to) (a .n) (a .plus) _ (sym (c .before .before .before .fetch .ensures) ∙
+    c .before .enum-told .given .1))
 
 -- src/looping.rt:49:67
 add-requires : tie.Need-add-requires
@@ -49,7 +52,11 @@ fail-maybe-requires-2 c κs = (_, c .enum-told2 .given .1)
 
 -- src/looping.rt:51:9
 returns-2 : tie.Need-returns-2
-returns-2 c = let a = c .before .before .before .before .before .before .before .before .before .before .args in c .fail-maybe2 .ensures ∙ ap plain.failed (c .before .enum-told2 .given .1) ∙ sym (looped-fails-too (a .machine) (now (a .memory)) (a .sp) (a .rp) (a .to) (a .n) (a .plus) _ (sym (c .before .before .before .before .before .before .before .before .fetch .ensures) ∙ c .before .before .before .before .before .before .got .given .1) _ (rw (c .before .before .before .before .add .ensures) at (sym (c .before .before .before .fetch2 .ensures) ∙ c .before .enum-told2 .given .1)))
+returns-2 c =
+    let a = c .before .before .before .before .before .before .before .before .before .before .args in c .fail-maybe2 .ensures ∙ ap plain.failed
+    (c .before .enum-told2 .given .1) ∙ sym (looped-fails-too (a .machine) (now (a .memory)) (a .sp) (a .rp) (a .to) (a .n) (a .plus) _ (sym
+    (c .before .before .before .before .before .before .before .before .fetch .ensures) ∙ c .before .before .before .before .before .before .got .given .1) _
+    (rw (c .before .before .before .before .add .ensures) at (sym (c .before .before .before .fetch2 .ensures) ∙ c .before .enum-told2 .given .1)))
 
 -- src/looping.rt:53:9
 add-requires-2 : tie.Need-add-requires-2
@@ -69,11 +76,24 @@ write-nothing-requires c κs = search needs
 
 -- src/looping.rt:55:9
 returns-3 : tie.Need-returns-3
-returns-3 c = let a = c .before .before .before .before .before .before .before .before .before .before .before .before .before .before .before .args in c .write-nothing .ensures ∙ ap (plain.moved (a .sp)) (c .before .add3 .ensures) ∙ sym (looped-ends (a .machine) (now (a .memory)) (a .sp) (a .rp) (a .to) (a .n) (a .plus) _ (sym (c .before .before .before .before .before .before .before .before .before .before .before .before .before .fetch .ensures) ∙ c .before .before .before .before .before .before .before .before .before .before .before .got .given .1) _ (rw (c .before .before .before .before .before .before .before .before .before .add .ensures) at (sym (c .before .before .before .before .before .before .before .before .fetch2 .ensures) ∙ c .before .before .before .before .before .before .got2 .given .1)) (rw (c .before .before .before .before .add2 .ensures) at (sym (c .before .before .before .is-over .ensures) ∙ c .before .before .if1 .taken)))
+returns-3 c =
+    let a = c .before .before .before .before .before .before .before .before .before .before .before .before .before .before .before .args in
+    c .write-nothing .ensures ∙ ap (plain.moved (a .sp)) (c .before .add3 .ensures) ∙ sym (looped-ends (a .machine) (now (a .memory)) (a .sp) (a .rp) (a .to)
+    (a .n) (a .plus) _ (sym (c .before .before .before .before .before .before .before .before .before .before .before .before .before .fetch .ensures) ∙
+    c .before .before .before .before .before .before .before .before .before .before .before .got .given .1) _ (rw
+    (c .before .before .before .before .before .before .before .before .before .add .ensures) at (sym
+    (c .before .before .before .before .before .before .before .before .fetch2 .ensures) ∙ c .before .before .before .before .before .before .got2 .given .1))
+    (rw (c .before .before .before .before .add2 .ensures) at (sym (c .before .before .before .is-over .ensures) ∙ c .before .before .if1 .taken)))
 
 -- src/looping.rt:33:1
 returns-4 : tie.Need-returns-4
-returns-4 c = let a = c .before .before .before .before .before .before .before .before .before .before .before .before .before .args in rw (c .before .before .add2 .ensures) (sym (looped-goes (a .machine) (now (a .memory)) (a .sp) (a .rp) (a .to) (a .n) (a .plus) _ (sym (c .before .before .before .before .before .before .before .before .before .before .before .fetch .ensures) ∙ c .before .before .before .before .before .before .before .before .before .got .given .1) _ (rw (c .before .before .before .before .before .before .before .add .ensures) at (sym (c .before .before .before .before .before .before .fetch2 .ensures) ∙ c .before .before .before .before .got2 .given .1)) (rw (c .before .before .add2 .ensures) at (sym (c .before .is-over .ensures) ∙ c .if1 .left))))
+returns-4 c =
+    let a = c .before .before .before .before .before .before .before .before .before .before .before .before .before .args in rw
+    (c .before .before .add2 .ensures) (sym (looped-goes (a .machine) (now (a .memory)) (a .sp) (a .rp) (a .to) (a .n) (a .plus) _ (sym
+    (c .before .before .before .before .before .before .before .before .before .before .before .fetch .ensures) ∙
+    c .before .before .before .before .before .before .before .before .before .got .given .1) _ (rw
+    (c .before .before .before .before .before .before .before .add .ensures) at (sym (c .before .before .before .before .before .before .fetch2 .ensures) ∙
+    c .before .before .before .before .got2 .given .1)) (rw (c .before .before .add2 .ensures) at (sym (c .before .is-over .ensures) ∙ c .if1 .left))))
 
 pub propose-step-spec : {M : Type 1} → statement M
 propose-step-spec =

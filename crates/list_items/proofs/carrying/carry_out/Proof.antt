@@ -13,19 +13,59 @@ shape-of-requires : tie.Need-shape-of-requires
 shape-of-requires c κs = search needs
 
 intent-of-requires : tie.Need-intent-of-requires
-intent-of-requires c κs = let args = c .before .before .before .before .before .before .before .before .args in let pre = c .before .before .before .before .before .before .before .before .pre in (omega (arith, pre .0 .least), (c .before .shape-of .ensures .fits, (is-near (args .kinds .now) (args .operands .now) (args .table .now) (args .image) (pre .1 .0), (image-near (args .kinds .now) (args .operands .now) (args .table .now) (args .image) (pre .1 .0), in-rows (args .kinds .now) (args .operands .now) (args .table .now) (args .image) (pre .1 .0) (args .s .item .0) (pre .1 .1) .0))))
+intent-of-requires c κs =
+    let args = c .before .before .before .before .before .before .before .before .args in let pre =
+    c .before .before .before .before .before .before .before .before .pre in (
+      omega (arith, pre .0 .least),
+      (
+        c .before .shape-of .ensures .fits,
+        (
+          is-near
+              (args .kinds .now) (args .operands .now) (args .table .now) (args .image) (pre .1 .0),
+          (
+            image-near (args .kinds .now) (args .operands .now)
+                (args .table .now) (args .image) (pre .1 .0),
+            in-rows (args .kinds .now) (args .operands .now) (args .table .now) (args .image) (pre .1 .0)
+                (args .s .item .0) (pre .1 .1) .0,
+          ),
+        ),
+      ),
+    )
 
 registers-at-requires : tie.Need-registers-at-requires
-registers-at-requires c κs = let args = c .before .before .before .before .before .before .before .before .before .args in let pre = c .before .before .before .before .before .before .before .before .before .pre in (in-rows (args .kinds .now) (args .operands .now) (args .table .now) (args .image) (pre .1 .0) (args .s .item .0) (pre .1 .1), next-near (args .kinds .now) (args .operands .now) (args .table .now) (args .image) (pre .1 .0) (args .s .item .0) (pre .1 .1))
+registers-at-requires c κs =
+    let args = c .before .before .before .before .before .before .before .before .before .args in let pre =
+    c .before .before .before .before .before .before .before .before .before .pre in (
+      in-rows (args .kinds .now) (args .operands .now) (args .table .now)
+          (args .image) (pre .1 .0) (args .s .item .0) (pre .1 .1),
+      next-near (args .kinds .now) (args .operands .now) (args .table .now) (args .image) (pre .1 .0)
+          (args .s .item .0) (pre .1 .1),
+    )
 
 perform-requires : tie.Need-perform-requires
-perform-requires c κs = let args = c .before .before .before .before .before .before .before .before .before .before .before .args in let pre = c .before .before .before .before .before .before .before .before .before .before .before .pre in (pre .0 .whole, (omega (arith, pre .0 .least), c .before .before .before .before .shape-of .ensures .fits))
+perform-requires c κs =
+    let args = c .before .before .before .before .before .before .before .before .before .before .before .args in let pre =
+    c .before .before .before .before .before .before .before .before .before .before .before .pre in (
+      pre .0 .whole,
+      (
+        omega (arith, pre .0 .least),
+        c .before .before .before .before .shape-of .ensures .fits,
+      ),
+    )
 
 same-length : tie.Need-same-length
 same-length c = search needs
 
 returns : tie.Need-returns
-returns c = let args = c .before .before .before .before .before .before .before .before .before .before .before .before .before .before .args in let pre = c .before .before .before .before .before .before .before .before .before .before .before .before .before .before .pre in c .before .before .perform .ensures ∙ ap (leaves (now (args .memory))) (carry-is (args .kinds .now) (args .operands .now) (args .table .now) (args .image) (pre .1 .0) (args .machine) (now (args .memory)) (args .s) (pre .1 .1) (pre .0) (c .before .before .before .before .before .before .before .shape-of .result) (c .before .before .before .before .before .before .before .shape-of .ensures .effect) (c .before .before .before .before .before .intent-of .result) (c .before .before .before .before .before .intent-of .ensures) (c .before .before .before .before .registers-at .result) (c .before .before .before .before .registers-at .ensures))
+returns c =
+    let args = c .before .before .before .before .before .before .before .before .before .before .before .before .before .before .args in let pre =
+    c .before .before .before .before .before .before .before .before .before .before .before .before .before .before .pre in
+    c .before .before .perform .ensures ∙ ap (leaves (now (args .memory))) (carry-is (args .kinds .now) (args .operands .now) (args .table .now) (args .image)
+    (pre .1 .0) (args .machine) (now (args .memory)) (args .s) (pre .1 .1) (pre .0)
+    (c .before .before .before .before .before .before .before .shape-of .result)
+    (c .before .before .before .before .before .before .before .shape-of .ensures .effect) (c .before .before .before .before .before .intent-of .result)
+    (c .before .before .before .before .before .intent-of .ensures) (c .before .before .before .before .registers-at .result)
+    (c .before .before .before .before .registers-at .ensures))
 
 pub carry-out-spec : {M : Type 1} → statement M
 carry-out-spec =

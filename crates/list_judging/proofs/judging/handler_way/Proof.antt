@@ -25,7 +25,9 @@ to-entry-requires : tie.Need-to-entry-requires
 to-entry-requires c κs = search needs
 
 returns-2 : tie.Need-returns-2
-returns-2 c = simp (sym (c .before .before .before .before .check-place .ensures) ∙ c .before .before .enum-told .given .1) (c .to-entry .ensures ∙ ap (ways.toEntry NoHandler) (c .before .entry-at .ensures))
+returns-2 c =
+    simp (sym (c .before .before .before .before .check-place .ensures) ∙ c .before .before .enum-told .given .1) (c .to-entry .ensures ∙ ap (ways.toEntry
+    NoHandler) (c .before .entry-at .ensures))
 
 pub handler-way-spec : {M : Type 1} → statement M
 handler-way-spec =

@@ -32,8 +32,10 @@ returns c =
     let args = c .before .before .before .before .before .before .before .before .before .before .args in
     let table = args .table .now in
     means-nothing (args .machine) (now (args .memory)) (entryBelow table (args .image .base .0) (rows table)) (args .image .base .0) (args .image .cells .0) (rows table)
-    (args .s .item .0) (immediateIn table (args .s .item .0)) (args .s .sp) (args .shape) (c .before .before .before .before .before .check-shape .result) (c .before .before .before .before .before .check-shape .ensures)
-    (c .before .before .before .enum-told .given .1) (c .before .before .address-at .result) (c .before .before .address-at .ensures) (c .before .writes .result) (c .before .writes .ensures) (c .if1 .taken)
+    (args .s .item .0) (immediateIn table (args .s .item .0)) (args .s .sp) (args .shape) (c .before .before .before .before .before .check-shape .result)
+    (c .before .before .before .before .before .check-shape .ensures)
+    (c .before .before .before .enum-told .given .1) (c .before .before .address-at .result) (c .before .before .address-at .ensures)
+    (c .before .writes .result) (c .before .writes .ensures) (c .if1 .taken)
 
 then-of-requires : tie.Need-then-of-requires
 then-of-requires c κs = search needs
@@ -46,7 +48,8 @@ returns-2 c =
     let args = c .before .before .before .before .before .before .before .before .before .args in
     let table = args .table .now in
     means-throw (args .machine) (now (args .memory)) (entryBelow table (args .image .base .0) (rows table)) (args .image .base .0) (args .image .cells .0) (rows table)
-    (args .s .item .0) (immediateIn table (args .s .item .0)) (args .s .sp) (args .shape) (c .before .before .before .before .check-shape .result) (c .before .before .before .before .check-shape .ensures)
+    (args .s .item .0) (immediateIn table (args .s .item .0)) (args .s .sp) (args .shape) (c .before .before .before .before .check-shape .result)
+    (c .before .before .before .before .check-shape .ensures)
     _ (c .before .before .checked .given .1) (c .throw-way .result) (c .throw-way .ensures)
 
 returns-3 : tie.Need-returns-3
@@ -54,8 +57,12 @@ returns-3 c =
     let args = c .before .before .before .before .before .before .before .before .before .before .before .before .args in
     let table = args .table .now in
     means-then (args .machine) (now (args .memory)) (entryBelow table (args .image .base .0) (rows table)) (args .image .base .0) (args .image .cells .0) (rows table)
-    (args .s .item .0) (immediateIn table (args .s .item .0)) (args .s .sp) (args .shape) (c .before .before .before .before .before .before .before .check-shape .result) (c .before .before .before .before .before .before .before .check-shape .ensures)
-    (c .before .before .before .before .before .enum-told .given .1) (c .before .before .before .before .address-at .result) (c .before .before .before .before .address-at .ensures) (c .before .before .before .writes .result) (c .before .before .before .writes .ensures) (c .before .before .if1 .left) (c .intent-then .result) (c .before .then-of .result) (c .intent-then .ensures) (c .before .then-of .ensures)
+    (args .s .item .0) (immediateIn table (args .s .item .0)) (args .s .sp) (args .shape)
+    (c .before .before .before .before .before .before .before .check-shape .result)
+    (c .before .before .before .before .before .before .before .check-shape .ensures)
+    (c .before .before .before .before .before .enum-told .given .1) (c .before .before .before .before .address-at .result)
+    (c .before .before .before .before .address-at .ensures) (c .before .before .before .writes .result) (c .before .before .before .writes .ensures)
+    (c .before .before .if1 .left) (c .intent-then .result) (c .before .then-of .result) (c .intent-then .ensures) (c .before .then-of .ensures)
 
 pub intent-of-spec : {M : Type 1} → statement M
 intent-of-spec =

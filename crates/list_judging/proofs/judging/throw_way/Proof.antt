@@ -37,8 +37,10 @@ returns-2 c =
     let args = c .before .before .before .before .before .before .before .before .before .before .before .args in
     let table = args .table .now in
     push-meets (args .machine) (now (args .memory)) (entryBelow table (args .image .base .0) (rows table)) (args .image .base .0) (args .image .cells .0) (args .sp) (args .f)
-    (c .before .before .before .before .before .before .subtract .result) (c .before .before .before .before .before .before .subtract .ensures) (c .before .before .before .before .before .check-place .result) (c .before .before .before .before .before .check-place .ensures)
-    (c .before .before .before .enum-told .given .1) (c .before .before .address-at .result) (c .before .before .address-at .ensures) (c .before .meets .result) (c .before .meets .ensures) (c .if1 .taken)
+    (c .before .before .before .before .before .before .subtract .result) (c .before .before .before .before .before .before .subtract .ensures)
+    (c .before .before .before .before .before .check-place .result) (c .before .before .before .before .before .check-place .ensures)
+    (c .before .before .before .enum-told .given .1) (c .before .before .address-at .result) (c .before .before .address-at .ensures) (c .before .meets .result)
+    (c .before .meets .ensures) (c .if1 .taken)
 
 fault-code-requires : tie.Need-fault-code-requires
 fault-code-requires c κs = search needs
@@ -51,9 +53,16 @@ returns-3 c =
     let args = c .before .before .before .before .before .before .before .before .before .before .before .before .before .before .before .before .args in
     let table = args .table .now in
     push-there (args .machine) (now (args .memory)) (entryBelow table (args .image .base .0) (rows table)) (args .image .base .0) (args .image .cells .0) (args .sp) (args .f)
-    (c .before .before .before .before .before .before .before .before .before .before .before .subtract .result) (c .before .before .before .before .before .before .before .before .before .before .before .subtract .ensures) (c .before .before .before .before .before .before .before .before .before .before .check-place .result) (c .before .before .before .before .before .before .before .before .before .before .check-place .ensures)
-    (c .before .before .before .before .before .before .before .before .enum-told .given .1) (c .before .before .before .before .before .before .before .address-at .result) (c .before .before .before .before .before .before .before .address-at .ensures) (c .before .before .before .before .before .before .meets .result) (c .before .before .before .before .before .before .meets .ensures)
-    (c .before .before .before .before .before .if1 .left) (c .handler-way .result) (c .before .fault-code .result) (c .handler-way .ensures) (c .before .before .if2 .taken) (c .before .fault-code .ensures)
+    (c .before .before .before .before .before .before .before .before .before .before .before .subtract .result)
+    (c .before .before .before .before .before .before .before .before .before .before .before .subtract .ensures)
+    (c .before .before .before .before .before .before .before .before .before .before .check-place .result)
+    (c .before .before .before .before .before .before .before .before .before .before .check-place .ensures)
+    (c .before .before .before .before .before .before .before .before .enum-told .given .1)
+    (c .before .before .before .before .before .before .before .address-at .result)
+    (c .before .before .before .before .before .before .before .address-at .ensures) (c .before .before .before .before .before .before .meets .result)
+    (c .before .before .before .before .before .before .meets .ensures)
+    (c .before .before .before .before .before .if1 .left) (c .handler-way .result) (c .before .fault-code .result) (c .handler-way .ensures)
+    (c .before .before .if2 .taken) (c .before .fault-code .ensures)
 
 load-requires : tie.Need-load-requires
 load-requires c κs = search needs
@@ -66,8 +75,14 @@ returns-4 c =
     let args = c .before .before .before .before .before .before .before .before .before .before .before .before .before .before .before .before .args in
     let table = args .table .now in
     push-elsewhere (args .machine) (now (args .memory)) (entryBelow table (args .image .base .0) (rows table)) (args .image .base .0) (args .image .cells .0) (args .sp) (args .f)
-    (c .before .before .before .before .before .before .before .before .before .before .before .subtract .result) (c .before .before .before .before .before .before .before .before .before .before .before .subtract .ensures) (c .before .before .before .before .before .before .before .before .before .before .check-place .result) (c .before .before .before .before .before .before .before .before .before .before .check-place .ensures)
-    (c .before .before .before .before .before .before .before .before .enum-told .given .1) (c .before .before .before .before .before .before .before .address-at .result) (c .before .before .before .before .before .before .before .address-at .ensures) (c .before .before .before .before .before .before .meets .result) (c .before .before .before .before .before .before .meets .ensures)
+    (c .before .before .before .before .before .before .before .before .before .before .before .subtract .result)
+    (c .before .before .before .before .before .before .before .before .before .before .before .subtract .ensures)
+    (c .before .before .before .before .before .before .before .before .before .before .check-place .result)
+    (c .before .before .before .before .before .before .before .before .before .before .check-place .ensures)
+    (c .before .before .before .before .before .before .before .before .enum-told .given .1)
+    (c .before .before .before .before .before .before .before .address-at .result)
+    (c .before .before .before .before .before .before .before .address-at .ensures) (c .before .before .before .before .before .before .meets .result)
+    (c .before .before .before .before .before .before .meets .ensures)
     (c .before .before .before .before .before .if1 .left) (c .handler-way2 .result) (c .before .load .result) (c .handler-way2 .ensures) (c .before .before .if2 .left) (c .before .load .ensures)
 
 pub throw-way-spec : {M : Type 1} → statement M

@@ -28,7 +28,10 @@ shared-slice-read-x : tie.Need-shared-slice-read-x
 shared-slice-read-x c = search needs
 
 behind-of-requires : tie.Need-behind-of-requires
-behind-of-requires c κs = let args = c .before .before .before .before .before .before .before .before .before .args in let pre = c .before .before .before .before .before .before .before .before .before .pre in in-rows (args .kinds .now) (args .operands .now) (args .table .now) (args .image) (pre .1 .0) (args .s .item .0) (pre .1 .1)
+behind-of-requires c κs =
+    let args = c .before .before .before .before .before .before .before .before .before .args in let pre =
+    c .before .before .before .before .before .before .before .before .before .pre in in-rows (args .kinds .now) (args .operands .now) (args .table .now)
+    (args .image) (pre .1 .0) (args .s .item .0) (pre .1 .1)
 
 class-of-requires : tie.Need-class-of-requires
 class-of-requires c κs = search needs
@@ -37,16 +40,33 @@ enum-told : tie.Need-enum-told
 enum-told c = search needs
 
 registers-at-requires : tie.Need-registers-at-requires
-registers-at-requires c κs = let args = c .before .before .before .before .before .before .before .before .before .before .before .before .before .args in let pre = c .before .before .before .before .before .before .before .before .before .before .before .before .before .pre in (in-rows (args .kinds .now) (args .operands .now) (args .table .now) (args .image) (pre .1 .0) (args .s .item .0) (pre .1 .1), next-near (args .kinds .now) (args .operands .now) (args .table .now) (args .image) (pre .1 .0) (args .s .item .0) (pre .1 .1))
+registers-at-requires c κs =
+    let args = c .before .before .before .before .before .before .before .before .before .before .before .before .before .args in let pre =
+    c .before .before .before .before .before .before .before .before .before .before .before .before .before .pre in (
+      in-rows (args .kinds .now)
+          (args .operands .now) (args .table .now) (args .image) (pre .1 .0) (args .s .item .0) (pre .1 .1),
+      next-near (args .kinds .now) (args .operands .now)
+          (args .table .now) (args .image) (pre .1 .0) (args .s .item .0) (pre .1 .1),
+    )
 
 propose-from-01-requires : tie.Need-propose-from-01-requires
-propose-from-01-requires c κs = let args = c .before .before .before .before .before .before .before .before .before .before .before .before .before .before .args in let pre = c .before .before .before .before .before .before .before .before .before .before .before .before .before .before .pre in (pre .0 .whole, (plain-some (getD (args .kinds .now) (args .s .item .0) 0) (sym (c .before .before .before .class-of .ensures) ∙ c .before .enum-told .given .1)))
+propose-from-01-requires c κs =
+    let args = c .before .before .before .before .before .before .before .before .before .before .before .before .before .before .args in let pre =
+    c .before .before .before .before .before .before .before .before .before .before .before .before .before .before .pre in (
+      pre .0 .whole,
+      (plain-some (getD
+          (args .kinds .now) (args .s .item .0) 0) (sym (c .before .before .before .class-of .ensures) ∙ c .before .enum-told .given .1)),
+    )
 
 enum-told-2 : tie.Need-enum-told-2
 enum-told-2 c = search needs
 
 address-at-requires : tie.Need-address-at-requires
-address-at-requires c κs = let args = c .before .before .before .before .before .before .before .before .before .before .before .before .before .args in let pre = c .before .before .before .before .before .before .before .before .before .before .before .before .before .pre in rw (c .before .before .before .behind-of .ensures) (behind-near (args .kinds .now) (args .operands .now) (args .table .now) (args .image) (pre .1 .0) (args .s .item .0) (pre .1 .1))
+address-at-requires c κs =
+    let args = c .before .before .before .before .before .before .before .before .before .before .before .before .before .args in let pre =
+    c .before .before .before .before .before .before .before .before .before .before .before .before .before .pre in rw
+    (c .before .before .before .behind-of .ensures) (behind-near (args .kinds .now) (args .operands .now) (args .table .now) (args .image) (pre .1 .0)
+    (args .s .item .0) (pre .1 .1))
 
 registers-for-requires : tie.Need-registers-for-requires
 registers-for-requires c κs = search needs
@@ -58,13 +78,22 @@ enum-told-3 : tie.Need-enum-told-3
 enum-told-3 c = search needs
 
 place-of-requires : tie.Need-place-of-requires
-place-of-requires c κs = let args = c .before .before .before .before .before .before .before .before .before .before .before .before .before .args in let pre = c .before .before .before .before .before .before .before .before .before .before .before .before .before .pre in in-rows (args .kinds .now) (args .operands .now) (args .table .now) (args .image) (pre .1 .0) (getD (args .operands .now) (args .s .item .0) 0) (target-in (args .kinds .now) (args .operands .now) (args .table .now) (args .image) (pre .1 .0) (args .s .item .0) (pre .1 .1) (sym (c .before .before .class-of .ensures) ∙ c .enum-told3 .given .1))
+place-of-requires c κs =
+    let args = c .before .before .before .before .before .before .before .before .before .before .before .before .before .args in let pre =
+    c .before .before .before .before .before .before .before .before .before .before .before .before .before .pre in in-rows (args .kinds .now)
+    (args .operands .now) (args .table .now) (args .image) (pre .1 .0) (getD (args .operands .now) (args .s .item .0) 0) (target-in (args .kinds .now)
+    (args .operands .now) (args .table .now) (args .image) (pre .1 .0) (args .s .item .0) (pre .1 .1) (sym (c .before .before .class-of .ensures) ∙
+    c .enum-told3 .given .1))
 
 distance-of-requires : tie.Need-distance-of-requires
 distance-of-requires c κs = search needs
 
 address-at-requires-2 : tie.Need-address-at-requires-2
-address-at-requires-2 c κs = let args = c .before .before .before .before .before .before .before .before .before .before .before .before .before .before .before .args in let pre = c .before .before .before .before .before .before .before .before .before .before .before .before .before .before .before .pre in rw (c .before .before .before .before .before .behind-of .ensures) (behind-near (args .kinds .now) (args .operands .now) (args .table .now) (args .image) (pre .1 .0) (args .s .item .0) (pre .1 .1))
+address-at-requires-2 c κs =
+    let args = c .before .before .before .before .before .before .before .before .before .before .before .before .before .before .before .args in let pre =
+    c .before .before .before .before .before .before .before .before .before .before .before .before .before .before .before .pre in rw
+    (c .before .before .before .before .before .behind-of .ensures) (behind-near (args .kinds .now) (args .operands .now) (args .table .now) (args .image)
+    (pre .1 .0) (args .s .item .0) (pre .1 .1))
 
 registers-for-requires-2 : tie.Need-registers-for-requires-2
 registers-for-requires-2 c κs = search needs
@@ -76,7 +105,14 @@ enum-told-4 : tie.Need-enum-told-4
 enum-told-4 c = search needs
 
 registers-at-requires-2 : tie.Need-registers-at-requires-2
-registers-at-requires-2 c κs = let args = c .before .before .before .before .before .before .before .before .before .before .before .before .before .args in let pre = c .before .before .before .before .before .before .before .before .before .before .before .before .before .pre in (in-rows (args .kinds .now) (args .operands .now) (args .table .now) (args .image) (pre .1 .0) (args .s .item .0) (pre .1 .1), next-near (args .kinds .now) (args .operands .now) (args .table .now) (args .image) (pre .1 .0) (args .s .item .0) (pre .1 .1))
+registers-at-requires-2 c κs =
+    let args = c .before .before .before .before .before .before .before .before .before .before .before .before .before .args in let pre =
+    c .before .before .before .before .before .before .before .before .before .before .before .before .before .pre in (
+      in-rows (args .kinds .now)
+          (args .operands .now) (args .table .now) (args .image) (pre .1 .0) (args .s .item .0) (pre .1 .1),
+      next-near (args .kinds .now) (args .operands .now)
+          (args .table .now) (args .image) (pre .1 .0) (args .s .item .0) (pre .1 .1),
+    )
 
 propose-from-01-requires-2 : tie.Need-propose-from-01-requires-2
 propose-from-01-requires-2 c κs = search needs
@@ -105,10 +141,16 @@ returns-3 c =
     asks-branch (args .kinds .now) (args .operands .now) (args .table .now) (args .image) (pre .1 .0) (args .machine) (now (args .memory)) (args .s) (pre .1 .1)
     (c .propose-taking2 .result) (c .before .registers-for2 .result) (c .before .before .address-at2 .result) _ (c .before .before .before .before .before .before .before .before .behind-of .result)
     (c .before .registers-for2 .ensures) (c .before .before .address-at2 .ensures) (c .before .before .before .before .before .before .before .before .behind-of .ensures) (c .propose-taking2 .ensures)
-    (sym (c .before .before .before .before .before .before .before .class-of .ensures) ∙ c .before .before .before .before .before .enum-told3 .given .1) (c .before .before .before .before .place-of .result) (c .before .before .before .distance-of .ensures) (c .before .before .before .before .place-of .ensures)
+    (sym (c .before .before .before .before .before .before .before .class-of .ensures) ∙ c .before .before .before .before .before .enum-told3 .given .1)
+    (c .before .before .before .before .place-of .result) (c .before .before .before .distance-of .ensures)
+    (c .before .before .before .before .place-of .ensures)
 
 returns-4 : tie.Need-returns-4
-returns-4 c = let args = c .before .before .before .before .before .before .before .before .before .before .before .before .before .before .before .args in let pre = c .before .before .before .before .before .before .before .before .before .before .before .before .before .before .before .pre in absurd (is-kind (listed (args .kinds .now) (args .operands .now)) (pre .1 .0 .checked .input) (args .s .item .0) (pre .1 .1) (sym (c .before .before .before .before .class-of .ensures) ∙ c .before .before .enum-told4 .given .1))
+returns-4 c =
+    let args = c .before .before .before .before .before .before .before .before .before .before .before .before .before .before .before .args in let pre =
+    c .before .before .before .before .before .before .before .before .before .before .before .before .before .before .before .pre in absurd (is-kind (listed
+    (args .kinds .now) (args .operands .now)) (pre .1 .0 .checked .input) (args .s .item .0) (pre .1 .1) (sym
+    (c .before .before .before .before .class-of .ensures) ∙ c .before .before .enum-told4 .given .1))
 
 pub shape-of-spec : {M : Type 1} → statement M
 shape-of-spec =

@@ -21,13 +21,27 @@ enum-told : tie.Need-enum-told
 enum-told c = search needs
 
 run-items-requires : tie.Need-run-items-requires
-run-items-requires c κs = let args = c .before .before .before .before .before .before .before .before .before .before .before .before .before .args in let pre = c .before .before .before .before .before .before .before .before .before .before .before .before .before .pre in (pre .0, image-settled (args .kinds .now) (args .operands .now) _ (args .base .0) (c .before .before .before .before .before .before .before .settle-table .result) (args .room) _ (pre .1 .0) (c .before .before .before .before .before .before .before .settle-table .kept .1 .1 .0 ∙ pre .1 .1) (c .before .before .before .before .before .before .before .settle-table .ensures .1) (c .before .before .before .before .before .before .before .settle-table .ensures .0) refl refl (sym (c .before .before .before .before .judge-image .ensures) ∙ c .before .before .enum-told .given .1))
+run-items-requires c κs =
+    let args = c .before .before .before .before .before .before .before .before .before .before .before .before .before .args in let pre =
+    c .before .before .before .before .before .before .before .before .before .before .before .before .before .pre in (
+      pre .0,
+      image-settled (args .kinds .now)
+          (args .operands .now) _ (args .base .0) (c .before .before .before .before .before .before .before .settle-table .result) (args .room) _ (pre .1 .0)
+          (c .before .before .before .before .before .before .before .settle-table .kept .1 .1 .0 ∙ pre .1 .1)
+          (c .before .before .before .before .before .before .before .settle-table .ensures .1)
+          (c .before .before .before .before .before .before .before .settle-table .ensures .0) refl refl (sym
+          (c .before .before .before .before .judge-image .ensures) ∙ c .before .before .enum-told .given .1),
+    )
 
 same-length : tie.Need-same-length
 same-length c = search needs
 
 returns : tie.Need-returns
-returns c = let args = c .before .before .before .before .before .before .before .before .before .before .before .before .args in image-refused (args .machine) (args .base .0) (listed (args .kinds .now) (args .operands .now)) (now (args .memory)) (args .start) (args .items) (c .before .before .before .before .before .before .settle-table .result) (c .before .before .before .before .before .before .settle-table .ensures .0) (args .room) _ (sym (c .before .before .before .judge-image .ensures) ∙ c .before .r .given .1)
+returns c =
+    let args = c .before .before .before .before .before .before .before .before .before .before .before .before .args in image-refused (args .machine)
+    (args .base .0) (listed (args .kinds .now) (args .operands .now)) (now (args .memory)) (args .start) (args .items)
+    (c .before .before .before .before .before .before .settle-table .result) (c .before .before .before .before .before .before .settle-table .ensures .0)
+    (args .room) _ (sym (c .before .before .before .judge-image .ensures) ∙ c .before .r .given .1)
 
 same-length-2 : tie.Need-same-length-2
 same-length-2 c = search needs
@@ -36,7 +50,13 @@ same-length-3 : tie.Need-same-length-3
 same-length-3 c = search needs
 
 returns-2 : tie.Need-returns-2
-returns-2 c = let args = c .before .before .before .before .before .before .before .before .before .before .before .before .before .before .before .before .args in image-ran (args .machine) (args .base .0) (listed (args .kinds .now) (args .operands .now)) (now (args .memory)) (args .start) (args .items) (c .before .before .before .before .before .before .before .before .before .before .settle-table .result) (c .before .before .before .before .before .before .before .before .before .before .settle-table .ensures .0) (args .room) (sym (c .before .before .before .before .before .before .before .judge-image .ensures) ∙ c .before .before .before .before .before .enum-told .given .1) _ (c .before .before .run-items .result) (c .before .before .run-items .ensures)
+returns-2 c =
+    let args = c .before .before .before .before .before .before .before .before .before .before .before .before .before .before .before .before .args in
+    image-ran (args .machine) (args .base .0) (listed (args .kinds .now) (args .operands .now)) (now (args .memory)) (args .start) (args .items)
+    (c .before .before .before .before .before .before .before .before .before .before .settle-table .result)
+    (c .before .before .before .before .before .before .before .before .before .before .settle-table .ensures .0) (args .room) (sym
+    (c .before .before .before .before .before .before .before .judge-image .ensures) ∙ c .before .before .before .before .before .enum-told .given .1) _
+    (c .before .before .run-items .result) (c .before .before .run-items .ensures)
 
 pub follow-checked-spec : {M : Type 1} → statement M
 follow-checked-spec =

@@ -18,7 +18,13 @@ enum-told : tie.Need-enum-told
 enum-told c = search needs
 
 mul-size : tie.Need-mul-size
-mul-size c = let args = c .before .before .before .before .before .before .args in omega (arith, items-most (args .kinds .now) (args .operands .now) (begin-checked (length (args .memory .now)) (args .order) (args .kinds .now) (args .operands .now) (sym (c .before .before .judge-begin .ensures) ∙ c .enum-told .given .1)))
+mul-size c =
+    let args = c .before .before .before .before .before .before .args in omega (
+      arith,
+      items-most (args .kinds .now) (args .operands .now) (begin-checked
+          (length (args .memory .now)) (args .order) (args .kinds .now) (args .operands .now) (sym (c .before .before .judge-begin .ensures) ∙
+          c .enum-told .given .1)),
+    )
 
 sub-follow-checked : tie.Need-sub-follow-checked
 sub-follow-checked c = search needs
@@ -27,19 +33,41 @@ part-table-start : tie.Need-part-table-start
 part-table-start c = search needs
 
 part-table-end : tie.Need-part-table-end
-part-table-end c = let args = c .before .before .before .before .before .before .before .args in omega (arith, items-most (args .kinds .now) (args .operands .now) (begin-checked (length (args .memory .now)) (args .order) (args .kinds .now) (args .operands .now) (sym (c .before .before .before .judge-begin .ensures) ∙ c .before .enum-told .given .1)))
+part-table-end c =
+    let args = c .before .before .before .before .before .before .before .args in omega (
+      arith,
+      items-most (args .kinds .now) (args .operands .now)
+          (begin-checked (length (args .memory .now)) (args .order) (args .kinds .now) (args .operands .now) (sym (c .before .before .before .judge-begin .ensures) ∙
+          c .before .enum-told .given .1)),
+    )
 
 follow-checked-requires : tie.Need-follow-checked-requires
-follow-checked-requires c κs = let args = c .before .before .before .before .before .before .before .before .args in (begin-lent (length (args .memory .now)) (args .order) (args .kinds .now) (args .operands .now) (sym (c .before .before .before .before .judge-begin .ensures) ∙ c .before .before .enum-told .given .1), (begin-checked (length (args .memory .now)) (args .order) (args .kinds .now) (args .operands .now) (sym (c .before .before .before .before .judge-begin .ensures) ∙ c .before .before .enum-told .given .1), search needs))
+follow-checked-requires c κs =
+    let args = c .before .before .before .before .before .before .before .before .args in (
+      begin-lent (length (args .memory .now)) (args .order)
+          (args .kinds .now) (args .operands .now) (sym (c .before .before .before .before .judge-begin .ensures) ∙ c .before .before .enum-told .given .1),
+      (
+        begin-checked (length (args .memory .now)) (args .order) (args .kinds .now) (args .operands .now) (sym
+            (c .before .before .before .before .judge-begin .ensures) ∙ c .before .before .enum-told .given .1),
+        search needs,
+      ),
+    )
 
 returns : tie.Need-returns
-returns c = let args = c .before .before .before .before .before .before .before .args in begin-refused (args .room) (args .order) (args .kinds .now) (args .operands .now) (args .base .0) (args .memory .now) (args .start) (args .items) _ (sym (c .before .before .before .judge-begin .ensures) ∙ c .before .r .given .1)
+returns c =
+    let args = c .before .before .before .before .before .before .before .args in begin-refused (args .room) (args .order) (args .kinds .now)
+    (args .operands .now) (args .base .0) (args .memory .now) (args .start) (args .items) _ (sym (c .before .before .before .judge-begin .ensures) ∙
+    c .before .r .given .1)
 
 same-length : tie.Need-same-length
 same-length c = search needs
 
 returns-2 : tie.Need-returns-2
-returns-2 c = let args = c .before .before .before .before .before .before .before .before .before .before .before .before .args in begin-passed (args .room) (args .order) (args .kinds .now) (args .operands .now) (args .base .0) (args .memory .now) (args .start) (args .items) _ (sym (c .before .before .before .before .before .before .before .before .judge-begin .ensures) ∙ c .before .before .before .before .before .before .enum-told .given .1) (c .before .before .before .follow-checked .ensures)
+returns-2 c =
+    let args = c .before .before .before .before .before .before .before .before .before .before .before .before .args in begin-passed (args .room)
+    (args .order) (args .kinds .now) (args .operands .now) (args .base .0) (args .memory .now) (args .start) (args .items) _ (sym
+    (c .before .before .before .before .before .before .before .before .judge-begin .ensures) ∙
+    c .before .before .before .before .before .before .enum-told .given .1) (c .before .before .before .follow-checked .ensures)
 
 pub follow-within-spec : {M : Type 1} → statement M
 follow-within-spec =

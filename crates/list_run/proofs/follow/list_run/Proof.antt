@@ -11,7 +11,14 @@ same-length : tie.Need-same-length
 same-length c = search needs
 
 returns : tie.Need-returns
-returns c = let args = c .before .before .before .before .before .before .before .args in (c .before .before .list-resume .ensures, as-packed (args .order) (args .kinds .now) (args .operands .now) (args .base .0) (args .memory .now) (args .sp) (args .rp) (args .items) (λ i. c .before .before .before .before .before .shared-slice-known2 .given i .fits) _ (c .before .before .list-resume .result) (c .before .before .list-resume .ensures))
+returns c =
+    let args = c .before .before .before .before .before .before .before .args in (
+      c .before .before .list-resume .ensures,
+      as-packed (args .order)
+          (args .kinds .now) (args .operands .now) (args .base .0) (args .memory .now) (args .sp) (args .rp) (args .items) (λ i.
+          c .before .before .before .before .before .shared-slice-known2 .given i .fits) _ (c .before .before .list-resume .result)
+          (c .before .before .list-resume .ensures),
+    )
 
 pub list-run-spec : {M : Type 1} → statement M
 list-run-spec = tie.close (tie.spec list-resume-requires same-length returns)

@@ -8,7 +8,28 @@ prepare-requires : tie.Need-prepare-requires
 prepare-requires c κs = search needs
 
 tabulate-requires : tie.Need-tabulate-requires
-tabulate-requires c κs = let pre = c .before .before .before .before .before .before .before .before .before .before .before .before .before .before .before .before .before .before .before .before .before .before .before .before .before .before .before .before .before .before .pre in let prepare = c .before .before .before .before .before .before .before .before .before .before .before .before .before .before .before .before .prepare in (pre .0, ((prepare .kept .1 .1 .0 ∙ pre .1 .0 .entries-length, prepare .kept .1 .1 .1 .0 ∙ pre .1 .0 .marks-length), ((prepare .kept .1 .1 .1 .1 .0 ∙ pre .1 .0 .ats-length, prepare .kept .1 .1 .1 .1 .1 .0 ∙ pre .1 .0 .nexts-length, prepare .kept .1 .1 .1 .1 .1 .1 .0 ∙ pre .1 .0 .lefts-length), (pre .1 .1, (prepare .ensures .1 .flags, (prepare .ensures .1 .settled, prepare .ensures .1 .laid))))))
+tabulate-requires c κs =
+    let pre =
+    c .before .before .before .before .before .before .before .before .before .before .before .before .before .before .before .before .before .before .before .before .before .before .before .before .before .before .before .before .before .before .pre
+    in let prepare = c .before .before .before .before .before .before .before .before .before .before .before .before .before .before .before .before .prepare
+    in (
+      pre .0,
+      (
+        (prepare .kept .1 .1 .0 ∙ pre .1 .0 .entries-length, prepare .kept .1 .1 .1 .0 ∙ pre .1 .0 .marks-length),
+        (
+          (
+            prepare .kept .1 .1 .1 .1 .0 ∙
+                pre .1 .0 .ats-length,
+            prepare .kept .1 .1 .1 .1 .1 .0 ∙ pre .1 .0 .nexts-length,
+            prepare .kept .1 .1 .1 .1 .1 .1 .0 ∙ pre .1 .0 .lefts-length,
+          ),
+          (
+            pre .1 .1,
+            (prepare .ensures .1 .flags, (prepare .ensures .1 .settled, prepare .ensures .1 .laid)),
+          ),
+        ),
+      ),
+    )
 
 same-length : tie.Need-same-length
 same-length c = search needs

@@ -30,7 +30,12 @@ part-ats-start : tie.Need-part-ats-start
 part-ats-start c = search needs
 
 part-ats-end : tie.Need-part-ats-end
-part-ats-end c = omega (arith, items-most (c .before .before .before .before .before .args .kinds .now) (c .before .before .before .before .before .args .operands .now) (c .before .before .before .before .before .pre .0))
+part-ats-end c =
+    omega (
+      arith,
+      items-most (c .before .before .before .before .before .args .kinds .now) (c .before .before .before .before .before .args .operands .now)
+          (c .before .before .before .before .before .pre .0),
+    )
 
 sub-fill-table-4 : tie.Need-sub-fill-table-4
 sub-fill-table-4 c = search needs
@@ -39,7 +44,12 @@ part-nexts-start : tie.Need-part-nexts-start
 part-nexts-start c = search needs
 
 part-nexts-end : tie.Need-part-nexts-end
-part-nexts-end c = omega (arith, items-most (c .before .before .before .before .before .before .args .kinds .now) (c .before .before .before .before .before .before .args .operands .now) (c .before .before .before .before .before .before .pre .0))
+part-nexts-end c =
+    omega (
+      arith,
+      items-most (c .before .before .before .before .before .before .args .kinds .now)
+          (c .before .before .before .before .before .before .args .operands .now) (c .before .before .before .before .before .before .pre .0),
+    )
 
 sub-fill-table-5 : tie.Need-sub-fill-table-5
 sub-fill-table-5 c = search needs
@@ -48,7 +58,12 @@ part-lefts-start : tie.Need-part-lefts-start
 part-lefts-start c = search needs
 
 part-lefts-end : tie.Need-part-lefts-end
-part-lefts-end c = omega (arith, items-most (c .before .before .before .before .before .before .before .args .kinds .now) (c .before .before .before .before .before .before .before .args .operands .now) (c .before .before .before .before .before .before .before .pre .0))
+part-lefts-end c =
+    omega (
+      arith,
+      items-most (c .before .before .before .before .before .before .before .args .kinds .now)
+          (c .before .before .before .before .before .before .before .args .operands .now) (c .before .before .before .before .before .before .before .pre .0),
+    )
 
 fill-table-requires : tie.Need-fill-table-requires
 fill-table-requires c κs =

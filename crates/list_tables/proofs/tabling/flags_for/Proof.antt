@@ -15,7 +15,13 @@ mul-result : tie.Need-mul-result
 mul-result c = omega (arith, bit-low (c .before .before .args .opened) (c .bit-of2 .result) (c .bit-of2 .ensures))
 
 add-result : tie.Need-add-result
-add-result c = omega (arith, bit-low (c .before .before .args .entered) (c .before .bit-of .result) (c .before .bit-of .ensures), bit-low (c .before .before .args .opened) (c .bit-of2 .result) (c .bit-of2 .ensures))
+add-result c =
+    omega (
+      arith,
+      bit-low (c .before .before .args .entered) (c .before .bit-of .result) (c .before .bit-of .ensures),
+      bit-low (c .before .before .args .opened)
+          (c .bit-of2 .result) (c .bit-of2 .ensures),
+    )
 
 bit-of-requires-3 : tie.Need-bit-of-requires-3
 bit-of-requires-3 c κs = search needs
@@ -24,7 +30,15 @@ mul-result-2 : tie.Need-mul-result-2
 mul-result-2 c = omega (arith, bit-low (c .before .before .before .args .immediate) (c .bit-of3 .result) (c .bit-of3 .ensures))
 
 add-result-2 : tie.Need-add-result-2
-add-result-2 c = omega (arith, bit-low (c .before .before .before .args .entered) (c .before .before .bit-of .result) (c .before .before .bit-of .ensures), bit-low (c .before .before .before .args .opened) (c .before .bit-of2 .result) (c .before .bit-of2 .ensures), bit-low (c .before .before .before .args .immediate) (c .bit-of3 .result) (c .bit-of3 .ensures))
+add-result-2 c =
+    omega (
+      arith,
+      bit-low (c .before .before .before .args .entered) (c .before .before .bit-of .result) (c .before .before .bit-of .ensures),
+      bit-low
+          (c .before .before .before .args .opened) (c .before .bit-of2 .result) (c .before .bit-of2 .ensures),
+      bit-low (c .before .before .before .args .immediate)
+          (c .bit-of3 .result) (c .bit-of3 .ensures),
+    )
 
 returns : tie.Need-returns
 returns c = search needs

@@ -24,7 +24,14 @@ loop-holds : tie.Need-loop-holds Inv-loop μ-loop
 loop-holds c = (omega arith, c .before .before .before .before .before .before .before .before .pre .1 .1 .1 .0, λ j h. absurd (omega arith))
 
 mul-left : tie.Need-mul-left Inv-loop μ-loop
-mul-left c = omega (arith, c .loop-test .taken, some-item (listed (c .before .before .before .before .before .before .before .before .before .before .args .kinds .now) (c .before .before .before .before .before .before .before .before .before .before .args .operands .now)) (c .before .before .before .before .before .before .before .before .before .before .pre .0 .input) .1)
+mul-left c =
+    omega (
+      arith,
+      c .loop-test .taken,
+      some-item (listed (c .before .before .before .before .before .before .before .before .before .before .args .kinds .now)
+          (c .before .before .before .before .before .before .before .before .before .before .args .operands .now))
+          (c .before .before .before .before .before .before .before .before .before .before .pre .0 .input) .1,
+    )
 
 shared-slice-read-left : tie.Need-shared-slice-read-left Inv-loop μ-loop
 shared-slice-read-left c = omega (arith, c .before .loop-test .taken, c .before .before .before .before .before .before .before .before .before .before .before .pre .1 .1 .0 .2)
@@ -36,31 +43,88 @@ class-of-requires : tie.Need-class-of-requires Inv-loop μ-loop
 class-of-requires c κs = tt
 
 shared-slice-read-form-of : tie.Need-shared-slice-read-form-of Inv-loop μ-loop
-shared-slice-read-form-of c = omega (arith, c .before .before .before .before .loop-test .taken, c .before .before .before .before .before .before .before .before .before .before .before .before .before .before .pre .1 .0 .1)
+shared-slice-read-form-of c =
+    omega (
+      arith,
+      c .before .before .before .before .loop-test .taken,
+      c .before .before .before .before .before .before .before .before .before .before .before .before .before .before .pre .1 .0 .1,
+    )
 
 mul-form-of : tie.Need-mul-form-of Inv-loop μ-loop
-mul-form-of c = omega (arith, c .before .before .before .before .loop-test .taken, some-item (listed (c .before .before .before .before .before .before .before .before .before .before .before .before .before .before .args .kinds .now) (c .before .before .before .before .before .before .before .before .before .before .before .before .before .before .args .operands .now)) (c .before .before .before .before .before .before .before .before .before .before .before .before .before .before .pre .0 .input) .1)
+mul-form-of c =
+    omega (
+      arith,
+      c .before .before .before .before .loop-test .taken,
+      some-item (listed
+          (c .before .before .before .before .before .before .before .before .before .before .before .before .before .before .args .kinds .now)
+          (c .before .before .before .before .before .before .before .before .before .before .before .before .before .before .args .operands .now))
+          (c .before .before .before .before .before .before .before .before .before .before .before .before .before .before .pre .0 .input) .1,
+    )
 
 shared-slice-read-form-of-2 : tie.Need-shared-slice-read-form-of-2 Inv-loop μ-loop
-shared-slice-read-form-of-2 c = omega (arith, c .before .before .before .before .before .loop-test .taken, c .before .before .before .before .before .before .before .before .before .before .before .before .before .before .before .pre .0 .equal)
+shared-slice-read-form-of-2 c =
+    omega (
+      arith,
+      c .before .before .before .before .before .loop-test .taken,
+      c .before .before .before .before .before .before .before .before .before .before .before .before .before .before .before .pre .0 .equal,
+    )
 
 form-of-requires : tie.Need-form-of-requires Inv-loop μ-loop
-form-of-requires c κs = let args = c .before .before .before .before .before .before .before .before .before .before .before .before .before .before .before .args in let pre = c .before .before .before .before .before .before .before .before .before .before .before .before .before .before .before .pre in left-low (args .kinds .now) (args .operands .now) (args .entries .now) (args .marks .now) (args .ats .now) (args .nexts .now) (args .lefts .now) (pre .0) (pre .1 .1 .1 .1 .0) (pre .1 .1 .1 .1 .1 .0) (pre .1 .1 .1 .1 .1 .1) (c .before .before .before .before .before .before .loop .i) (c .before .before .before .before .before .loop-test .taken)
+form-of-requires c κs =
+    let args = c .before .before .before .before .before .before .before .before .before .before .before .before .before .before .before .args in let pre =
+    c .before .before .before .before .before .before .before .before .before .before .before .before .before .before .before .pre in left-low
+    (args .kinds .now) (args .operands .now) (args .entries .now) (args .marks .now) (args .ats .now) (args .nexts .now) (args .lefts .now) (pre .0)
+    (pre .1 .1 .1 .1 .0) (pre .1 .1 .1 .1 .1 .0) (pre .1 .1 .1 .1 .1 .1) (c .before .before .before .before .before .before .loop .i)
+    (c .before .before .before .before .before .loop-test .taken)
 
 mul-next : tie.Need-mul-next Inv-loop μ-loop
-mul-next c = omega (arith, c .before .before .before .before .before .before .loop-test .taken, some-item (listed (c .before .before .before .before .before .before .before .before .before .before .before .before .before .before .before .before .args .kinds .now) (c .before .before .before .before .before .before .before .before .before .before .before .before .before .before .before .before .args .operands .now)) (c .before .before .before .before .before .before .before .before .before .before .before .before .before .before .before .before .pre .0 .input) .1)
+mul-next c =
+    omega (
+      arith,
+      c .before .before .before .before .before .before .loop-test .taken,
+      some-item (listed
+          (c .before .before .before .before .before .before .before .before .before .before .before .before .before .before .before .before .args .kinds .now)
+          (c .before .before .before .before .before .before .before .before .before .before .before .before .before .before .before .before .args .operands .now))
+          (c .before .before .before .before .before .before .before .before .before .before .before .before .before .before .before .before .pre .0 .input) .1,
+    )
 
 shared-slice-read-next : tie.Need-shared-slice-read-next Inv-loop μ-loop
-shared-slice-read-next c = omega (arith, c .before .before .before .before .before .before .before .loop-test .taken, c .before .before .before .before .before .before .before .before .before .before .before .before .before .before .before .before .before .pre .1 .1 .0 .1)
+shared-slice-read-next c =
+    omega (
+      arith,
+      c .before .before .before .before .before .before .before .loop-test .taken,
+      c .before .before .before .before .before .before .before .before .before .before .before .before .before .before .before .before .before .pre .1 .1 .0 .1,
+    )
 
 extra-of-requires : tie.Need-extra-of-requires Inv-loop μ-loop
 extra-of-requires c κs = tt
 
 add-behind : tie.Need-add-behind Inv-loop μ-loop
-add-behind c = let args = c .before .before .before .before .before .before .before .before .before .before .before .before .before .before .before .before .before .before .args in let pre = c .before .before .before .before .before .before .before .before .before .before .before .before .before .before .before .before .before .before .pre in omega (arith, behind-low (args .kinds .now) (args .operands .now) (args .entries .now) (args .marks .now) (args .ats .now) (args .nexts .now) (args .lefts .now) (pre .0) (pre .1 .1 .1 .1 .0) (pre .1 .1 .1 .1 .1 .0) (pre .1 .1 .1 .1 .1 .1) (c .before .before .before .before .before .before .before .before .before .loop .i) (c .before .before .before .before .before .before .before .before .loop-test .taken) (c .before .before .form-of .result) (c .before .before .form-of .ensures ∙ ap (λ (k : Class). formOf k (eqb (getD (args .marks .now) (c .before .before .before .before .before .before .before .before .before .loop .i) 0) 1) (getD (args .operands .now) (c .before .before .before .before .before .before .before .before .before .loop .i) 0) (getD (args .lefts .now) (c .before .before .before .before .before .before .before .before .before .loop .i) 0)) (c .before .before .before .before .before .class-of .ensures)) (c .extra-of .result) (c .extra-of .ensures))
+add-behind c =
+    let args =
+    c .before .before .before .before .before .before .before .before .before .before .before .before .before .before .before .before .before .before .args in
+    let pre =
+    c .before .before .before .before .before .before .before .before .before .before .before .before .before .before .before .before .before .before .pre in
+    omega (
+      arith,
+      behind-low (args .kinds .now) (args .operands .now) (args .entries .now) (args .marks .now) (args .ats .now) (args .nexts .now)
+          (args .lefts .now) (pre .0) (pre .1 .1 .1 .1 .0) (pre .1 .1 .1 .1 .1 .0) (pre .1 .1 .1 .1 .1 .1)
+          (c .before .before .before .before .before .before .before .before .before .loop .i)
+          (c .before .before .before .before .before .before .before .before .loop-test .taken) (c .before .before .form-of .result)
+          (c .before .before .form-of .ensures ∙ ap (λ (k : Class). formOf k (eqb (getD (args .marks .now)
+          (c .before .before .before .before .before .before .before .before .before .loop .i) 0) 1) (getD (args .operands .now)
+          (c .before .before .before .before .before .before .before .before .before .loop .i) 0) (getD (args .lefts .now)
+          (c .before .before .before .before .before .before .before .before .before .loop .i) 0)) (c .before .before .before .before .before .class-of .ensures))
+          (c .extra-of .result) (c .extra-of .ensures),
+    )
 
 shared-slice-read-flags-for : tie.Need-shared-slice-read-flags-for Inv-loop μ-loop
-shared-slice-read-flags-for c = omega (arith, c .before .before .before .before .before .before .before .before .before .loop-test .taken, c .before .before .before .before .before .before .before .before .before .before .before .before .before .before .before .before .before .before .before .pre .1 .0 .0)
+shared-slice-read-flags-for c =
+    omega (
+      arith,
+      c .before .before .before .before .before .before .before .before .before .loop-test .taken,
+      c .before .before .before .before .before .before .before .before .before .before .before .before .before .before .before .before .before .before .before .pre .1 .0 .0,
+    )
 
 is-short-requires : tie.Need-is-short-requires Inv-loop μ-loop
 is-short-requires c κs = tt
@@ -69,16 +133,51 @@ flags-for-requires : tie.Need-flags-for-requires Inv-loop μ-loop
 flags-for-requires c κs = tt
 
 cast-t19 : tie.Need-cast-t19 Inv-loop μ-loop
-cast-t19 c = omega (arith, c .before .before .before .before .before .before .before .before .before .before .before .before .loop-test .taken, some-item (listed (c .before .before .before .before .before .before .before .before .before .before .before .before .before .before .before .before .before .before .before .before .before .before .args .kinds .now) (c .before .before .before .before .before .before .before .before .before .before .before .before .before .before .before .before .before .before .before .before .before .before .args .operands .now)) (c .before .before .before .before .before .before .before .before .before .before .before .before .before .before .before .before .before .before .before .before .before .before .pre .0 .input) .1)
+cast-t19 c =
+    omega (
+      arith,
+      c .before .before .before .before .before .before .before .before .before .before .before .before .loop-test .taken,
+      some-item (listed
+          (c .before .before .before .before .before .before .before .before .before .before .before .before .before .before .before .before .before .before .before .before .before .before .args .kinds .now)
+          (c .before .before .before .before .before .before .before .before .before .before .before .before .before .before .before .before .before .before .before .before .before .before .args .operands .now))
+          (c .before .before .before .before .before .before .before .before .before .before .before .before .before .before .before .before .before .before .before .before .before .before .pre .0 .input) .1,
+    )
 
 mul-t17 : tie.Need-mul-t17 Inv-loop μ-loop
-mul-t17 c = omega (arith, c .before .before .before .before .before .before .before .before .before .before .before .before .loop-test .taken, some-item (listed (c .before .before .before .before .before .before .before .before .before .before .before .before .before .before .before .before .before .before .before .before .before .before .args .kinds .now) (c .before .before .before .before .before .before .before .before .before .before .before .before .before .before .before .before .before .before .before .before .before .before .args .operands .now)) (c .before .before .before .before .before .before .before .before .before .before .before .before .before .before .before .before .before .before .before .before .before .before .pre .0 .input) .1)
+mul-t17 c =
+    omega (
+      arith,
+      c .before .before .before .before .before .before .before .before .before .before .before .before .loop-test .taken,
+      some-item (listed
+          (c .before .before .before .before .before .before .before .before .before .before .before .before .before .before .before .before .before .before .before .before .before .before .args .kinds .now)
+          (c .before .before .before .before .before .before .before .before .before .before .before .before .before .before .before .before .before .before .before .before .before .before .args .operands .now))
+          (c .before .before .before .before .before .before .before .before .before .before .before .before .before .before .before .before .before .before .before .before .before .before .pre .0 .input) .1,
+    )
 
 shared-slice-read-t35 : tie.Need-shared-slice-read-t35 Inv-loop μ-loop
-shared-slice-read-t35 c = omega (arith, c .before .before .before .before .before .before .before .before .before .before .before .before .before .loop-test .taken, c .before .before .before .before .before .before .before .before .before .before .before .before .before .before .before .before .before .before .before .before .before .before .before .pre .1 .1 .0 .0)
+shared-slice-read-t35 c =
+    omega (
+      arith,
+      c .before .before .before .before .before .before .before .before .before .before .before .before .before .loop-test .taken,
+      c .before .before .before .before .before .before .before .before .before .before .before .before .before .before .before .before .before .before .before .before .before .before .before .pre .1 .1 .0 .0,
+    )
 
 write-row-requires : tie.Need-write-row-requires Inv-loop μ-loop
-write-row-requires c κs = (omega (arith, c .before .before .before .before .before .before .before .before .before .before .before .before .before .loop-test .taken, c .before .before .before .before .before .before .before .before .before .before .before .before .before .before .loop .inv .1), omega (arith, c .before .before .before .before .before .before .before .before .before .before .before .before .before .loop-test .taken, some-item (listed (c .before .before .before .before .before .before .before .before .before .before .before .before .before .before .before .before .before .before .before .before .before .before .before .args .kinds .now) (c .before .before .before .before .before .before .before .before .before .before .before .before .before .before .before .before .before .before .before .before .before .before .before .args .operands .now)) (c .before .before .before .before .before .before .before .before .before .before .before .before .before .before .before .before .before .before .before .before .before .before .before .pre .0 .input) .1))
+write-row-requires c κs = (
+  omega (
+    arith,
+    c .before .before .before .before .before .before .before .before .before .before .before .before .before .loop-test .taken,
+    c .before .before .before .before .before .before .before .before .before .before .before .before .before .before .loop .inv .1,
+  ),
+  omega (
+    arith,
+    c .before .before .before .before .before .before .before .before .before .before .before .before .before .loop-test .taken,
+    some-item (listed
+        (c .before .before .before .before .before .before .before .before .before .before .before .before .before .before .before .before .before .before .before .before .before .before .before .args .kinds .now)
+        (c .before .before .before .before .before .before .before .before .before .before .before .before .before .before .before .before .before .before .before .before .before .before .before .args .operands .now))
+        (c .before .before .before .before .before .before .before .before .before .before .before .before .before .before .before .before .before .before .before .before .before .before .before .pre .0 .input) .1,
+  ),
+)
 
 add-i : tie.Need-add-i Inv-loop μ-loop
 add-i c = omega (arith, c .before .before .before .before .before .before .before .before .before .before .before .before .before .before .before .before .loop-test .taken)
@@ -87,13 +186,49 @@ loop-less : tie.Need-loop-less Inv-loop μ-loop
 loop-less c = omega (arith, c .before .before .before .before .before .before .before .before .before .before .before .before .before .before .before .before .loop-test .taken)
 
 loop-again : tie.Need-loop-again Inv-loop μ-loop
-loop-again c = let args = c .before .before .before .before .before .before .before .before .before .before .before .before .before .before .before .before .before .before .before .before .before .before .before .before .before .before .args in let pre = c .before .before .before .before .before .before .before .before .before .before .before .before .before .before .before .before .before .before .before .before .before .before .before .before .before .before .pre in (omega (arith, c .before .before .before .before .before .before .before .before .before .before .before .before .before .before .before .before .loop-test .taken), c .before .before .write-row .kept .0 ∙ c .before .before .before .before .before .before .before .before .before .before .before .before .before .before .before .before .before .loop .inv .1, rw (c .before .before .write-row .ensures) (next-row (args .kinds .now) (args .operands .now) (args .entries .now) (args .marks .now) (args .ats .now) (args .nexts .now) (args .lefts .now) (pre .0) (pre .1 .1 .1 .1 .0) (pre .1 .1 .1 .1 .1 .0) (pre .1 .1 .1 .1 .1 .1) (c .before .before .before .before .before .before .before .before .before .before .before .before .before .before .before .before .before .loop .i) (c .before .before .before .before .before .before .before .before .before .before .before .before .before .before .before .before .loop-test .taken) (c .before .before .before .before .before .before .before .before .before .before .form-of .result) (c .before .before .before .before .before .before .before .before .before .before .form-of .ensures ∙ ap (λ (k : Class). formOf k (eqb (getD (args .marks .now) (c .before .before .before .before .before .before .before .before .before .before .before .before .before .before .before .before .before .loop .i) 0) 1) (getD (args .operands .now) (c .before .before .before .before .before .before .before .before .before .before .before .before .before .before .before .before .before .loop .i) 0) (getD (args .lefts .now) (c .before .before .before .before .before .before .before .before .before .before .before .before .before .before .before .before .before .loop .i) 0)) (c .before .before .before .before .before .before .before .before .before .before .before .before .before .class-of .ensures)) (c .before .before .before .before .before .before .before .before .before .before .before .before .before .before .before .before .before .loop .table) (c .before .before .before .before .before .before .before .before .before .before .before .before .before .before .before .before .before .loop .inv .1) (c .before .before .before .before .before .before .before .before .extra-of .result) (c .before .before .before .before .before .flags-for .result) (c .before .before .before .before .before .before .is-short .result) (c .before .before .before .before .before .before .before .before .extra-of .ensures) (c .before .before .before .before .before .before .is-short .ensures) (c .before .before .before .before .before .flags-for .ensures) (c .before .before .before .before .before .before .before .before .before .before .before .before .before .before .before .before .before .loop .inv .2)))
+loop-again c =
+    let args =
+    c .before .before .before .before .before .before .before .before .before .before .before .before .before .before .before .before .before .before .before .before .before .before .before .before .before .before .args
+    in let pre =
+    c .before .before .before .before .before .before .before .before .before .before .before .before .before .before .before .before .before .before .before .before .before .before .before .before .before .before .pre
+    in (
+      omega (
+        arith,
+        c .before .before .before .before .before .before .before .before .before .before .before .before .before .before .before .before .loop-test .taken,
+      ),
+      c .before .before .write-row .kept .0 ∙
+          c .before .before .before .before .before .before .before .before .before .before .before .before .before .before .before .before .before .loop .inv .1,
+      rw
+          (c .before .before .write-row .ensures) (next-row (args .kinds .now) (args .operands .now) (args .entries .now) (args .marks .now) (args .ats .now)
+          (args .nexts .now) (args .lefts .now) (pre .0) (pre .1 .1 .1 .1 .0) (pre .1 .1 .1 .1 .1 .0) (pre .1 .1 .1 .1 .1 .1)
+          (c .before .before .before .before .before .before .before .before .before .before .before .before .before .before .before .before .before .loop .i)
+          (c .before .before .before .before .before .before .before .before .before .before .before .before .before .before .before .before .loop-test .taken)
+          (c .before .before .before .before .before .before .before .before .before .before .form-of .result)
+          (c .before .before .before .before .before .before .before .before .before .before .form-of .ensures ∙ ap (λ (k : Class). formOf k (eqb (getD
+          (args .marks .now)
+          (c .before .before .before .before .before .before .before .before .before .before .before .before .before .before .before .before .before .loop .i) 0) 1)
+          (getD (args .operands .now)
+          (c .before .before .before .before .before .before .before .before .before .before .before .before .before .before .before .before .before .loop .i) 0)
+          (getD (args .lefts .now)
+          (c .before .before .before .before .before .before .before .before .before .before .before .before .before .before .before .before .before .loop .i) 0))
+          (c .before .before .before .before .before .before .before .before .before .before .before .before .before .class-of .ensures))
+          (c .before .before .before .before .before .before .before .before .before .before .before .before .before .before .before .before .before .loop .table)
+          (c .before .before .before .before .before .before .before .before .before .before .before .before .before .before .before .before .before .loop .inv .1)
+          (c .before .before .before .before .before .before .before .before .extra-of .result) (c .before .before .before .before .before .flags-for .result)
+          (c .before .before .before .before .before .before .is-short .result) (c .before .before .before .before .before .before .before .before .extra-of .ensures)
+          (c .before .before .before .before .before .before .is-short .ensures) (c .before .before .before .before .before .flags-for .ensures)
+          (c .before .before .before .before .before .before .before .before .before .before .before .before .before .before .before .before .before .loop .inv .2)),
+    )
 
 same-length : tie.Need-same-length Inv-loop μ-loop
 same-length c = c .before .loop .inv .1 ∙ sym (c .before .before .before .before .before .before .before .before .before .before .pre .1 .1 .1 .0)
 
 returns : tie.Need-returns Inv-loop μ-loop
-returns c = all-rows (listed (c .before .before .before .before .before .before .before .before .before .before .args .kinds .now) (c .before .before .before .before .before .before .before .before .before .before .args .operands .now)) (c .before .loop .table) (c .before .loop .i) (length (c .before .before .before .before .before .before .before .before .before .before .args .kinds .now)) (c .loop-test .left) (c .before .loop .inv .2)
+returns c =
+    all-rows (listed (c .before .before .before .before .before .before .before .before .before .before .args .kinds .now)
+    (c .before .before .before .before .before .before .before .before .before .before .args .operands .now)) (c .before .loop .table) (c .before .loop .i)
+    (length (c .before .before .before .before .before .before .before .before .before .before .args .kinds .now)) (c .loop-test .left)
+    (c .before .loop .inv .2)
 
 pub tabulate-spec : {M : Type 1} → statement M
 tabulate-spec =

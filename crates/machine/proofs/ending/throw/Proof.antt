@@ -33,7 +33,16 @@ fault-code-requires : tie.Need-fault-code-requires
 fault-code-requires c κs = search needs
 
 store-requires : tie.Need-store-requires
-store-requires c κs = let a = c .before .before .before .before .before .before .before .before .before .before .before .args in omega (arith, c .before .before .before .before .note .kept .1 .0, room-place (a .machine) Push (length (now (a .memory))) (c .before .before .before .before .before .before .before .before .before .subtract .result) (c .before .before .before .before .before .before .before .before .before .before .before .pre .0) (sym (c .before .before .before .before .before .before .before .before .check-place .ensures) ∙ c .before .before .before .before .before .before .enum-told .given .1))
+store-requires c κs =
+    let a = c .before .before .before .before .before .before .before .before .before .before .before .args in omega (
+      arith,
+      c .before .before .before .before .note .kept .1 .0,
+      room-place (a .machine) Push (length (now (a .memory)))
+          (c .before .before .before .before .before .before .before .before .before .subtract .result)
+          (c .before .before .before .before .before .before .before .before .before .before .before .pre .0) (sym
+          (c .before .before .before .before .before .before .before .before .check-place .ensures) ∙
+          c .before .before .before .before .before .before .enum-told .given .1),
+    )
 
 handle-requires : tie.Need-handle-requires
 handle-requires c κs = search needs
@@ -43,7 +52,19 @@ same-length c = search needs
 
 returns-2 : tie.Need-returns-2
 unfolding throws.throwOf
-returns-2 c = rw (← c .before .before .before .before .before .before .before .before .before .before .before .before .before .before .before .before .subtract .ensures, sym (c .before .before .before .before .before .before .before .before .before .before .before .before .before .before .before .check-place .ensures) ∙ c .before .before .before .before .before .before .before .before .before .before .before .before .before .enum-told .given .1) (rw (← c .before .before .before .before .before .before .before .before .before .before .before .note .ensures, ← c .before .before .before .before .before .before .before .fault-code .ensures, ← c .before .before .before .before .before .before .store .ensures) (c .before .before .handle .ensures))
+returns-2 c =
+    rw (
+      ← c .before .before .before .before .before .before .before .before .before .before .before .before .before .before .before .before .subtract .ensures,
+      sym (c .before .before .before .before .before .before .before .before .before .before .before .before .before .before .before .check-place .ensures) ∙
+          c .before .before .before .before .before .before .before .before .before .before .before .before .before .enum-told .given .1,
+    ) (rw (
+      ←
+          c .before .before .before .before .before .before .before .before .before .before .before .note .ensures,
+      ←
+          c .before .before .before .before .before .before .before .fault-code .ensures,
+      ← c .before .before .before .before .before .before .store .ensures,
+    )
+    (c .before .before .handle .ensures))
 
 pub throw-spec : {M : Type 1} → statement M
 throw-spec =

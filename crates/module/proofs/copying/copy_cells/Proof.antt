@@ -47,7 +47,8 @@ loop-again c =
     let a = c .before .before .before .before .before .before .before .before .before .before .before .args in
     let l = c .before .before .before .before .before .before .loop in
     let h : l .k < a .count .0 = omega (arith, c .before .before .before .before .before .loop-test .taken) in
-    copy-goes-on _ _ _ _ _ _ (l .memory) (l .k) (c .before .before .before .before .load-at .result) _ h (c .before .before .before .before .load-at .ensures) (c .before .before .store-at .ensures) (l .inv)
+    copy-goes-on _ _ _ _ _ _ (l .memory) (l .k) (c .before .before .before .before .load-at .result) _ h (c .before .before .before .before .load-at .ensures)
+    (c .before .before .store-at .ensures) (l .inv)
 
 same-length : tie.Need-same-length Inv-loop μ-loop
 same-length c = c .before .loop .inv .long

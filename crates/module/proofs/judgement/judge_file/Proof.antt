@@ -22,11 +22,24 @@ shared-slice-read-if3 c = search needs
 
 returns-3 : tie.Need-returns-3
 unfolding grounds.judgeFile
-returns-3 c = simp (le-ltb _ _ (c .before .before .before .before .if1 .left), sym (c .before .before .before .is-titled .ensures) ∙ not-false _ (c .before .before .if2 .left), lt-ltb _ _ (c .if3 .taken))
+returns-3 c =
+    simp (
+      le-ltb _ _ (c .before .before .before .before .if1 .left),
+      sym (c .before .before .before .is-titled .ensures) ∙ not-false _
+          (c .before .before .if2 .left),
+      lt-ltb _ _ (c .if3 .taken),
+    )
 
 returns-4 : tie.Need-returns-4
 unfolding grounds.judgeFile
-returns-4 c = simp (le-ltb _ _ (c .before .before .before .before .before .if1 .left), sym (c .before .before .before .before .is-titled .ensures) ∙ not-false _ (c .before .before .before .if2 .left), le-ltb _ _ (c .before .if3 .left), lt-ltb _ _ (c .if4 .taken))
+returns-4 c =
+    simp (
+      le-ltb _ _ (c .before .before .before .before .before .if1 .left),
+      sym (c .before .before .before .before .is-titled .ensures) ∙ not-false _
+          (c .before .before .before .if2 .left),
+      le-ltb _ _ (c .before .if3 .left),
+      lt-ltb _ _ (c .if4 .taken),
+    )
 
 count-of-requires : tie.Need-count-of-requires
 count-of-requires c κs = search needs
@@ -42,11 +55,33 @@ add-said c = search needs
 
 returns-5 : tie.Need-returns-5
 unfolding grounds.judgeFile
-returns-5 c = simp (le-ltb _ _ (c .before .before .before .before .before .before .before .before .if1 .left), sym (c .before .before .before .before .before .before .before .is-titled .ensures) ∙ not-false _ (c .before .before .before .before .before .before .if2 .left), le-ltb _ _ (c .before .before .before .before .if3 .left), le-ltb _ _ (c .before .before .before .if4 .left), ← ap (λ (x : CellCount). x .0) (c .before .before .count-of .ensures), ne-eqb _ _ (c .if5 .taken))
+returns-5 c =
+    simp (
+      le-ltb _ _ (c .before .before .before .before .before .before .before .before .if1 .left),
+      sym
+          (c .before .before .before .before .before .before .before .is-titled .ensures) ∙ not-false _
+          (c .before .before .before .before .before .before .if2 .left),
+      le-ltb _ _ (c .before .before .before .before .if3 .left),
+      le-ltb _ _
+          (c .before .before .before .if4 .left),
+      ← ap (λ (x : CellCount). x .0) (c .before .before .count-of .ensures),
+      ne-eqb _ _ (c .if5 .taken),
+    )
 
 returns-6 : tie.Need-returns-6
 unfolding grounds.judgeFile
-returns-6 c = simp (le-ltb _ _ (c .before .before .before .before .before .before .before .before .if1 .left), sym (c .before .before .before .before .before .before .before .is-titled .ensures) ∙ not-false _ (c .before .before .before .before .before .before .if2 .left), le-ltb _ _ (c .before .before .before .before .if3 .left), le-ltb _ _ (c .before .before .before .if4 .left), ← ap (λ (x : CellCount). x .0) (c .before .before .count-of .ensures), eq-eqb _ _ (c .if5 .left))
+returns-6 c =
+    simp (
+      le-ltb _ _ (c .before .before .before .before .before .before .before .before .if1 .left),
+      sym
+          (c .before .before .before .before .before .before .before .is-titled .ensures) ∙ not-false _
+          (c .before .before .before .before .before .before .if2 .left),
+      le-ltb _ _ (c .before .before .before .before .if3 .left),
+      le-ltb _ _
+          (c .before .before .before .if4 .left),
+      ← ap (λ (x : CellCount). x .0) (c .before .before .count-of .ensures),
+      eq-eqb _ _ (c .if5 .left),
+    )
 
 pub judge-file-spec : {M : Type 1} → statement M
 judge-file-spec =

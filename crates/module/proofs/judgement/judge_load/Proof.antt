@@ -36,11 +36,25 @@ returns : tie.Need-returns
 returns c = rw (load-parts, sym (c .before .before .before .judge-machine .ensures) ∙ c .before .r .given .1)
 
 returns-2 : tie.Need-returns-2
-returns-2 c = rw (load-parts, sym (c .before .before .before .before .before .before .judge-machine .ensures) ∙ c .before .before .before .before .enum-told .given .1, sym (c .before .before .before .judge-file .ensures) ∙ c .before .r2 .given .1)
+returns-2 c =
+    rw (
+      load-parts,
+      sym (c .before .before .before .before .before .before .judge-machine .ensures) ∙ c .before .before .before .before .enum-told .given .1,
+      sym (c .before .before .before .judge-file .ensures) ∙ c .before .r2 .given .1,
+    )
 
 returns-3 : tie.Need-returns-3
-returns-3 c = rw (load-parts, sym (c .before .before .before .before .before .before .before .judge-machine .ensures) ∙ c .before .before .before .before .before .enum-told .given .1, sym (c .before .before .before .before .judge-file .ensures) ∙ c .before .before .enum-told2 .given .1)
-    (c .judge-place .ensures ∙ ap (λ (x : CellCount). grounds.judgePlace (c .before .before .before .before .before .before .before .before .before .args .length) (c .before .before .before .before .before .before .before .before .before .args .address .0) (x .0)) (c .before .count-of .ensures))
+returns-3 c =
+    rw (
+      load-parts,
+      sym (c .before .before .before .before .before .before .before .judge-machine .ensures) ∙
+          c .before .before .before .before .before .enum-told .given .1,
+      sym (c .before .before .before .before .judge-file .ensures) ∙
+          c .before .before .enum-told2 .given .1,
+    )
+    (c .judge-place .ensures ∙ ap (λ (x : CellCount). grounds.judgePlace
+    (c .before .before .before .before .before .before .before .before .before .args .length)
+    (c .before .before .before .before .before .before .before .before .before .args .address .0) (x .0)) (c .before .count-of .ensures))
 
 pub judge-load-spec : {M : Type 1} → statement M
 judge-load-spec =

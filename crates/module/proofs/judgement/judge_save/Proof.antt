@@ -36,13 +36,34 @@ returns : tie.Need-returns
 returns c = rw (save-parts, sym (c .before .before .before .judge-machine .ensures) ∙ c .before .r .given .1)
 
 returns-2 : tie.Need-returns-2
-returns-2 c = rw (save-parts, sym (c .before .before .before .before .before .before .judge-machine .ensures) ∙ c .before .before .before .before .enum-told .given .1, sym (c .before .before .before .judge-place .ensures) ∙ c .before .r2 .given .1)
+returns-2 c =
+    rw (
+      save-parts,
+      sym (c .before .before .before .before .before .before .judge-machine .ensures) ∙ c .before .before .before .before .enum-told .given .1,
+      sym (c .before .before .before .judge-place .ensures) ∙ c .before .r2 .given .1,
+    )
 
 returns-3 : tie.Need-returns-3
-returns-3 c = rw (save-parts, sym (c .before .before .before .before .before .before .before .judge-machine .ensures) ∙ c .before .before .before .before .before .enum-told .given .1, sym (c .before .before .before .before .judge-place .ensures) ∙ c .before .before .enum-told2 .given .1, lt-ltb _ _ (c .if1 .taken))
+returns-3 c =
+    rw (
+      save-parts,
+      sym (c .before .before .before .before .before .before .before .judge-machine .ensures) ∙
+          c .before .before .before .before .before .enum-told .given .1,
+      sym (c .before .before .before .before .judge-place .ensures) ∙
+          c .before .before .enum-told2 .given .1,
+      lt-ltb _ _ (c .if1 .taken),
+    )
 
 returns-4 : tie.Need-returns-4
-returns-4 c = rw (save-parts, sym (c .before .before .before .before .before .before .before .judge-machine .ensures) ∙ c .before .before .before .before .before .enum-told .given .1, sym (c .before .before .before .before .judge-place .ensures) ∙ c .before .before .enum-told2 .given .1, le-ltb _ _ (c .if1 .left))
+returns-4 c =
+    rw (
+      save-parts,
+      sym (c .before .before .before .before .before .before .before .judge-machine .ensures) ∙
+          c .before .before .before .before .before .enum-told .given .1,
+      sym (c .before .before .before .before .judge-place .ensures) ∙
+          c .before .before .enum-told2 .given .1,
+      le-ltb _ _ (c .if1 .left),
+    )
 
 pub judge-save-spec : {M : Type 1} → statement M
 judge-save-spec =

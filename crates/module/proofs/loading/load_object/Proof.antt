@@ -18,16 +18,39 @@ enum-told : tie.Need-enum-told
 enum-told c = search needs
 
 count-of-requires : tie.Need-count-of-requires
-count-of-requires c κs = let g = load-good (c .before .before .before .before .before .args .order) (c .before .before .before .before .before .args .memory .now) (c .before .before .before .before .before .args .file .now) (c .before .before .before .before .before .args .address .0) (sym (c .before .before .judge-load .ensures) ∙ c .enum-told .given .1) in omega (arith, g .format .whole)
+count-of-requires c κs =
+    let g = load-good (c .before .before .before .before .before .args .order) (c .before .before .before .before .before .args .memory .now)
+    (c .before .before .before .before .before .args .file .now) (c .before .before .before .before .before .args .address .0) (sym
+    (c .before .before .judge-load .ensures) ∙ c .enum-told .given .1) in omega (arith, g .format .whole)
 
 shared-slice-read-copy-cells : tie.Need-shared-slice-read-copy-cells
-shared-slice-read-copy-cells c = let g = load-good (c .before .before .before .before .before .before .before .args .order) (c .before .before .before .before .before .before .before .args .memory .now) (c .before .before .before .before .before .before .before .args .file .now) (c .before .before .before .before .before .before .before .args .address .0) (sym (c .before .before .before .before .judge-load .ensures) ∙ c .before .before .enum-told .given .1) in omega (arith, g .format .whole)
+shared-slice-read-copy-cells c =
+    let g = load-good (c .before .before .before .before .before .before .before .args .order)
+    (c .before .before .before .before .before .before .before .args .memory .now) (c .before .before .before .before .before .before .before .args .file .now)
+    (c .before .before .before .before .before .before .before .args .address .0) (sym (c .before .before .before .before .judge-load .ensures) ∙
+    c .before .before .enum-told .given .1) in omega (arith, g .format .whole)
 
 code-of-requires : tie.Need-code-of-requires
-code-of-requires c κs = let g = load-good (c .before .before .before .before .before .before .before .args .order) (c .before .before .before .before .before .before .before .args .memory .now) (c .before .before .before .before .before .before .before .args .file .now) (c .before .before .before .before .before .before .before .args .address .0) (sym (c .before .before .before .before .judge-load .ensures) ∙ c .before .before .enum-told .given .1) in omega (arith, g .format .whole)
+code-of-requires c κs =
+    let g = load-good (c .before .before .before .before .before .before .before .args .order)
+    (c .before .before .before .before .before .before .before .args .memory .now) (c .before .before .before .before .before .before .before .args .file .now)
+    (c .before .before .before .before .before .before .before .args .address .0) (sym (c .before .before .before .before .judge-load .ensures) ∙
+    c .before .before .enum-told .given .1) in omega (arith, g .format .whole)
 
 copy-cells-requires : tie.Need-copy-cells-requires
-copy-cells-requires c κs = let g = load-good (c .before .before .before .before .before .before .before .before .before .args .order) (c .before .before .before .before .before .before .before .before .before .args .memory .now) (c .before .before .before .before .before .before .before .before .before .args .file .now) (c .before .before .before .before .before .before .before .before .before .args .address .0) (sym (c .before .before .before .before .before .before .judge-load .ensures) ∙ c .before .before .before .before .enum-told .given .1) in rw (c .before .before .before .count-of .ensures, c .before .code-of .ensures) (simp length-drop (omega (arith, g .format .whole)), omega (arith, g .place .room))
+copy-cells-requires c κs =
+    let g = load-good (c .before .before .before .before .before .before .before .before .before .args .order)
+    (c .before .before .before .before .before .before .before .before .before .args .memory .now)
+    (c .before .before .before .before .before .before .before .before .before .args .file .now)
+    (c .before .before .before .before .before .before .before .before .before .args .address .0) (sym
+    (c .before .before .before .before .before .before .judge-load .ensures) ∙ c .before .before .before .before .enum-told .given .1) in rw
+    (c .before .before .before .count-of .ensures, c .before .code-of .ensures) (
+      simp length-drop (omega (arith, g .format .whole)),
+      omega (
+        arith,
+        g .place .room,
+      ),
+    )
 
 returns : tie.Need-returns
 unfolding answers.loadOf
@@ -37,7 +60,15 @@ same-length : tie.Need-same-length
 same-length c = search needs
 
 returns-2 : tie.Need-returns-2
-returns-2 c = load-result (c .before .before .before .before .before .before .before .before .before .before .before .before .args .order) (c .before .before .before .before .before .before .before .before .before .before .before .before .args .memory .now) (c .before .before .before .before .before .before .before .before .before .before .before .before .args .file .now) (c .before .before .before .before .before .before .before .before .before .before .before .before .args .address .0) (c .before .before .before .before .before .before .count-of .result) _ _ (sym (c .before .before .before .before .before .before .before .before .before .judge-load .ensures) ∙ c .before .before .before .before .before .before .before .enum-told .given .1) (c .before .before .before .before .before .before .count-of .ensures) (c .before .before .before .before .code-of .ensures) (c .before .before .copy-cells .ensures)
+returns-2 c =
+    load-result (c .before .before .before .before .before .before .before .before .before .before .before .before .args .order)
+    (c .before .before .before .before .before .before .before .before .before .before .before .before .args .memory .now)
+    (c .before .before .before .before .before .before .before .before .before .before .before .before .args .file .now)
+    (c .before .before .before .before .before .before .before .before .before .before .before .before .args .address .0)
+    (c .before .before .before .before .before .before .count-of .result) _ _ (sym
+    (c .before .before .before .before .before .before .before .before .before .judge-load .ensures) ∙
+    c .before .before .before .before .before .before .before .enum-told .given .1) (c .before .before .before .before .before .before .count-of .ensures)
+    (c .before .before .before .before .code-of .ensures) (c .before .before .copy-cells .ensures)
 
 pub load-object-spec : {M : Type 1} → statement M
 load-object-spec =

@@ -21,30 +21,84 @@ enum-told : tie.Need-enum-told
 enum-told c = search needs
 
 write-header-requires : tie.Need-write-header-requires
-write-header-requires c κs = let g = save-good (c .before .before .before .before .before .before .args .order) (c .before .before .before .before .before .before .args .memory .now) (c .before .before .before .before .before .before .args .address .0) (c .before .before .before .before .before .before .args .cells .0) (c .before .before .before .before .before .before .args .output .now) (sym (c .before .before .before .judge-save .ensures) ∙ c .before .enum-told .given .1) in omega (arith, g .room)
+write-header-requires c κs =
+    let g = save-good (c .before .before .before .before .before .before .args .order) (c .before .before .before .before .before .before .args .memory .now)
+    (c .before .before .before .before .before .before .args .address .0) (c .before .before .before .before .before .before .args .cells .0)
+    (c .before .before .before .before .before .before .args .output .now) (sym (c .before .before .before .judge-save .ensures) ∙
+    c .before .enum-told .given .1) in omega (arith, g .room)
 
 cast-at : tie.Need-cast-at
 cast-at c = search needs
 
 sub-copy-cells : tie.Need-sub-copy-cells
-sub-copy-cells c = let g = save-good (c .before .before .before .before .before .before .before .before .before .before .args .order) (c .before .before .before .before .before .before .before .before .before .before .args .memory .now) (c .before .before .before .before .before .before .before .before .before .before .args .address .0) (c .before .before .before .before .before .before .before .before .before .before .args .cells .0) (c .before .before .before .before .before .before .before .before .before .before .args .output .now) (sym (c .before .before .before .before .before .before .before .judge-save .ensures) ∙ c .before .before .before .before .before .enum-told .given .1) in omega (arith, g .place .inside)
+sub-copy-cells c =
+    let g = save-good (c .before .before .before .before .before .before .before .before .before .before .args .order)
+    (c .before .before .before .before .before .before .before .before .before .before .args .memory .now)
+    (c .before .before .before .before .before .before .before .before .before .before .args .address .0)
+    (c .before .before .before .before .before .before .before .before .before .before .args .cells .0)
+    (c .before .before .before .before .before .before .before .before .before .before .args .output .now) (sym
+    (c .before .before .before .before .before .before .before .judge-save .ensures) ∙ c .before .before .before .before .before .enum-told .given .1) in omega
+    (arith, g .place .inside)
 
 part-copy-cells-start : tie.Need-part-copy-cells-start
-part-copy-cells-start c = let g = save-good (c .before .before .before .before .before .before .before .before .before .before .args .order) (c .before .before .before .before .before .before .before .before .before .before .args .memory .now) (c .before .before .before .before .before .before .before .before .before .before .args .address .0) (c .before .before .before .before .before .before .before .before .before .before .args .cells .0) (c .before .before .before .before .before .before .before .before .before .before .args .output .now) (sym (c .before .before .before .before .before .before .before .judge-save .ensures) ∙ c .before .before .before .before .before .enum-told .given .1) in omega (arith, g .place .inside)
+part-copy-cells-start c =
+    let g = save-good (c .before .before .before .before .before .before .before .before .before .before .args .order)
+    (c .before .before .before .before .before .before .before .before .before .before .args .memory .now)
+    (c .before .before .before .before .before .before .before .before .before .before .args .address .0)
+    (c .before .before .before .before .before .before .before .before .before .before .args .cells .0)
+    (c .before .before .before .before .before .before .before .before .before .before .args .output .now) (sym
+    (c .before .before .before .before .before .before .before .judge-save .ensures) ∙ c .before .before .before .before .before .enum-told .given .1) in omega
+    (arith, g .place .inside)
 
 part-copy-cells-end : tie.Need-part-copy-cells-end
 part-copy-cells-end c = search needs
 
 copy-cells-requires : tie.Need-copy-cells-requires
-copy-cells-requires c κs = let g = save-good (c .before .before .before .before .before .before .before .before .before .before .before .before .args .order) (c .before .before .before .before .before .before .before .before .before .before .before .before .args .memory .now) (c .before .before .before .before .before .before .before .before .before .before .before .before .args .address .0) (c .before .before .before .before .before .before .before .before .before .before .before .before .args .cells .0) (c .before .before .before .before .before .before .before .before .before .before .before .before .args .output .now) (sym (c .before .before .before .before .before .before .before .before .before .judge-save .ensures) ∙ c .before .before .before .before .before .before .before .enum-told .given .1) in
-    let t = take-all (length (c .before .before .before .before .before .before .before .before .before .before .before .before .args .memory .now) - c .before .before .before .before .before .before .before .before .before .before .before .before .args .address .0) (drop (c .before .before .before .before .before .before .before .before .before .before .before .before .args .address .0) (c .before .before .before .before .before .before .before .before .before .before .before .before .args .memory .now)) (simp length-drop (omega arith)) in
+copy-cells-requires c κs =
+    let g = save-good (c .before .before .before .before .before .before .before .before .before .before .before .before .args .order)
+    (c .before .before .before .before .before .before .before .before .before .before .before .before .args .memory .now)
+    (c .before .before .before .before .before .before .before .before .before .before .before .before .args .address .0)
+    (c .before .before .before .before .before .before .before .before .before .before .before .before .args .cells .0)
+    (c .before .before .before .before .before .before .before .before .before .before .before .before .args .output .now) (sym
+    (c .before .before .before .before .before .before .before .before .before .judge-save .ensures) ∙
+    c .before .before .before .before .before .before .before .enum-told .given .1) in
+    let t =
+    take-all (length (c .before .before .before .before .before .before .before .before .before .before .before .before .args .memory .now) -
+    c .before .before .before .before .before .before .before .before .before .before .before .before .args .address .0) (drop
+    (c .before .before .before .before .before .before .before .before .before .before .before .before .args .address .0)
+    (c .before .before .before .before .before .before .before .before .before .before .before .before .args .memory .now)) (simp length-drop (omega arith))
+    in
     (rw t (simp length-drop (omega (arith, g .place .room))), omega (arith, g .room, c .before .before .before .before .before .write-header .kept .1 .1 .0))
 
 mul-t22 : tie.Need-mul-t22
-mul-t22 c = let g = save-good (c .before .before .before .before .before .before .before .before .before .before .before .before .before .before .before .before .args .order) (c .before .before .before .before .before .before .before .before .before .before .before .before .before .before .before .before .args .memory .now) (c .before .before .before .before .before .before .before .before .before .before .before .before .before .before .before .before .args .address .0) (c .before .before .before .before .before .before .before .before .before .before .before .before .before .before .before .before .args .cells .0) (c .before .before .before .before .before .before .before .before .before .before .before .before .before .before .before .before .args .output .now) (sym (c .before .before .before .before .before .before .before .before .before .before .before .before .before .judge-save .ensures) ∙ c .before .before .before .before .before .before .before .before .before .before .before .enum-told .given .1) in omega (arith, g .place .room, g .machine .lent .most)
+mul-t22 c =
+    let g = save-good
+    (c .before .before .before .before .before .before .before .before .before .before .before .before .before .before .before .before .args .order)
+    (c .before .before .before .before .before .before .before .before .before .before .before .before .before .before .before .before .args .memory .now)
+    (c .before .before .before .before .before .before .before .before .before .before .before .before .before .before .before .before .args .address .0)
+    (c .before .before .before .before .before .before .before .before .before .before .before .before .before .before .before .before .args .cells .0)
+    (c .before .before .before .before .before .before .before .before .before .before .before .before .before .before .before .before .args .output .now) (sym
+    (c .before .before .before .before .before .before .before .before .before .before .before .before .before .judge-save .ensures) ∙
+    c .before .before .before .before .before .before .before .before .before .before .before .enum-told .given .1) in omega (
+      arith,
+      g .place .room,
+      g .machine .lent .most,
+    )
 
 add-t23 : tie.Need-add-t23
-add-t23 c = let g = save-good (c .before .before .before .before .before .before .before .before .before .before .before .before .before .before .before .before .args .order) (c .before .before .before .before .before .before .before .before .before .before .before .before .before .before .before .before .args .memory .now) (c .before .before .before .before .before .before .before .before .before .before .before .before .before .before .before .before .args .address .0) (c .before .before .before .before .before .before .before .before .before .before .before .before .before .before .before .before .args .cells .0) (c .before .before .before .before .before .before .before .before .before .before .before .before .before .before .before .before .args .output .now) (sym (c .before .before .before .before .before .before .before .before .before .before .before .before .before .judge-save .ensures) ∙ c .before .before .before .before .before .before .before .before .before .before .before .enum-told .given .1) in omega (arith, g .place .room, g .machine .lent .most)
+add-t23 c =
+    let g = save-good
+    (c .before .before .before .before .before .before .before .before .before .before .before .before .before .before .before .before .args .order)
+    (c .before .before .before .before .before .before .before .before .before .before .before .before .before .before .before .before .args .memory .now)
+    (c .before .before .before .before .before .before .before .before .before .before .before .before .before .before .before .before .args .address .0)
+    (c .before .before .before .before .before .before .before .before .before .before .before .before .before .before .before .before .args .cells .0)
+    (c .before .before .before .before .before .before .before .before .before .before .before .before .before .before .before .before .args .output .now) (sym
+    (c .before .before .before .before .before .before .before .before .before .before .before .before .before .judge-save .ensures) ∙
+    c .before .before .before .before .before .before .before .before .before .before .before .enum-told .given .1) in omega (
+      arith,
+      g .place .room,
+      g .machine .lent .most,
+    )
 
 returns : tie.Need-returns
 unfolding answers.saveOf
@@ -55,7 +109,22 @@ same-length c = search needs
 
 returns-2 : tie.Need-returns-2
 unfolding mem.Bytewise
-returns-2 c = save-result (c .before .before .before .before .before .before .before .before .before .before .before .before .before .before .before .before .args .order) (c .before .before .before .before .before .before .before .before .before .before .before .before .before .before .before .before .args .memory .now) (c .before .before .before .before .before .before .before .before .before .before .before .before .before .before .before .before .args .address .0) (c .before .before .before .before .before .before .before .before .before .before .before .before .before .before .before .before .args .cells .0) (c .before .before .before .before .before .before .before .before .before .before .before .before .before .before .before .before .args .output .now) _ _ _ (sym (c .before .before .before .before .before .before .before .before .before .before .before .before .before .judge-save .ensures) ∙ c .before .before .before .before .before .before .before .before .before .before .before .enum-told .given .1) (λ i. c .before .before .before .before .before .before .before .before .before .before .before .before .before .before .before .shared-slice-known .given i .fits) (take-all (length (c .before .before .before .before .before .before .before .before .before .before .before .before .before .before .before .before .args .memory .now) - c .before .before .before .before .before .before .before .before .before .before .before .before .before .before .before .before .args .address .0) (drop (c .before .before .before .before .before .before .before .before .before .before .before .before .before .before .before .before .args .address .0) (c .before .before .before .before .before .before .before .before .before .before .before .before .before .before .before .before .args .memory .now)) (simp length-drop (omega arith))) (c .before .before .before .before .before .before .before .before .before .write-header .ensures) (c .before .before .before .copy-cells .ensures)
+returns-2 c =
+    save-result (c .before .before .before .before .before .before .before .before .before .before .before .before .before .before .before .before .args .order)
+    (c .before .before .before .before .before .before .before .before .before .before .before .before .before .before .before .before .args .memory .now)
+    (c .before .before .before .before .before .before .before .before .before .before .before .before .before .before .before .before .args .address .0)
+    (c .before .before .before .before .before .before .before .before .before .before .before .before .before .before .before .before .args .cells .0)
+    (c .before .before .before .before .before .before .before .before .before .before .before .before .before .before .before .before .args .output .now) _ _ _
+    (sym (c .before .before .before .before .before .before .before .before .before .before .before .before .before .judge-save .ensures) ∙
+    c .before .before .before .before .before .before .before .before .before .before .before .enum-told .given .1) (λ i.
+    c .before .before .before .before .before .before .before .before .before .before .before .before .before .before .before .shared-slice-known .given
+    i .fits) (take-all (length
+    (c .before .before .before .before .before .before .before .before .before .before .before .before .before .before .before .before .args .memory .now) -
+    c .before .before .before .before .before .before .before .before .before .before .before .before .before .before .before .before .args .address .0) (drop
+    (c .before .before .before .before .before .before .before .before .before .before .before .before .before .before .before .before .args .address .0)
+    (c .before .before .before .before .before .before .before .before .before .before .before .before .before .before .before .before .args .memory .now))
+    (simp length-drop (omega arith))) (c .before .before .before .before .before .before .before .before .before .write-header .ensures)
+    (c .before .before .before .copy-cells .ensures)
 
 pub save-object-spec : {M : Type 1} → statement M
 save-object-spec =

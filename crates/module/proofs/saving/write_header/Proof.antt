@@ -37,7 +37,9 @@ same-length : tie.Need-same-length
 same-length c = c .before .before .store-at .kept .1 .0 ∙ simp length-set
 
 returns : tie.Need-returns
-returns c = c .before .before .store-at .ensures ∙ header-written (c .before .before .before .before .before .args .order) (c .before .before .before .before .before .args .output .now) (c .before .before .before .before .before .args .cells .0) (omega arith)
+returns c =
+    c .before .before .store-at .ensures ∙ header-written (c .before .before .before .before .before .args .order)
+    (c .before .before .before .before .before .args .output .now) (c .before .before .before .before .before .args .cells .0) (omega arith)
 
 pub write-header-spec : {M : Type 1} → statement M
 write-header-spec =

@@ -38,7 +38,13 @@ fail-one-requires-2 c κs = (_, c .enum-told2 .given .1)
 
 returns-2 : tie.Need-returns-2
 unfolding plain.plainOf
-returns-2 c = simp (sym (c .before .before .before .before .before .before .before .before .fetch .ensures) ∙ c .before .before .before .before .before .before .got .given .1, rw (c .before .before .before .before .add .ensures) at (sym (c .before .before .before .fetch2 .ensures) ∙ c .before .enum-told2 .given .1)) (c .fail-one2 .ensures ∙ ap plain.failed (c .before .enum-told2 .given .1))
+returns-2 c =
+    simp (
+      sym (c .before .before .before .before .before .before .before .before .fetch .ensures) ∙
+          c .before .before .before .before .before .before .got .given .1,
+      rw (c .before .before .before .before .add .ensures) at (sym
+          (c .before .before .before .fetch2 .ensures) ∙ c .before .enum-told2 .given .1),
+    ) (c .fail-one2 .ensures ∙ ap plain.failed (c .before .enum-told2 .given .1))
 
 lesser-of-requires : tie.Need-lesser-of-requires
 lesser-of-requires c κs = search needs
@@ -48,7 +54,15 @@ reduce-requires c κs = search needs
 
 returns-3 : tie.Need-returns-3
 unfolding plain.plainOf
-returns-3 c = simp (sym (c .before .before .before .before .before .before .before .before .before .before .fetch .ensures) ∙ c .before .before .before .before .before .before .before .before .got .given .1, rw (c .before .before .before .before .before .before .add .ensures) at (sym (c .before .before .before .before .before .fetch2 .ensures) ∙ c .before .before .before .got2 .given .1)) (c .reduce .ensures ∙ ap (plain.reduces (c .before .before .before .before .before .before .before .before .before .before .before .before .args .r .sp) (c .before .before .before .before .before .before .before .before .before .before .before .before .args .r .rp)) (c .before .lesser-of .ensures))
+returns-3 c =
+    simp (
+      sym (c .before .before .before .before .before .before .before .before .before .before .fetch .ensures) ∙
+          c .before .before .before .before .before .before .before .before .got .given .1,
+      rw (c .before .before .before .before .before .before .add .ensures) at
+          (sym (c .before .before .before .before .before .fetch2 .ensures) ∙ c .before .before .before .got2 .given .1),
+    ) (c .reduce .ensures ∙ ap (plain.reduces
+    (c .before .before .before .before .before .before .before .before .before .before .before .before .args .r .sp)
+    (c .before .before .before .before .before .before .before .before .before .before .before .before .args .r .rp)) (c .before .lesser-of .ensures))
 
 pub min-spec : {M : Type 1} → statement M
 min-spec =

@@ -29,7 +29,10 @@ replace-requires c κs = search needs
 
 returns-2 : tie.Need-returns-2
 unfolding plain.plainOf
-returns-2 c = simp (sym (c .before .before .before .before .before .fetch .ensures) ∙ c .before .before .before .got .given .1) (c .replace .ensures ∙ ap (plain.replaces (c .before .before .before .before .before .before .before .args .r .sp) (c .before .before .before .before .before .before .before .args .r .rp)) (c .before .subtract .ensures))
+returns-2 c =
+    simp (sym (c .before .before .before .before .before .fetch .ensures) ∙ c .before .before .before .got .given .1) (c .replace .ensures ∙ ap (plain.replaces
+    (c .before .before .before .before .before .before .before .args .r .sp) (c .before .before .before .before .before .before .before .args .r .rp))
+    (c .before .subtract .ensures))
 
 pub one-minus-spec : {M : Type 1} → statement M
 one-minus-spec =

@@ -40,14 +40,28 @@ fail-one-requires-2 c κs = (_, c .enum-told2 .given .1)
 
 returns-2 : tie.Need-returns-2
 unfolding plain.plainOf
-returns-2 c = simp (sym (c .before .before .before .before .before .before .before .before .fetch .ensures) ∙ c .before .before .before .before .before .before .got .given .1, rw (c .before .before .before .before .add .ensures) at (sym (c .before .before .before .fetch2 .ensures) ∙ c .before .enum-told2 .given .1)) (c .fail-one2 .ensures ∙ ap plain.failed (c .before .enum-told2 .given .1))
+returns-2 c =
+    simp (
+      sym (c .before .before .before .before .before .before .before .before .fetch .ensures) ∙
+          c .before .before .before .before .before .before .got .given .1,
+      rw (c .before .before .before .before .add .ensures) at (sym
+          (c .before .before .before .fetch2 .ensures) ∙ c .before .enum-told2 .given .1),
+    ) (c .fail-one2 .ensures ∙ ap plain.failed (c .before .enum-told2 .given .1))
 
 fail-one-requires-3 : tie.Need-fail-one-requires-3
 fail-one-requires-3 c κs = (_, refl)
 
 returns-3 : tie.Need-returns-3
 unfolding plain.plainOf
-returns-3 c = simp (sym (c .before .before .before .before .before .before .before .before .before .before .fetch .ensures) ∙ c .before .before .before .before .before .before .before .before .got .given .1, rw (c .before .before .before .before .before .before .add .ensures) at (sym (c .before .before .before .before .before .fetch2 .ensures) ∙ c .before .before .before .got2 .given .1), eq-eqb _ _ (c .before .if1 .taken)) (c .fail-one3 .ensures)
+returns-3 c =
+    simp (
+      sym (c .before .before .before .before .before .before .before .before .before .before .fetch .ensures) ∙
+          c .before .before .before .before .before .before .before .before .got .given .1,
+      rw (c .before .before .before .before .before .before .add .ensures) at
+          (sym (c .before .before .before .before .before .fetch2 .ensures) ∙ c .before .before .before .got2 .given .1),
+      eq-eqb _ _ (c .before .if1 .taken),
+    )
+    (c .fail-one3 .ensures)
 
 divide-floored-requires : tie.Need-divide-floored-requires
 divide-floored-requires c κs = search needs
@@ -57,7 +71,18 @@ reduce-requires c κs = search needs
 
 returns-4 : tie.Need-returns-4
 unfolding plain.plainOf
-returns-4 c = simp (sym (c .before .before .before .before .before .before .before .before .before .before .before .fetch .ensures) ∙ c .before .before .before .before .before .before .before .before .before .got .given .1, rw (c .before .before .before .before .before .before .before .add .ensures) at (sym (c .before .before .before .before .before .before .fetch2 .ensures) ∙ c .before .before .before .before .got2 .given .1), ne-eqb _ _ (c .before .before .if1 .left)) (c .reduce .ensures ∙ ap (plain.reduces (c .before .before .before .before .before .before .before .before .before .before .before .before .before .args .r .sp) (c .before .before .before .before .before .before .before .before .before .before .before .before .before .args .r .rp)) (ap (λ (q : Quotient). q .quotient) (c .before .divide-floored .ensures)))
+returns-4 c =
+    simp (
+      sym (c .before .before .before .before .before .before .before .before .before .before .before .fetch .ensures) ∙
+          c .before .before .before .before .before .before .before .before .before .got .given .1,
+      rw
+          (c .before .before .before .before .before .before .before .add .ensures) at (sym (c .before .before .before .before .before .before .fetch2 .ensures) ∙
+          c .before .before .before .before .got2 .given .1),
+      ne-eqb _ _ (c .before .before .if1 .left),
+    ) (c .reduce .ensures ∙ ap (plain.reduces
+    (c .before .before .before .before .before .before .before .before .before .before .before .before .before .args .r .sp)
+    (c .before .before .before .before .before .before .before .before .before .before .before .before .before .args .r .rp)) (ap (λ (q : Quotient).
+    q .quotient) (c .before .divide-floored .ensures)))
 
 pub slash-spec : {M : Type 1} → statement M
 slash-spec =

@@ -39,14 +39,28 @@ fail-two-requires-2 c κs = (_, c .enum-told2 .given .1)
 
 returns-2 : tie.Need-returns-2
 unfolding plain.plainOf
-returns-2 c = simp (sym (c .before .before .before .before .before .before .before .before .fetch .ensures) ∙ c .before .before .before .before .before .before .got .given .1, rw (c .before .before .before .before .add .ensures) at (sym (c .before .before .before .fetch2 .ensures) ∙ c .before .enum-told2 .given .1)) (c .fail-two2 .ensures ∙ ap plain.failed (c .before .enum-told2 .given .1))
+returns-2 c =
+    simp (
+      sym (c .before .before .before .before .before .before .before .before .fetch .ensures) ∙
+          c .before .before .before .before .before .before .got .given .1,
+      rw (c .before .before .before .before .add .ensures) at (sym
+          (c .before .before .before .fetch2 .ensures) ∙ c .before .enum-told2 .given .1),
+    ) (c .fail-two2 .ensures ∙ ap plain.failed (c .before .enum-told2 .given .1))
 
 fail-two-requires-3 : tie.Need-fail-two-requires-3
 fail-two-requires-3 c κs = (_, refl)
 
 returns-3 : tie.Need-returns-3
 unfolding plain.plainOf
-returns-3 c = simp (sym (c .before .before .before .before .before .before .before .before .before .before .fetch .ensures) ∙ c .before .before .before .before .before .before .before .before .got .given .1, rw (c .before .before .before .before .before .before .add .ensures) at (sym (c .before .before .before .before .before .fetch2 .ensures) ∙ c .before .before .before .got2 .given .1), eq-eqb _ _ (c .before .if1 .taken)) (c .fail-two3 .ensures)
+returns-3 c =
+    simp (
+      sym (c .before .before .before .before .before .before .before .before .before .before .fetch .ensures) ∙
+          c .before .before .before .before .before .before .before .before .got .given .1,
+      rw (c .before .before .before .before .before .before .add .ensures) at
+          (sym (c .before .before .before .before .before .fetch2 .ensures) ∙ c .before .before .before .got2 .given .1),
+      eq-eqb _ _ (c .before .if1 .taken),
+    )
+    (c .fail-two3 .ensures)
 
 divide-floored-requires : tie.Need-divide-floored-requires
 divide-floored-requires c κs = search needs
@@ -56,7 +70,18 @@ replace-both-requires c κs = search needs
 
 returns-4 : tie.Need-returns-4
 unfolding plain.plainOf
-returns-4 c = simp (sym (c .before .before .before .before .before .before .before .before .before .before .before .fetch .ensures) ∙ c .before .before .before .before .before .before .before .before .before .got .given .1, rw (c .before .before .before .before .before .before .before .add .ensures) at (sym (c .before .before .before .before .before .before .fetch2 .ensures) ∙ c .before .before .before .before .got2 .given .1), ne-eqb _ _ (c .before .before .if1 .left)) (c .replace-both .ensures ∙ ap (plain.dividedBoth (c .before .before .before .before .before .before .before .before .before .before .before .before .before .args .r .sp) (c .before .before .before .before .before .before .before .before .before .before .before .before .before .args .r .rp)) (c .before .divide-floored .ensures))
+returns-4 c =
+    simp (
+      sym (c .before .before .before .before .before .before .before .before .before .before .before .fetch .ensures) ∙
+          c .before .before .before .before .before .before .before .before .before .got .given .1,
+      rw
+          (c .before .before .before .before .before .before .before .add .ensures) at (sym (c .before .before .before .before .before .before .fetch2 .ensures) ∙
+          c .before .before .before .before .got2 .given .1),
+      ne-eqb _ _ (c .before .before .if1 .left),
+    ) (c .replace-both .ensures ∙ ap (plain.dividedBoth
+    (c .before .before .before .before .before .before .before .before .before .before .before .before .before .args .r .sp)
+    (c .before .before .before .before .before .before .before .before .before .before .before .before .before .args .r .rp))
+    (c .before .divide-floored .ensures))
 
 pub slash-mod-spec : {M : Type 1} → statement M
 slash-mod-spec =

@@ -88,7 +88,9 @@ returns-2 c =
     let cell-at = c .before .before .before .before .before .before .cell-at in
     let cell-at2 = c .before .before .before .before .before .cell-at2 in
     let operands-of = c .before .before .before .before .operands-of in
-    parts-judged (args .order) (args .file .now) (header-good (args .order) (args .file .now) (sym (judge-header .ensures) ∙ enum-told .given .1)) (cell-at .result) (cell-at2 .result) (operands-of .result) (cell-at .ensures) (cell-at2 .ensures) (operands-of .ensures .1) (args .size) _ (c .judge-pack .ensures)
+    parts-judged (args .order) (args .file .now) (header-good (args .order) (args .file .now) (sym (judge-header .ensures) ∙ enum-told .given .1))
+    (cell-at .result) (cell-at2 .result) (operands-of .result) (cell-at .ensures) (cell-at2 .ensures) (operands-of .ensures .1) (args .size) _
+    (c .judge-pack .ensures)
 
 pub judge-pack-file-spec : {M : Type 1} → statement M
 judge-pack-file-spec =

@@ -35,7 +35,8 @@ returns c =
     let read-operands = c .before .read-operands in
     let cell-at = c .before .before .before .cell-at in
     let pre-here = c .before .before .before .before .before .pre in
-    operands-back (args .file .now) (replicate 4096 0) (read-operands .last .1 .1 .0) (cell-at .result) (cell-at .result - 0) (pre-here) (cell-at .ensures) (omega arith) refl (read-operands .kept .1 .1 .0) (read-operands .ensures)
+    operands-back (args .file .now) (replicate 4096 0) (read-operands .last .1 .1 .0) (cell-at .result) (cell-at .result - 0) (pre-here) (cell-at .ensures)
+    (omega arith) refl (read-operands .kept .1 .1 .0) (read-operands .ensures)
 
 pub operands-of-spec : {M : Type 1} → statement M
 operands-of-spec =

@@ -159,7 +159,8 @@ put-operand-requires c κs =
     let step = loop .inv in
     let h : i - 1 < length (a .kinds .now) = omega (arith, step .inside, loop-test .taken) in
     let next = step-down (a .order) (a .base .0) l (a .out .now) (loop .out) (loop .rest) i (omega (arith, loop-test .taken)) step in
-    operand-room (a .order) (a .base .0) l (a .out .now) (pre .1 .1 .1 .1 .1) (loop .out) (loop .rest) (i - 1) h next (c .before .pack-item .result .form) (getD (a .nexts .now) (i - 1) 0) (some-item l (pre .0 .input) .1) (c .before .pack-item .ensures .0
+    operand-room (a .order) (a .base .0) l (a .out .now) (pre .1 .1 .1 .1 .1) (loop .out) (loop .rest) (i - 1) h next (c .before .pack-item .result .form) (getD
+    (a .nexts .now) (i - 1) 0) (some-item l (pre .0 .input) .1) (c .before .pack-item .ensures .0
     ∙ form-is (a .base .0) l (pre .0 .input) (a .marks .now) (a .ats .now) (a .nexts .now) (a .lefts .now) (pre .1 .1 .1 .0) (pre .1
     .1 .0) (i - 1) h) (pre .1 .1 .1 .0 .next (i - 1) h)
 
@@ -189,15 +190,21 @@ mul-t20 c =
 
 shared-slice-read-t22 : tie.Need-shared-slice-read-t22 Inv-loop μ-loop
 shared-slice-read-t22 c =
-    let pre-here = c .before .before .before .before .before .before .before .before .before .before .before .before .before .before .before .before .before .before .before .before .before .before .pre in
+    let pre-here =
+    c .before .before .before .before .before .before .before .before .before .before .before .before .before .before .before .before .before .before .before .before .before .before .pre
+    in
     let loop = c .before .before .before .before .before .before .before .before .before .before .before .before .before .before .loop in
     let loop-test = c .before .before .before .before .before .before .before .before .before .before .before .before .before .loop-test in
     omega (arith, loop .inv .inside, loop-test .taken, pre-here .1 .0 .1)
 
 put-opened-requires : tie.Need-put-opened-requires Inv-loop μ-loop
 put-opened-requires c κs =
-    let args = c .before .before .before .before .before .before .before .before .before .before .before .before .before .before .before .before .before .before .before .before .before .before .args in
-    let pre-here = c .before .before .before .before .before .before .before .before .before .before .before .before .before .before .before .before .before .before .before .before .before .before .pre in
+    let args =
+    c .before .before .before .before .before .before .before .before .before .before .before .before .before .before .before .before .before .before .before .before .before .before .args
+    in
+    let pre-here =
+    c .before .before .before .before .before .before .before .before .before .before .before .before .before .before .before .before .before .before .before .before .before .before .pre
+    in
     let loop = c .before .before .before .before .before .before .before .before .before .before .before .before .before .before .loop in
     let loop-test = c .before .before .before .before .before .before .before .before .before .before .before .before .before .loop-test in
     let put-operand = c .before .before .before .before .before .put-operand in
@@ -218,8 +225,12 @@ loop-less c = omega arith
 loop-again : tie.Need-loop-again Inv-loop μ-loop
 unfolding flagged
 loop-again c =
-    let args = c .before .before .before .before .before .before .before .before .before .before .before .before .before .before .before .before .before .before .before .before .before .before .before .before .before .args in
-    let pre-here = c .before .before .before .before .before .before .before .before .before .before .before .before .before .before .before .before .before .before .before .before .before .before .before .before .before .pre in
+    let args =
+    c .before .before .before .before .before .before .before .before .before .before .before .before .before .before .before .before .before .before .before .before .before .before .before .before .before .args
+    in
+    let pre-here =
+    c .before .before .before .before .before .before .before .before .before .before .before .before .before .before .before .before .before .before .before .before .before .before .before .before .before .pre
+    in
     let loop = c .before .before .before .before .before .before .before .before .before .before .before .before .before .before .before .before .before .loop in
     let loop-test = c .before .before .before .before .before .before .before .before .before .before .before .before .before .before .before .before .loop-test in
     let pack-item = c .before .before .before .before .before .before .before .before .before .before .pack-item in
@@ -254,7 +265,10 @@ returns c =
     let a = args in
     let pre = pre-here in
     let l = listed (a .kinds .now) (a .operands .now) in
-    write-end (a .order) (a .base .0) l (a .out .now) (pre .1 .1 .1 .1 .1) (c .before .loop .out) (c .before .loop .rest) (c .before .loop .i) (omega (arith, c .loop-test .left)) (c .before .loop .inv)
+    write-end (a .order) (a .base .0) l (a .out .now) (pre .1 .1 .1 .1 .1) (c .before .loop .out) (c .before .loop .rest) (c .before .loop .i) (omega (
+      arith,
+      c .loop-test .left,
+    )) (c .before .loop .inv)
 
 pub write-image-spec : {M : Type 1} → statement M
 write-image-spec =

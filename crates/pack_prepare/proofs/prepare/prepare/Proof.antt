@@ -10,8 +10,20 @@ find-entries-requires c κs = search needs
 settle-marks-requires : tie.Need-settle-marks-requires
 settle-marks-requires c κs =
     let pre-here = c .before .before .before .before .before .before .before .before .before .before .before .before .before .before .before .before .pre in
-    let find-entries = c .before .before .before .before .before .before .before .find-entries in
-    (pre-here .0, ((find-entries .kept .1 .1 .0 ∙ pre-here .1 .entries-length, pre-here .1 .marks-length), ((pre-here .1 .ats-length, pre-here .1 .nexts-length, pre-here .1 .lefts-length), find-entries .ensures)))
+    let find-entries = c .before .before .before .before .before .before .before .find-entries in (
+      pre-here .0,
+      (
+        (find-entries .kept .1 .1 .0 ∙ pre-here .1 .entries-length, pre-here .1 .marks-length),
+        (
+          (
+            pre-here .1 .ats-length,
+            pre-here .1 .nexts-length,
+            pre-here .1 .lefts-length,
+          ),
+          find-entries .ensures,
+        ),
+      ),
+    )
 
 same-length : tie.Need-same-length
 same-length c = search needs

@@ -30,7 +30,9 @@ returns-3 c = simp (c .before .match .keys3) (c .within2 .ensures)
 
 returns-4 : tie.Need-returns-4
 unfolding fits
-returns-4 c = let e : c .before .before .args .f ≡ 3 = three-left (c .before .before .args .f) (c .before .before .pre) (c .before .match .rest .0 .0 .1) (c .before .match .rest .0 .1) (c .before .match .rest .1) in rw e (c .within3 .ensures)
+returns-4 c =
+    let e : c .before .before .args .f ≡ 3 = three-left (c .before .before .args .f) (c .before .before .pre) (c .before .match .rest .0 .0 .1)
+    (c .before .match .rest .0 .1) (c .before .match .rest .1) in rw e (c .within3 .ensures)
 
 pub fits-in-spec : {M : Type 1} → statement M
 fits-in-spec =

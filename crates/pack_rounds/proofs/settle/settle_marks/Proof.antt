@@ -50,7 +50,9 @@ lay-out-requires c κs =
 
 mark-branches-requires : tie.Need-mark-branches-requires Inv-loop μ-loop
 mark-branches-requires c κs =
-    let pre-here = c .before .before .before .before .before .before .before .before .before .before .before .before .before .before .before .before .before .before .before .before .before .before .before .before .before .before .before .pre in
+    let pre-here =
+    c .before .before .before .before .before .before .before .before .before .before .before .before .before .before .before .before .before .before .before .before .before .before .before .before .before .before .before .pre
+    in
     let lay-out = c .before .before .before .before .before .before .before .before .before .before .lay-out in
     let loop = c .before .before .before .before .before .before .before .before .before .before .before .before .before .before .before .loop in (
       pre-here .0,
@@ -67,7 +69,9 @@ mark-branches-requires c κs =
 
 loop-less : tie.Need-loop-less Inv-loop μ-loop
 loop-less c =
-    let args = c .before .before .before .before .before .before .before .before .before .before .before .before .before .before .before .before .before .before .before .before .before .before .before .before .before .before .before .before .before .before .before .args in
+    let args =
+    c .before .before .before .before .before .before .before .before .before .before .before .before .before .before .before .before .before .before .before .before .before .before .before .before .before .before .before .before .before .before .before .args
+    in
     let loop = c .before .before .before .before .before .before .before .before .before .before .before .before .before .before .before .before .before .before .before .loop in
     let mark-branches = c .before .before .before .mark-branches in
     round-less (args .kinds .now) (args .operands .now) (loop .marks) (loop .ats) (loop .nexts) (loop .lefts) (loop .inv)
@@ -76,7 +80,9 @@ loop-less c =
 
 loop-again : tie.Need-loop-again Inv-loop μ-loop
 loop-again c =
-    let args = c .before .before .before .before .before .before .before .before .before .before .before .before .before .before .before .before .before .before .before .before .before .before .before .before .before .before .before .before .before .before .before .args in
+    let args =
+    c .before .before .before .before .before .before .before .before .before .before .before .before .before .before .before .before .before .before .before .before .before .before .before .before .before .before .before .before .before .before .before .args
+    in
     let loop = c .before .before .before .before .before .before .before .before .before .before .before .before .before .before .before .before .before .before .before .loop in
     let mark-branches = c .before .before .before .mark-branches in
     let lay-out = c .before .before .before .before .before .before .before .before .before .before .before .before .before .before .lay-out in
@@ -90,33 +96,43 @@ same-length : tie.Need-same-length Inv-loop μ-loop
 same-length c =
     let mark-branches = c .before .before .before .mark-branches in
     let loop = c .before .before .before .before .before .before .before .before .before .before .before .before .before .before .before .before .before .before .before .loop in
-    let pre-here = c .before .before .before .before .before .before .before .before .before .before .before .before .before .before .before .before .before .before .before .before .before .before .before .before .before .before .before .before .before .before .before .pre in
+    let pre-here =
+    c .before .before .before .before .before .before .before .before .before .before .before .before .before .before .before .before .before .before .before .before .before .before .before .before .before .before .before .before .before .before .before .pre
+    in
     (mark-branches .kept .1 .1 .1 .1 .1 .0) ∙ loop .inv .flags-length ∙ sym (pre-here .1 .0 .1)
 
 same-length-2 : tie.Need-same-length-2 Inv-loop μ-loop
 same-length-2 c =
     let lay-out = c .before .before .before .before .before .before .before .before .before .before .before .before .before .before .lay-out in
     let loop = c .before .before .before .before .before .before .before .before .before .before .before .before .before .before .before .before .before .before .before .loop in
-    let pre-here = c .before .before .before .before .before .before .before .before .before .before .before .before .before .before .before .before .before .before .before .before .before .before .before .before .before .before .before .before .before .before .before .pre in
+    let pre-here =
+    c .before .before .before .before .before .before .before .before .before .before .before .before .before .before .before .before .before .before .before .before .before .before .before .before .before .before .before .before .before .before .before .pre
+    in
     (lay-out .kept .1 .1 .1 .1 .0) ∙ loop .inv .ats-length ∙ sym (pre-here .1 .1 .0 .0)
 
 same-length-3 : tie.Need-same-length-3 Inv-loop μ-loop
 same-length-3 c =
     let lay-out = c .before .before .before .before .before .before .before .before .before .before .before .before .before .before .lay-out in
     let loop = c .before .before .before .before .before .before .before .before .before .before .before .before .before .before .before .before .before .before .before .loop in
-    let pre-here = c .before .before .before .before .before .before .before .before .before .before .before .before .before .before .before .before .before .before .before .before .before .before .before .before .before .before .before .before .before .before .before .pre in
+    let pre-here =
+    c .before .before .before .before .before .before .before .before .before .before .before .before .before .before .before .before .before .before .before .before .before .before .before .before .before .before .before .before .before .before .before .pre
+    in
     (lay-out .kept .1 .1 .1 .1 .1 .0) ∙ loop .inv .nexts-length ∙ sym (pre-here .1 .1 .0 .1)
 
 same-length-4 : tie.Need-same-length-4 Inv-loop μ-loop
 same-length-4 c =
     let lay-out = c .before .before .before .before .before .before .before .before .before .before .before .before .before .before .lay-out in
     let loop = c .before .before .before .before .before .before .before .before .before .before .before .before .before .before .before .before .before .before .before .loop in
-    let pre-here = c .before .before .before .before .before .before .before .before .before .before .before .before .before .before .before .before .before .before .before .before .before .before .before .before .before .before .before .before .before .before .before .pre in
+    let pre-here =
+    c .before .before .before .before .before .before .before .before .before .before .before .before .before .before .before .before .before .before .before .before .before .before .before .before .before .before .before .before .before .before .before .pre
+    in
     (lay-out .kept .1 .1 .1 .1 .1 .1 .0) ∙ loop .inv .lefts-length ∙ sym (pre-here .1 .1 .0 .2)
 
 returns : tie.Need-returns Inv-loop μ-loop
 returns c =
-    let args = c .before .before .before .before .before .before .before .before .before .before .before .before .before .before .before .before .before .before .before .before .before .before .before .before .before .before .before .before .before .before .before .args in
+    let args =
+    c .before .before .before .before .before .before .before .before .before .before .before .before .before .before .before .before .before .before .before .before .before .before .before .before .before .before .before .before .before .before .before .args
+    in
     let loop = c .before .before .before .before .before .before .before .before .before .before .before .before .before .before .before .before .before .before .before .loop in
     let mark-branches = c .before .before .before .mark-branches in
     let lay-out = c .before .before .before .before .before .before .before .before .before .before .before .before .before .before .lay-out in

@@ -34,7 +34,8 @@ returns-2 c =
     let count-cells = c .before .count-cells in
     let judge-input = c .before .before .before .before .judge-input in
     let enum-told = c .before .before .enum-told in
-    pack-counted (args .order) (args .kinds .now) (args .operands .now) (args .base .0) (args .size) (count-cells .result) _ (sym (judge-input .ensures) ∙ enum-told .given .1) (count-cells .ensures) (c .judge-image .ensures)
+    pack-counted (args .order) (args .kinds .now) (args .operands .now) (args .base .0) (args .size) (count-cells .result) _ (sym (judge-input .ensures) ∙
+    enum-told .given .1) (count-cells .ensures) (c .judge-image .ensures)
 
 pub judge-pack-spec : {M : Type 1} → statement M
 judge-pack-spec =

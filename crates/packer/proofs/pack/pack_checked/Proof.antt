@@ -15,7 +15,9 @@ prepare-requires c κs = search needs
 judge-image-requires : tie.Need-judge-image-requires
 judge-image-requires c κs =
     let prepare = c .before .before .before .before .before .before .before .before .before .before .prepare in
-    let pre-here = c .before .before .before .before .before .before .before .before .before .before .before .before .before .before .before .before .before .before .before .before .before .before .before .before .pre in
+    let pre-here =
+    c .before .before .before .before .before .before .before .before .before .before .before .before .before .before .before .before .before .before .before .before .before .before .before .before .pre
+    in
     rw (prepare .ensures .0) (cells-most _ _ (pre-here .0))
 
 enum-known-r : tie.Need-enum-known-r
@@ -26,15 +28,32 @@ enum-told c = search needs
 
 write-image-requires : tie.Need-write-image-requires
 write-image-requires c κs =
-    let pre-here = c .before .before .before .before .before .before .before .before .before .before .before .before .before .before .before .before .before .before .before .before .before .before .before .before .before .before .before .before .before .before .before .before .pre in
+    let pre-here =
+    c .before .before .before .before .before .before .before .before .before .before .before .before .before .before .before .before .before .before .before .before .before .before .before .before .before .before .before .before .before .before .before .before .pre
+    in
     let prepare = c .before .before .before .before .before .before .before .before .before .before .before .before .before .before .before .before .before .before .prepare in
-    let args = c .before .before .before .before .before .before .before .before .before .before .before .before .before .before .before .before .before .before .before .before .before .before .before .before .before .before .before .before .before .before .before .before .args in
+    let args =
+    c .before .before .before .before .before .before .before .before .before .before .before .before .before .before .before .before .before .before .before .before .before .before .before .before .before .before .before .before .before .before .before .before .args
+    in
     let judge-image = c .before .before .before .before .before .before .before .judge-image in
     let enum-told = c .before .before .before .before .before .enum-told in (
       pre-here .0,
       (
-        (prepare .kept .1 .1 .1 .0 ∙ pre-here .1 .marks-length, prepare .kept .1 .1 .1 .1 .0 ∙ pre-here .1 .ats-length, prepare .kept .1 .1 .1 .1 .1 .0 ∙ pre-here .1 .nexts-length, prepare .kept .1 .1 .1 .1 .1 .1 .0 ∙ pre-here .1 .lefts-length),
-        (prepare .ensures .1 .settled, (prepare .ensures .1 .laid, counted-fits (args .base .0) (length (args .output .now)) (listed (args .kinds .now) (args .operands .now)) (prepare .result) (prepare .ensures .0) (sym (judge-image .ensures) ∙ enum-told .given .1))),
+        (
+          prepare .kept .1 .1 .1 .0 ∙ pre-here .1 .marks-length,
+          prepare .kept .1 .1 .1 .1 .0 ∙ pre-here .1 .ats-length,
+          prepare .kept .1 .1 .1 .1 .1 .0 ∙
+              pre-here .1 .nexts-length,
+          prepare .kept .1 .1 .1 .1 .1 .1 .0 ∙ pre-here .1 .lefts-length,
+        ),
+        (
+          prepare .ensures .1 .settled,
+          (
+            prepare .ensures .1 .laid,
+            counted-fits (args .base .0) (length (args .output .now)) (listed (args .kinds .now)
+                (args .operands .now)) (prepare .result) (prepare .ensures .0) (sym (judge-image .ensures) ∙ enum-told .given .1),
+          ),
+        ),
       ),
     )
 
@@ -55,11 +74,14 @@ same-length-5 c = search needs
 
 returns : tie.Need-returns
 returns c =
-    let args = c .before .before .before .before .before .before .before .before .before .before .before .before .before .before .before .before .before .before .before .before .before .before .before .before .before .before .before .before .args in
+    let args =
+    c .before .before .before .before .before .before .before .before .before .before .before .before .before .before .before .before .before .before .before .before .before .before .before .before .before .before .before .before .args
+    in
     let prepare = c .before .before .before .before .before .before .before .before .before .before .before .before .before .before .prepare in
     let judge-image = c .before .before .before .judge-image in
     let r = c .before .r in
-    image-refused (args .order) (args .base .0) (listed (args .kinds .now) (args .operands .now)) (args .output .now) (prepare .result) (prepare .ensures .0) _ (sym (judge-image .ensures) ∙ r .given .1)
+    image-refused (args .order) (args .base .0) (listed (args .kinds .now) (args .operands .now)) (args .output .now) (prepare .result) (prepare .ensures .0) _
+    (sym (judge-image .ensures) ∙ r .given .1)
 
 same-length-6 : tie.Need-same-length-6
 same-length-6 c = search needs
@@ -81,12 +103,15 @@ same-length-11 c = search needs
 
 returns-2 : tie.Need-returns-2
 returns-2 c =
-    let args = c .before .before .before .before .before .before .before .before .before .before .before .before .before .before .before .before .before .before .before .before .before .before .before .before .before .before .before .before .before .before .before .before .before .before .before .args in
+    let args =
+    c .before .before .before .before .before .before .before .before .before .before .before .before .before .before .before .before .before .before .before .before .before .before .before .before .before .before .before .before .before .before .before .before .before .before .before .args
+    in
     let prepare = c .before .before .before .before .before .before .before .before .before .before .before .before .before .before .before .before .before .before .before .before .before .prepare in
     let judge-image = c .before .before .before .before .before .before .before .before .before .before .judge-image in
     let enum-told = c .before .before .before .before .before .before .before .before .enum-told in
     let write-image = c .before .before .write-image in
-    image-packed (args .order) (args .base .0) (listed (args .kinds .now) (args .operands .now)) (args .output .now) (prepare .result) (prepare .ensures .0) _ (sym (judge-image .ensures) ∙ enum-told .given .1) (write-image .ensures)
+    image-packed (args .order) (args .base .0) (listed (args .kinds .now) (args .operands .now)) (args .output .now) (prepare .result) (prepare .ensures .0) _
+    (sym (judge-image .ensures) ∙ enum-told .given .1) (write-image .ensures)
 
 pub pack-checked-spec : {M : Type 1} → statement M
 pack-checked-spec =

@@ -30,7 +30,12 @@ same-length c = search needs
 
 returns : tie.Need-returns
 unfolding cycles.startOf
-returns c = rw (← c .before .before .before .before .before .before .before .before .before .before .before .before .before .before .before .before .before .before .store .ensures) (rw (← c .before .before .before .before .before .before .before .before .before .before .before .before .before .before .store2 .ensures) (rw (← c .before .before .before .before .before .before .before .before .before .before .store3 .ensures) (rw (← c .before .before .before .before .before .before .store4 .ensures) (c .before .before .next .ensures))))
+returns c =
+    rw (←
+    c .before .before .before .before .before .before .before .before .before .before .before .before .before .before .before .before .before .before .store .ensures)
+    (rw (← c .before .before .before .before .before .before .before .before .before .before .before .before .before .before .store2 .ensures) (rw (←
+    c .before .before .before .before .before .before .before .before .before .before .store3 .ensures) (rw (←
+    c .before .before .before .before .before .before .store4 .ensures) (c .before .before .next .ensures))))
 
 pub begin-spec : {M : Type 1} → statement M
 begin-spec =

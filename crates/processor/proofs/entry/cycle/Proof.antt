@@ -20,7 +20,9 @@ enum-told : tie.Need-enum-told
 enum-told c = search needs
 
 run-cycles-requires : tie.Need-run-cycles-requires
-run-cycles-requires c κs = let p = passed (length (now (c .before .before .before .before .before .args .memory))) (c .before .before .before .before .before .args .order) (sym (c .before .before .before .judge-machine .ensures) ∙ c .before .enum-told .given .1) in (p .whole, omega (arith, p .least))
+run-cycles-requires c κs =
+    let p = passed (length (now (c .before .before .before .before .before .args .memory))) (c .before .before .before .before .before .args .order) (sym
+    (c .before .before .before .judge-machine .ensures) ∙ c .before .enum-told .given .1) in (p .whole, omega (arith, p .least))
 
 cycled-as-requires : tie.Need-cycled-as-requires
 cycled-as-requires c κs = search needs
@@ -34,7 +36,14 @@ same-length c = search needs
 
 returns-2 : tie.Need-returns-2
 unfolding answers.cycleAnswer
-returns-2 c = rw (sym (c .before .before .before .before .before .before .before .before .judge-machine .ensures) ∙ c .before .before .before .before .before .before .enum-told .given .1, c .cycled-as .ensures, ← one-cycle _ _ _ _ (c .before .before .before .before .run_cycles .ensures .1))
+returns-2 c =
+    rw (
+      sym (c .before .before .before .before .before .before .before .before .judge-machine .ensures) ∙
+          c .before .before .before .before .before .before .enum-told .given .1,
+      c .cycled-as .ensures,
+      ← one-cycle _ _ _ _
+          (c .before .before .before .before .run_cycles .ensures .1),
+    )
 
 pub cycle-spec : {M : Type 1} → statement M
 cycle-spec =

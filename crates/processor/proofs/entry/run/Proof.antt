@@ -19,7 +19,9 @@ enum-told : tie.Need-enum-told
 enum-told c = search needs
 
 run-cycles-requires : tie.Need-run-cycles-requires
-run-cycles-requires c κs = let p = passed (length (now (c .before .before .before .before .before .args .memory))) (c .before .before .before .before .before .args .order) (sym (c .before .before .before .judge-machine .ensures) ∙ c .before .enum-told .given .1) in (p .whole, omega (arith, p .least))
+run-cycles-requires c κs =
+    let p = passed (length (now (c .before .before .before .before .before .args .memory))) (c .before .before .before .before .before .args .order) (sym
+    (c .before .before .before .judge-machine .ensures) ∙ c .before .enum-told .given .1) in (p .whole, omega (arith, p .least))
 
 ran-as-requires : tie.Need-ran-as-requires
 ran-as-requires c κs = search needs
@@ -35,7 +37,13 @@ returns-2 : tie.Need-returns-2
 unfolding answers.runAnswer
 returns-2 c =
     let t = c .before .before .before .run_cycles in
-    rw (sym (c .before .before .before .before .before .before .before .judge-machine .ensures) ∙ c .before .before .before .before .before .enum-told .given .1, c .ran-as .ensures, done-is _ _ _ (t .ensures .0), ← t .ensures .1)
+    rw (
+      sym (c .before .before .before .before .before .before .before .judge-machine .ensures) ∙
+          c .before .before .before .before .before .enum-told .given .1,
+      c .ran-as .ensures,
+      done-is _ _ _ (t .ensures .0),
+      ← t .ensures .1,
+    )
 
 pub run-spec : {M : Type 1} → statement M
 run-spec =

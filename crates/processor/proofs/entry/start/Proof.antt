@@ -18,7 +18,9 @@ enum-told : tie.Need-enum-told
 enum-told c = search needs
 
 begin-requires : tie.Need-begin-requires
-begin-requires c κs = let p = passed (length (now (c .before .before .before .before .before .args .memory))) (c .before .before .before .before .before .args .order) (sym (c .before .before .before .judge-machine .ensures) ∙ c .before .enum-told .given .1) in (p .whole, (p .least, p .most))
+begin-requires c κs =
+    let p = passed (length (now (c .before .before .before .before .before .args .memory))) (c .before .before .before .before .before .args .order) (sym
+    (c .before .before .before .judge-machine .ensures) ∙ c .before .enum-told .given .1) in (p .whole, (p .least, p .most))
 
 started-as-requires : tie.Need-started-as-requires
 started-as-requires c κs = search needs
@@ -32,7 +34,13 @@ same-length c = search needs
 
 returns-2 : tie.Need-returns-2
 unfolding answers.startAnswer
-returns-2 c = rw (sym (c .before .before .before .before .before .before .before .judge-machine .ensures) ∙ c .before .before .before .before .before .enum-told .given .1, c .started-as .ensures, ← c .before .before .before .begin .ensures)
+returns-2 c =
+    rw (
+      sym (c .before .before .before .before .before .before .before .judge-machine .ensures) ∙
+          c .before .before .before .before .before .enum-told .given .1,
+      c .started-as .ensures,
+      ← c .before .before .before .begin .ensures,
+    )
 
 pub start-spec : {M : Type 1} → statement M
 start-spec =

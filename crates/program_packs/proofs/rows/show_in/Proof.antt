@@ -21,7 +21,12 @@ print-packed-requires : tie.Need-print-packed-requires
 print-packed-requires c κs =
     let args = c .before .before .before .before .before .before .before .before .before .before .before .before .args in
     let pack = c .before .before .before .pack in
-    omega (arith, pack-room (args .order) (args .output .now) (pack .last .1 .1 .1 .1 .0) (pack .result) (args .kinds .now) (args .operands .now) (args .base .0) (pack .ensures), pack .kept .1 .1 .1 .1 .0)
+    omega (
+      arith,
+      pack-room (args .order) (args .output .now) (pack .last .1 .1 .1 .1 .0) (pack .result) (args .kinds .now) (args .operands .now)
+          (args .base .0) (pack .ensures),
+      pack .kept .1 .1 .1 .1 .0,
+    )
 
 same-length : tie.Need-same-length
 same-length c = search needs

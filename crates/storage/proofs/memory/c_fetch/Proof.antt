@@ -38,14 +38,27 @@ fail-one-requires-2 c κs = (_, c .enum-told2 .given .1)
 
 returns-2 : tie.Need-returns-2
 unfolding plain.plainOf
-returns-2 c = simp (sym (c .before .before .before .before .before .before .before .before .fetch .ensures) ∙ c .before .before .before .before .before .before .got .given .1, rw (c .before .before .before .before .byte-address .ensures) at (sym (c .before .before .before .fetch-byte .ensures) ∙ c .before .enum-told2 .given .1)) (c .fail-one2 .ensures ∙ ap plain.failed (c .before .enum-told2 .given .1))
+returns-2 c =
+    simp (
+      sym (c .before .before .before .before .before .before .before .before .fetch .ensures) ∙
+          c .before .before .before .before .before .before .got .given .1,
+      rw (c .before .before .before .before .byte-address .ensures) at (sym
+          (c .before .before .before .fetch-byte .ensures) ∙ c .before .enum-told2 .given .1),
+    ) (c .fail-one2 .ensures ∙ ap plain.failed
+    (c .before .enum-told2 .given .1))
 
 replace-requires : tie.Need-replace-requires
 replace-requires c κs = search needs
 
 returns-3 : tie.Need-returns-3
 unfolding plain.plainOf
-returns-3 c = simp (sym (c .before .before .before .before .before .before .before .before .before .fetch .ensures) ∙ c .before .before .before .before .before .before .before .got .given .1, rw (c .before .before .before .before .before .byte-address .ensures) at (sym (c .before .before .before .before .fetch-byte .ensures) ∙ c .before .before .got2 .given .1)) (c .replace .ensures)
+returns-3 c =
+    simp (
+      sym (c .before .before .before .before .before .before .before .before .before .fetch .ensures) ∙
+          c .before .before .before .before .before .before .before .got .given .1,
+      rw (c .before .before .before .before .before .byte-address .ensures) at (sym
+          (c .before .before .before .before .fetch-byte .ensures) ∙ c .before .before .got2 .given .1),
+    ) (c .replace .ensures)
 
 pub c-fetch-spec : {M : Type 1} → statement M
 c-fetch-spec =

@@ -38,7 +38,14 @@ fail-byte-requires-2 c κs = (_, c .enum-told2 .given .1)
 
 returns-2 : tie.Need-returns-2
 unfolding plain.plainOf
-returns-2 c = simp (sym (c .before .before .before .before .before .before .before .before .fetch .ensures) ∙ c .before .before .before .before .before .before .got .given .1, rw (c .before .before .before .before .add .ensures) at (sym (c .before .before .before .fetch2 .ensures) ∙ c .before .enum-told2 .given .1)) (c .fail-byte2 .ensures ∙ ap plain.failed (c .before .enum-told2 .given .1))
+returns-2 c =
+    simp (
+      sym (c .before .before .before .before .before .before .before .before .fetch .ensures) ∙
+          c .before .before .before .before .before .before .got .given .1,
+      rw (c .before .before .before .before .add .ensures) at (sym
+          (c .before .before .before .fetch2 .ensures) ∙ c .before .enum-told2 .given .1),
+    ) (c .fail-byte2 .ensures ∙ ap plain.failed
+    (c .before .enum-told2 .given .1))
 
 add-requires-2 : tie.Need-add-requires-2
 add-requires-2 c κs = search needs
@@ -48,7 +55,16 @@ byte-address-requires c κs = search needs
 
 returns-3 : tie.Need-returns-3
 unfolding plain.plainOf
-returns-3 c = simp (sym (c .before .before .before .before .before .before .before .before .before .before .fetch .ensures) ∙ c .before .before .before .before .before .before .before .before .got .given .1, rw (c .before .before .before .before .before .before .add .ensures) at (sym (c .before .before .before .before .before .fetch2 .ensures) ∙ c .before .before .before .got2 .given .1), c .before .before .before .before .before .before .add .ensures, c .before .add2 .ensures, c .byte-address .ensures)
+returns-3 c =
+    simp (
+      sym (c .before .before .before .before .before .before .before .before .before .before .fetch .ensures) ∙
+          c .before .before .before .before .before .before .before .before .got .given .1,
+      rw (c .before .before .before .before .before .before .add .ensures) at
+          (sym (c .before .before .before .before .before .fetch2 .ensures) ∙ c .before .before .before .got2 .given .1),
+      c .before .before .before .before .before .before .add .ensures,
+      c .before .add2 .ensures,
+      c .byte-address .ensures,
+    )
 
 pub c-store-spec : {M : Type 1} → statement M
 c-store-spec =

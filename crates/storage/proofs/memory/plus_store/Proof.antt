@@ -38,7 +38,13 @@ fail-one-requires-2 c κs = (_, c .enum-told2 .given .1)
 
 returns-2 : tie.Need-returns-2
 unfolding plain.plainOf
-returns-2 c = simp (sym (c .before .before .before .before .before .before .before .before .fetch .ensures) ∙ c .before .before .before .before .before .before .got .given .1, rw (c .before .before .before .before .add .ensures) at (sym (c .before .before .before .fetch2 .ensures) ∙ c .before .enum-told2 .given .1)) (c .fail-one2 .ensures ∙ ap plain.failed (c .before .enum-told2 .given .1))
+returns-2 c =
+    simp (
+      sym (c .before .before .before .before .before .before .before .before .fetch .ensures) ∙
+          c .before .before .before .before .before .before .got .given .1,
+      rw (c .before .before .before .before .add .ensures) at (sym
+          (c .before .before .before .fetch2 .ensures) ∙ c .before .enum-told2 .given .1),
+    ) (c .fail-one2 .ensures ∙ ap plain.failed (c .before .enum-told2 .given .1))
 
 fetch-requires-3 : tie.Need-fetch-requires-3
 fetch-requires-3 c κs = search needs
@@ -54,7 +60,16 @@ fail-one-requires-3 c κs = (_, c .enum-told3 .given .1)
 
 returns-3 : tie.Need-returns-3
 unfolding plain.plainOf
-returns-3 c = simp (sym (c .before .before .before .before .before .before .before .before .before .before .before .before .fetch .ensures) ∙ c .before .before .before .before .before .before .before .before .before .before .got .given .1, rw (c .before .before .before .before .before .before .before .before .add .ensures) at (sym (c .before .before .before .before .before .before .before .fetch2 .ensures) ∙ c .before .before .before .before .before .got2 .given .1), sym (c .before .before .before .fetch3 .ensures) ∙ c .before .enum-told3 .given .1) (c .fail-one3 .ensures ∙ ap plain.failed (c .before .enum-told3 .given .1))
+returns-3 c =
+    simp (
+      sym (c .before .before .before .before .before .before .before .before .before .before .before .before .fetch .ensures) ∙
+          c .before .before .before .before .before .before .before .before .before .before .got .given .1,
+      rw
+          (c .before .before .before .before .before .before .before .before .add .ensures) at (sym
+          (c .before .before .before .before .before .before .before .fetch2 .ensures) ∙ c .before .before .before .before .before .got2 .given .1),
+      sym
+          (c .before .before .before .fetch3 .ensures) ∙ c .before .enum-told3 .given .1,
+    ) (c .fail-one3 .ensures ∙ ap plain.failed (c .before .enum-told3 .given .1))
 
 add-requires-2 : tie.Need-add-requires-2
 add-requires-2 c κs = search needs
@@ -64,7 +79,20 @@ add-requires-3 c κs = search needs
 
 returns-4 : tie.Need-returns-4
 unfolding plain.plainOf
-returns-4 c = simp (sym (c .before .before .before .before .before .before .before .before .before .before .before .before .before .before .fetch .ensures) ∙ c .before .before .before .before .before .before .before .before .before .before .before .before .got .given .1, rw (c .before .before .before .before .before .before .before .before .before .before .add .ensures) at (sym (c .before .before .before .before .before .before .before .before .before .fetch2 .ensures) ∙ c .before .before .before .before .before .before .before .got2 .given .1), sym (c .before .before .before .before .before .fetch3 .ensures) ∙ c .before .before .before .got3 .given .1, c .before .before .before .before .before .before .before .before .before .before .add .ensures, c .before .add2 .ensures, c .add3 .ensures)
+returns-4 c =
+    simp (
+      sym (c .before .before .before .before .before .before .before .before .before .before .before .before .before .before .fetch .ensures) ∙
+          c .before .before .before .before .before .before .before .before .before .before .before .before .got .given .1,
+      rw
+          (c .before .before .before .before .before .before .before .before .before .before .add .ensures) at (sym
+          (c .before .before .before .before .before .before .before .before .before .fetch2 .ensures) ∙
+          c .before .before .before .before .before .before .before .got2 .given .1),
+      sym (c .before .before .before .before .before .fetch3 .ensures) ∙
+          c .before .before .before .got3 .given .1,
+      c .before .before .before .before .before .before .before .before .before .before .add .ensures,
+      c .before .add2 .ensures,
+      c .add3 .ensures,
+    )
 
 pub plus-store-spec : {M : Type 1} → statement M
 plus-store-spec =

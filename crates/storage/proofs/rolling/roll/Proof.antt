@@ -43,7 +43,11 @@ fail-roll-requires-2 c κs = (_, c .enum-told3 .given .1)
 returns-2 : tie.Need-returns-2
 unfolding plain.plainOf
 returns-2 c = (
-  simp (sym (c .before .before .before .before .before .before .before .fetch .ensures) ∙ c .before .before .before .before .before .got .given .1, sym (c .before .before .before .fetch-deep .ensures) ∙ c .before .enum-told3 .given .1)
+  simp (
+    sym (c .before .before .before .before .before .before .before .fetch .ensures) ∙ c .before .before .before .before .before .got .given .1,
+    sym
+        (c .before .before .before .fetch-deep .ensures) ∙ c .before .enum-told3 .given .1,
+  )
       (c .fail-roll2 .ensures .0 _ _ ∙ ap plain.failed (c .before .enum-told3 .given .1)),
   c .fail-roll2 .ensures .1,
 )
@@ -64,7 +68,13 @@ returns-3 : tie.Need-returns-3
 unfolding plain.plainOf
 returns-3 c =
     let a = c .before .before .before .before .before .before .before .before .before .before .args in (
-      simp (sym (c .before .before .before .before .before .before .before .before .fetch .ensures) ∙ c .before .before .before .before .before .before .got .given .1, sym (c .before .before .before .before .fetch-deep .ensures) ∙ c .before .before .enum-told2 .given .1, c .add .ensures),
+      simp (
+        sym (c .before .before .before .before .before .before .before .before .fetch .ensures) ∙
+            c .before .before .before .before .before .before .got .given .1,
+        sym (c .before .before .before .before .fetch-deep .ensures) ∙
+            c .before .before .enum-told2 .given .1,
+        c .add .ensures,
+      ),
       deep-address (a .machine) (now (a .memory)) (plain.deepAddress (a .r .sp) (c .before .before .before .before .before .before .got .given .0 .0)) _
           (sym (c .before .before .before .before .fetch-deep .ensures) ∙ c .before .before .enum-told2 .given .1),
     )

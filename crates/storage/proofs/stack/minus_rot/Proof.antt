@@ -38,7 +38,14 @@ fail-three-requires-2 c κs = (_, c .enum-told2 .given .1)
 
 returns-2 : tie.Need-returns-2
 unfolding plain.plainOf
-returns-2 c = simp (sym (c .before .before .before .before .before .before .before .before .fetch .ensures) ∙ c .before .before .before .before .before .before .got .given .1, rw (c .before .before .before .before .add .ensures) at (sym (c .before .before .before .fetch2 .ensures) ∙ c .before .enum-told2 .given .1)) (c .fail-three2 .ensures ∙ ap plain.failed (c .before .enum-told2 .given .1))
+returns-2 c =
+    simp (
+      sym (c .before .before .before .before .before .before .before .before .fetch .ensures) ∙
+          c .before .before .before .before .before .before .got .given .1,
+      rw (c .before .before .before .before .add .ensures) at (sym
+          (c .before .before .before .fetch2 .ensures) ∙ c .before .enum-told2 .given .1),
+    ) (c .fail-three2 .ensures ∙ ap plain.failed
+    (c .before .enum-told2 .given .1))
 
 add-requires-2 : tie.Need-add-requires-2
 add-requires-2 c κs = search needs
@@ -57,7 +64,16 @@ fail-three-requires-3 c κs = (_, c .enum-told3 .given .1)
 
 returns-3 : tie.Need-returns-3
 unfolding plain.plainOf
-returns-3 c = simp (sym (c .before .before .before .before .before .before .before .before .before .before .before .before .before .fetch .ensures) ∙ c .before .before .before .before .before .before .before .before .before .before .before .got .given .1, rw (c .before .before .before .before .before .before .before .before .before .add .ensures) at (sym (c .before .before .before .before .before .before .before .before .fetch2 .ensures) ∙ c .before .before .before .before .before .before .got2 .given .1), rw (c .before .before .before .before .add2 .ensures) at (sym (c .before .before .before .fetch3 .ensures) ∙ c .before .enum-told3 .given .1)) (c .fail-three3 .ensures ∙ ap plain.failed (c .before .enum-told3 .given .1))
+returns-3 c =
+    simp (
+      sym (c .before .before .before .before .before .before .before .before .before .before .before .before .before .fetch .ensures) ∙
+          c .before .before .before .before .before .before .before .before .before .before .before .got .given .1,
+      rw
+          (c .before .before .before .before .before .before .before .before .before .add .ensures) at (sym
+          (c .before .before .before .before .before .before .before .before .fetch2 .ensures) ∙ c .before .before .before .before .before .before .got2 .given .1),
+      rw (c .before .before .before .before .add2 .ensures) at (sym (c .before .before .before .fetch3 .ensures) ∙ c .before .enum-told3 .given .1),
+    )
+    (c .fail-three3 .ensures ∙ ap plain.failed (c .before .enum-told3 .given .1))
 
 add-requires-3 : tie.Need-add-requires-3
 add-requires-3 c κs = search needs
@@ -67,7 +83,21 @@ add-requires-4 c κs = search needs
 
 returns-4 : tie.Need-returns-4
 unfolding plain.plainOf
-returns-4 c = simp (sym (c .before .before .before .before .before .before .before .before .before .before .before .before .before .before .before .fetch .ensures) ∙ c .before .before .before .before .before .before .before .before .before .before .before .before .before .got .given .1, rw (c .before .before .before .before .before .before .before .before .before .before .before .add .ensures) at (sym (c .before .before .before .before .before .before .before .before .before .before .fetch2 .ensures) ∙ c .before .before .before .before .before .before .before .before .got2 .given .1), rw (c .before .before .before .before .before .before .add2 .ensures) at (sym (c .before .before .before .before .before .fetch3 .ensures) ∙ c .before .before .before .got3 .given .1), c .before .before .before .before .before .before .before .before .before .before .before .add .ensures, c .before .before .before .before .before .before .add2 .ensures, c .before .add3 .ensures, c .add4 .ensures)
+returns-4 c =
+    simp (
+      sym (c .before .before .before .before .before .before .before .before .before .before .before .before .before .before .before .fetch .ensures) ∙
+          c .before .before .before .before .before .before .before .before .before .before .before .before .before .got .given .1,
+      rw
+          (c .before .before .before .before .before .before .before .before .before .before .before .add .ensures) at (sym
+          (c .before .before .before .before .before .before .before .before .before .before .fetch2 .ensures) ∙
+          c .before .before .before .before .before .before .before .before .got2 .given .1),
+      rw (c .before .before .before .before .before .before .add2 .ensures) at
+          (sym (c .before .before .before .before .before .fetch3 .ensures) ∙ c .before .before .before .got3 .given .1),
+      c .before .before .before .before .before .before .before .before .before .before .before .add .ensures,
+      c .before .before .before .before .before .before .add2 .ensures,
+      c .before .add3 .ensures,
+      c .add4 .ensures,
+    )
 
 pub minus-rot-spec : {M : Type 1} → statement M
 minus-rot-spec =

@@ -32,7 +32,13 @@ subtract-requires-2 c κs = search needs
 
 returns-2 : tie.Need-returns-2
 unfolding plain.plainOf
-returns-2 c = simp (sym (c .before .before .before .before .before .before .fetch .ensures) ∙ c .before .before .before .before .got .given .1, c .before .before .add .ensures, c .before .subtract .ensures, c .subtract2 .ensures)
+returns-2 c =
+    simp (
+      sym (c .before .before .before .before .before .before .fetch .ensures) ∙ c .before .before .before .before .got .given .1,
+      c .before .before .add .ensures,
+      c .before .subtract .ensures,
+      c .subtract2 .ensures,
+    )
 
 pub to-r-spec : {M : Type 1} → statement M
 to-r-spec =
