@@ -24,8 +24,8 @@ use Rattle.instruction.specs.declared.OperandForm.the-variants as stream-form
 use Rattle.instruction.specs.Dispatch.{decodeOf, plain, taking, operandClass, taken, executeOf}
 use Rattle.processor.specs.Cycles.{cycleOf}
 use Rattle.pack_layout.specs.Kinds as kinds
-use Rattle.pack_layout.specs.declared.OperandClass as kind
-use Rattle.pack_layout.specs.declared.OperandClass.the-variants.{Plain, Literal, Branch, NoKind}
+use Rattle.pack_layout.specs.declared.Class as kind
+use Rattle.pack_layout.specs.declared.Class.the-variants.{Plain, Literal, Branch, NoKind}
 use Rattle.pack_layout.specs.declared.ItemForm.{ItemForm}
 use Rattle.pack_layout.specs.declared.ItemForm.the-variants.{Alone, Immediate, InCell}
 use Rattle.pack_layout.specs.Listing.{Listing}
@@ -44,7 +44,7 @@ use Rattle.list_machine.proofs.Meets.{Meets, standing, registersFor}
 use Rattle.list_machine.proofs.Carrying.{Way, isWent, standsAt, carried-meets}
 
 -- the form of an item by its class
-plain-form : (c : kind.OperandClass) (m : Bool) (x f : ℕ) → c ≡ Plain → packing.formOf c m x f ≡ Alone
+plain-form : (c : kind.Class) (m : Bool) (x f : ℕ) → c ≡ Plain → packing.formOf c m x f ≡ Alone
 plain-form c m x f q = rw q
 
 taking-form : (m : Bool) (f : ℕ) → (packing.taking m f ≡ Immediate) ⊎ (packing.taking m f ≡ InCell)
@@ -52,10 +52,10 @@ taking-form m zero = inr refl
 taking-form true (suc f) = inr refl
 taking-form false (suc f) = inl refl
 
-literal-form : (c : kind.OperandClass) (m : Bool) (x f : ℕ) → c ≡ Literal → (packing.formOf c m x f ≡ Immediate) ⊎ (packing.formOf c m x f ≡ InCell)
+literal-form : (c : kind.Class) (m : Bool) (x f : ℕ) → c ≡ Literal → (packing.formOf c m x f ≡ Immediate) ⊎ (packing.formOf c m x f ≡ InCell)
 literal-form c m x f q = rw q (taking-form _ f)
 
-branch-form : (c : kind.OperandClass) (m : Bool) (x f : ℕ) → c ≡ Branch → (packing.formOf c m x f ≡ Immediate) ⊎ (packing.formOf c m x f ≡ InCell)
+branch-form : (c : kind.Class) (m : Bool) (x f : ℕ) → c ≡ Branch → (packing.formOf c m x f ≡ Immediate) ⊎ (packing.formOf c m x f ≡ InCell)
 branch-form c m x f q = rw q (taking-form m f)
 
 -- operands by whether an instruction leads somewhere
@@ -166,27 +166,27 @@ module _ (machine : Machine) (base : ℕ) (l : Listing) (ok : Legal base l) (i :
       ∙ ap Cell (operand-cell base l ok i inside q)
 
   -- what the processor finds is what the listing says
-  literal-cell : (m : List ℕ) → Holds machine base l m → (t : Taking) → leads t ≡ false → kinds.operandClass (l .kind i) ≡ Literal → formAt (layout l) i ≡ InCell
+  literal-cell : (m : List ℕ) → Holds machine base l m → (t : Taking) → leads t ≡ false → kinds.classOf (l .kind i) ≡ Literal → formAt (layout l) i ≡ InCell
       → operandOf machine stream-form.InCell t m (epValue base l i) rest ≡ Cell (operandAt machine base l i t)
   literal-cell m holds t d c q =
       literal-operand machine stream-form.InCell m (epValue base l i) rest t d
       ∙ operand-fetch m holds q
       ∙ ap Cell (literal-value base l ok i c ∙ sym (literal-at machine base l i t d))
 
-  literal-rest : (m : List ℕ) (t : Taking) → leads t ≡ false → kinds.operandClass (l .kind i) ≡ Literal → formAt (layout l) i ≡ Immediate
+  literal-rest : (m : List ℕ) (t : Taking) → leads t ≡ false → kinds.classOf (l .kind i) ≡ Literal → formAt (layout l) i ≡ Immediate
       → operandOf machine stream-form.Immediate t m (epValue base l i) rest ≡ Cell (operandAt machine base l i t)
   literal-rest m t d c q =
       literal-operand machine stream-form.Immediate m (epValue base l i) rest t d
       ∙ ap Cell (immediate-value base l ok i inside q ∙ literal-value base l ok i c ∙ sym (literal-at machine base l i t d))
 
-  branch-to : (m : List ℕ) → Holds machine base l m → (t : Taking) → leads t ≡ true → kinds.operandClass (l .kind i) ≡ Branch → formAt (layout l) i ≡ InCell
+  branch-to : (m : List ℕ) → Holds machine base l m → (t : Taking) → leads t ≡ true → kinds.classOf (l .kind i) ≡ Branch → formAt (layout l) i ≡ InCell
       → operandOf machine stream-form.InCell t m (epValue base l i) rest ≡ Cell (operandAt machine base l i t)
   branch-to m holds t d c q =
       branch-operand machine stream-form.InCell m (epValue base l i) rest t d
       ∙ operand-fetch m holds q
       ∙ ap Cell (branch-cell base l ok i c q ∙ sym (branch-at machine base l i t d))
 
-  branch-by : (m : List ℕ) (t : Taking) → leads t ≡ true → kinds.operandClass (l .kind i) ≡ Branch → formAt (layout l) i ≡ Immediate
+  branch-by : (m : List ℕ) (t : Taking) → leads t ≡ true → kinds.classOf (l .kind i) ≡ Branch → formAt (layout l) i ≡ Immediate
       → operandOf machine stream-form.Immediate t m (epValue base l i) rest ≡ Cell (operandAt machine base l i t)
   branch-by m t d c q =
       branch-operand machine stream-form.Immediate m (epValue base l i) rest t d
@@ -255,18 +255,18 @@ module _ (machine : Machine) (base : ℕ) (l : Listing) (ok : Legal base l) (i :
         (carried-meets machine base l ok i rest inside (taken stream-form.Immediate) (immediate-way q) ran m sp rp
         (takingOf machine t m sp rp (Cell (operandAt machine base l i t)) (behind base l i)) holds)
 
-    literal-meets : kinds.operandClass (l .kind i) ≡ Literal
+    literal-meets : kinds.classOf (l .kind i) ≡ Literal
         → Meets machine base l (carryOut machine base l (standsAt i ran m sp rp)) (cycleOf machine m (atItem base l i sp rp))
-    literal-meets c = go (literal-taken (l .kind i) c) (literal-form (kinds.operandClass (l .kind i)) (marks l i) (l .operand i) (left (layout l) i) c)
+    literal-meets c = go (literal-taken (l .kind i) c) (literal-form (kinds.classOf (l .kind i)) (marks l i) (l .operand i) (left (layout l) i) c)
       where
         go : (t : Taken (l .kind i)) × (leads (t .what) ≡ false) → (formAt (layout l) i ≡ Immediate) ⊎ (formAt (layout l) i ≡ InCell)
             → Meets machine base l (carryOut machine base l (standsAt i ran m sp rp)) (cycleOf machine m (atItem base l i sp rp))
         go t (inl q) = immediate-meets q (t .0 .what) (t .0 .in-cell) (t .0 .immediate) (literal-rest m (t .0 .what) (t .1) c q)
         go t (inr q) = cell-meets q (t .0 .what) (t .0 .in-cell) (literal-cell m holds (t .0 .what) (t .1) c q)
 
-    branch-meets : kinds.operandClass (l .kind i) ≡ Branch
+    branch-meets : kinds.classOf (l .kind i) ≡ Branch
         → Meets machine base l (carryOut machine base l (standsAt i ran m sp rp)) (cycleOf machine m (atItem base l i sp rp))
-    branch-meets c = go (branch-taken (l .kind i) c) (branch-form (kinds.operandClass (l .kind i)) (marks l i) (l .operand i) (left (layout l) i) c)
+    branch-meets c = go (branch-taken (l .kind i) c) (branch-form (kinds.classOf (l .kind i)) (marks l i) (l .operand i) (left (layout l) i) c)
       where
         go : (t : Taken (l .kind i)) × (leads (t .what) ≡ true) → (formAt (layout l) i ≡ Immediate) ⊎ (formAt (layout l) i ≡ InCell)
             → Meets machine base l (carryOut machine base l (standsAt i ran m sp rp)) (cycleOf machine m (atItem base l i sp rp))
@@ -274,11 +274,11 @@ module _ (machine : Machine) (base : ℕ) (l : Listing) (ok : Legal base l) (i :
         go t (inr q) = cell-meets q (t .0 .what) (t .0 .in-cell) (branch-to m holds (t .0 .what) (t .1) c q)
 
     pub item-meets : Meets machine base l (carryOut machine base l (standsAt i ran m sp rp)) (cycleOf machine m (atItem base l i sp rp))
-    item-meets = go (kinds.operandClass (l .kind i)) refl
+    item-meets = go (kinds.classOf (l .kind i)) refl
       where
-        go : (c : kind.OperandClass) → kinds.operandClass (l .kind i) ≡ c
+        go : (c : kind.Class) → kinds.classOf (l .kind i) ≡ c
             → Meets machine base l (carryOut machine base l (standsAt i ran m sp rp)) (cycleOf machine m (atItem base l i sp rp))
-        go Plain c = plain-meets (plain-form (kinds.operandClass (l .kind i)) (marks l i) (l .operand i) (left (layout l) i) c) (plain-decodes (l .kind i) c)
+        go Plain c = plain-meets (plain-form (kinds.classOf (l .kind i)) (marks l i) (l .operand i) (left (layout l) i) c) (plain-decodes (l .kind i) c)
         go Literal c = literal-meets c
         go Branch c = branch-meets c
         go NoKind c = absurd (is-kind l (ok .input) i inside c)

@@ -9,8 +9,8 @@ use Rattle.instruction.specs.Taking.{Taking, branch, questionBranch, call, loop
 use Rattle.instruction.specs.declared.OperandForm.the-variants.{InCell, Immediate}
 use Rattle.instruction.specs.Dispatch.{decodeOf, OperandClass, next, plain, taking, operandClass}
 use Rattle.pack_layout.specs.Kinds as kinds
-use Rattle.pack_layout.specs.declared.OperandClass as kind
-use Rattle.pack_layout.specs.declared.OperandClass.the-variants.{Plain, Literal, Branch, NoKind}
+use Rattle.pack_layout.specs.declared.Class as kind
+use Rattle.pack_layout.specs.declared.Class.the-variants.{Plain, Literal, Branch, NoKind}
 use Rattle.pack_layout.proofs.KindLaws.{literal-is, branch-among, AllOf, one-among}
 use Rattle.pack_layout.proofs.Listing.{kind-low}
 
@@ -30,7 +30,7 @@ pub record Taken (k : ℕ) : Type 0 where
   pub immediate : operandClass (decodeOf (k + 1)) ≡ taking Immediate what
 
 -- literals
-pub literal-taken : (k : ℕ) → kinds.operandClass k ≡ Literal → (t : Taken k) × (leads (t .what) ≡ false)
+pub literal-taken : (k : ℕ) → kinds.classOf k ≡ Literal → (t : Taken k) × (leads (t .what) ≡ false)
 unfolding decodeOf
 literal-taken k e =
     rw (literal-is k e) (record { what = literal; in-cell = refl; immediate = refl }, refl)
@@ -55,11 +55,11 @@ five = (
   ),
 )
 
-pub branch-taken : (k : ℕ) → kinds.operandClass k ≡ Branch → (t : Taken k) × (leads (t .what) ≡ true)
+pub branch-taken : (k : ℕ) → kinds.classOf k ≡ Branch → (t : Taken k) × (leads (t .what) ≡ true)
 branch-taken k e = one-among Branches kinds.branches five k (branch-among k e)
 
 -- plain kinds: a test computed for every number below 5Ch
-abbrev isPlainKind : kind.OperandClass → Bool
+abbrev isPlainKind : kind.Class → Bool
 isPlainKind Plain = true
 isPlainKind Literal = false
 isPlainKind Branch = false
@@ -76,7 +76,7 @@ plain-of plain e = refl
 plain-of (taking form t) e = absurd (false≢true e)
 
 abbrev decodesPlain : ℕ → Bool
-decodesPlain k = not (isPlainKind (kinds.operandClass k)) || isPlain (operandClass (decodeOf k))
+decodesPlain k = not (isPlainKind (kinds.classOf k)) || isPlain (operandClass (decodeOf k))
 
 unfoldable all : (ℕ → Bool) → ℕ → Bool
 all p zero = true
@@ -93,15 +93,15 @@ all-at p (suc n) k e h = go (p n) refl (decLt k n) e (λ q c. all-at p n k q c)
     go true q (no c) e f = ap p (let t : k ≡ n = omega arith in t) ∙ q
 
 computed : all decodesPlain 0x5C ≡ true
-unfolding all kinds.operandClass decodeOf
+unfolding all kinds.classOf decodeOf
 computed = refl
 
-pub plain-decodes : (k : ℕ) → kinds.operandClass k ≡ Plain → operandClass (decodeOf k) ≡ plain
+pub plain-decodes : (k : ℕ) → kinds.classOf k ≡ Plain → operandClass (decodeOf k) ≡ plain
 plain-decodes k e =
-    plain-of (operandClass (decodeOf k)) (go (kinds.operandClass k) e (all-at decodesPlain 0x5C k computed (kind-low k (λ (q : kinds.operandClass k ≡ NoKind).
+    plain-of (operandClass (decodeOf k)) (go (kinds.classOf k) e (all-at decodesPlain 0x5C k computed (kind-low k (λ (q : kinds.classOf k ≡ NoKind).
     let z : _≡_ {A = ℕ} 0 1 = cc in omega arith))))
   where
-    go : (c : kind.OperandClass) → c ≡ Plain → (not (isPlainKind c) || isPlain (operandClass (decodeOf k))) ≡ true → isPlain (operandClass (decodeOf k)) ≡ true
+    go : (c : kind.Class) → c ≡ Plain → (not (isPlainKind c) || isPlain (operandClass (decodeOf k))) ≡ true → isPlain (operandClass (decodeOf k)) ≡ true
     go Plain q h = h
     go Literal q h = cc
     go Branch q h = cc

@@ -95,7 +95,7 @@ above-rest alone o v w = refl
 above-rest immediate o v w = refl
 above-rest inCell o v w = refl
 
-nothing-above : (o : Bool) → 0 ≡ if o 0 0
+nothing-above : (o : Bool) → _≡_ {A = ℕ} 0 (if o 0 0)
 nothing-above true = refl
 nothing-above false = refl
 

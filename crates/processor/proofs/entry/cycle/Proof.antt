@@ -42,7 +42,7 @@ returns-2 c =
           c .before .before .before .before .before .before .enum-told .given .1,
       c .cycled-as .ensures,
       ← one-cycle _ _ _ _
-          (c .before .before .before .before .run_cycles .ensures .1),
+          (c .before .before .before .before .run-cycles .ensures .1),
     )
 
 pub cycle-spec : {M : Type 1} → statement M

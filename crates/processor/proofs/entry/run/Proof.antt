@@ -36,7 +36,7 @@ same-length c = search needs
 returns-2 : tie.Need-returns-2
 unfolding answers.runAnswer
 returns-2 c =
-    let t = c .before .before .before .run_cycles in
+    let t = c .before .before .before .run-cycles in
     rw (
       sym (c .before .before .before .before .before .before .before .judge-machine .ensures) ∙
           c .before .before .before .before .before .enum-told .given .1,
