@@ -3,9 +3,9 @@ use borrow.Author.Needs.{needs}
 use Rattle.operators.proofs.arithmetic.modulo.Statement.{statement}
 use Rattle.operators.proofs.arithmetic.modulo.Tie as tie
 use Rattle.instruction.specs.Plain as plain
+use Rattle.operators.proofs.Reading.{first-fails, second-fails, divisor-none, divisor-some}
 use Rattle.cell.specs.declared.Quotient.{Quotient}
-use borrow.Author.Tests.{eq-eqb, ne-eqb}
-use mathlib.Core.Path.{_∙_, sym, ap, refl}
+use mathlib.Core.Path.{_∙_, ap, refl, sym}
 
 fetch-requires : tie.Need-fetch-requires
 fetch-requires c κs = search needs
@@ -21,7 +21,7 @@ fail-one-requires c κs = (_, c .enum-told .given .1)
 
 returns : tie.Need-returns
 unfolding plain.plainOf
-returns c = simp (sym (c .before .before .before .fetch .ensures) ∙ c .before .enum-told .given .1) (c .fail-one .ensures ∙ ap plain.failed (c .before .enum-told .given .1))
+returns c = c .fail-one .ensures ∙ first-fails _ _ _ _ _ (c .before .before .before .fetch .ensures) _ (c .before .enum-told .given .1)
 
 add-requires : tie.Need-add-requires
 add-requires c κs = search needs
@@ -41,12 +41,10 @@ fail-one-requires-2 c κs = (_, c .enum-told2 .given .1)
 returns-2 : tie.Need-returns-2
 unfolding plain.plainOf
 returns-2 c =
-    simp (
-      sym (c .before .before .before .before .before .before .before .before .fetch .ensures) ∙
-          c .before .before .before .before .before .before .got .given .1,
-      rw (c .before .before .before .before .add .ensures) at (sym
-          (c .before .before .before .fetch2 .ensures) ∙ c .before .enum-told2 .given .1),
-    ) (c .fail-one2 .ensures ∙ ap plain.failed (c .before .enum-told2 .given .1))
+    c .fail-one2 .ensures
+    ∙ second-fails _ _ _ _ _ (c .before .before .before .before .before .before .before .before .fetch .ensures) _
+    (c .before .before .before .before .before .before .got .given .1) _ (c .before .before .before .before .add .ensures) _
+    (c .before .before .before .fetch2 .ensures) _ (c .before .enum-told2 .given .1)
 
 fail-one-requires-3 : tie.Need-fail-one-requires-3
 fail-one-requires-3 c κs = (_, refl)
@@ -54,14 +52,11 @@ fail-one-requires-3 c κs = (_, refl)
 returns-3 : tie.Need-returns-3
 unfolding plain.plainOf
 returns-3 c =
-    simp (
-      sym (c .before .before .before .before .before .before .before .before .before .before .fetch .ensures) ∙
-          c .before .before .before .before .before .before .before .before .got .given .1,
-      rw (c .before .before .before .before .before .before .add .ensures) at
-          (sym (c .before .before .before .before .before .fetch2 .ensures) ∙ c .before .before .before .got2 .given .1),
-      eq-eqb _ _ (c .before .if1 .taken),
-    )
     (c .fail-one3 .ensures)
+    ∙ sym
+    (divisor-none _ _ _ _ _ (c .before .before .before .before .before .before .before .before .before .before .fetch .ensures) _
+    (c .before .before .before .before .before .before .before .before .got .given .1) _ (c .before .before .before .before .before .before .add .ensures) _
+    (c .before .before .before .before .before .fetch2 .ensures) _ (c .before .before .before .got2 .given .1) (c .before .if1 .taken))
 
 divide-floored-requires : tie.Need-divide-floored-requires
 divide-floored-requires c κs = search needs
@@ -72,17 +67,15 @@ reduce-requires c κs = search needs
 returns-4 : tie.Need-returns-4
 unfolding plain.plainOf
 returns-4 c =
-    simp (
-      sym (c .before .before .before .before .before .before .before .before .before .before .before .fetch .ensures) ∙
-          c .before .before .before .before .before .before .before .before .before .got .given .1,
-      rw
-          (c .before .before .before .before .before .before .before .add .ensures) at (sym (c .before .before .before .before .before .before .fetch2 .ensures) ∙
-          c .before .before .before .before .got2 .given .1),
-      ne-eqb _ _ (c .before .before .if1 .left),
-    ) (c .reduce .ensures ∙ ap (plain.reduces
+    (c .reduce .ensures ∙ ap (plain.reduces
     (c .before .before .before .before .before .before .before .before .before .before .before .before .before .args .r .sp)
     (c .before .before .before .before .before .before .before .before .before .before .before .before .before .args .r .rp)) (ap (λ (q : Quotient).
     q .remainder) (c .before .divide-floored .ensures)))
+    ∙ sym
+    (divisor-some _ _ _ _ _ (c .before .before .before .before .before .before .before .before .before .before .before .fetch .ensures) _
+    (c .before .before .before .before .before .before .before .before .before .got .given .1) _
+    (c .before .before .before .before .before .before .before .add .ensures) _ (c .before .before .before .before .before .before .fetch2 .ensures) _
+    (c .before .before .before .before .got2 .given .1) (c .before .before .if1 .left))
 
 pub modulo-spec : {M : Type 1} → statement M
 modulo-spec =

@@ -3,8 +3,8 @@ use borrow.Author.Needs.{needs}
 use Rattle.operators.proofs.arithmetic.s_slash_rem.Statement.{statement}
 use Rattle.operators.proofs.arithmetic.s_slash_rem.Tie as tie
 use Rattle.instruction.specs.Plain as plain
-use borrow.Author.Tests.{eq-eqb, ne-eqb}
-use mathlib.Core.Path.{_∙_, sym, ap, refl}
+use Rattle.operators.proofs.Reading.{first-fails, second-fails, divisor-none, divisor-some}
+use mathlib.Core.Path.{_∙_, ap, refl, sym}
 
 fetch-requires : tie.Need-fetch-requires
 fetch-requires c κs = search needs
@@ -20,7 +20,7 @@ fail-two-requires c κs = (_, c .enum-told .given .1)
 
 returns : tie.Need-returns
 unfolding plain.plainOf
-returns c = simp (sym (c .before .before .before .fetch .ensures) ∙ c .before .enum-told .given .1) (c .fail-two .ensures ∙ ap plain.failed (c .before .enum-told .given .1))
+returns c = c .fail-two .ensures ∙ first-fails _ _ _ _ _ (c .before .before .before .fetch .ensures) _ (c .before .enum-told .given .1)
 
 add-requires : tie.Need-add-requires
 add-requires c κs = search needs
@@ -40,12 +40,10 @@ fail-two-requires-2 c κs = (_, c .enum-told2 .given .1)
 returns-2 : tie.Need-returns-2
 unfolding plain.plainOf
 returns-2 c =
-    simp (
-      sym (c .before .before .before .before .before .before .before .before .fetch .ensures) ∙
-          c .before .before .before .before .before .before .got .given .1,
-      rw (c .before .before .before .before .add .ensures) at (sym
-          (c .before .before .before .fetch2 .ensures) ∙ c .before .enum-told2 .given .1),
-    ) (c .fail-two2 .ensures ∙ ap plain.failed (c .before .enum-told2 .given .1))
+    c .fail-two2 .ensures
+    ∙ second-fails _ _ _ _ _ (c .before .before .before .before .before .before .before .before .fetch .ensures) _
+    (c .before .before .before .before .before .before .got .given .1) _ (c .before .before .before .before .add .ensures) _
+    (c .before .before .before .fetch2 .ensures) _ (c .before .enum-told2 .given .1)
 
 fail-two-requires-3 : tie.Need-fail-two-requires-3
 fail-two-requires-3 c κs = (_, refl)
@@ -53,14 +51,11 @@ fail-two-requires-3 c κs = (_, refl)
 returns-3 : tie.Need-returns-3
 unfolding plain.plainOf
 returns-3 c =
-    simp (
-      sym (c .before .before .before .before .before .before .before .before .before .before .fetch .ensures) ∙
-          c .before .before .before .before .before .before .before .before .got .given .1,
-      rw (c .before .before .before .before .before .before .add .ensures) at
-          (sym (c .before .before .before .before .before .fetch2 .ensures) ∙ c .before .before .before .got2 .given .1),
-      eq-eqb _ _ (c .before .if1 .taken),
-    )
     (c .fail-two3 .ensures)
+    ∙ sym
+    (divisor-none _ _ _ _ _ (c .before .before .before .before .before .before .before .before .before .before .fetch .ensures) _
+    (c .before .before .before .before .before .before .before .before .got .given .1) _ (c .before .before .before .before .before .before .add .ensures) _
+    (c .before .before .before .before .before .fetch2 .ensures) _ (c .before .before .before .got2 .given .1) (c .before .if1 .taken))
 
 divide-symmetric-requires : tie.Need-divide-symmetric-requires
 divide-symmetric-requires c κs = search needs
@@ -71,17 +66,15 @@ replace-both-requires c κs = search needs
 returns-4 : tie.Need-returns-4
 unfolding plain.plainOf
 returns-4 c =
-    simp (
-      sym (c .before .before .before .before .before .before .before .before .before .before .before .fetch .ensures) ∙
-          c .before .before .before .before .before .before .before .before .before .got .given .1,
-      rw
-          (c .before .before .before .before .before .before .before .add .ensures) at (sym (c .before .before .before .before .before .before .fetch2 .ensures) ∙
-          c .before .before .before .before .got2 .given .1),
-      ne-eqb _ _ (c .before .before .if1 .left),
-    ) (c .replace-both .ensures ∙ ap (plain.dividedBoth
+    (c .replace-both .ensures ∙ ap (plain.dividedBoth
     (c .before .before .before .before .before .before .before .before .before .before .before .before .before .args .r .sp)
     (c .before .before .before .before .before .before .before .before .before .before .before .before .before .args .r .rp))
     (c .before .divide-symmetric .ensures))
+    ∙ sym
+    (divisor-some _ _ _ _ _ (c .before .before .before .before .before .before .before .before .before .before .before .fetch .ensures) _
+    (c .before .before .before .before .before .before .before .before .before .got .given .1) _
+    (c .before .before .before .before .before .before .before .add .ensures) _ (c .before .before .before .before .before .before .fetch2 .ensures) _
+    (c .before .before .before .before .got2 .given .1) (c .before .before .if1 .left))
 
 pub s-slash-rem-spec : {M : Type 1} → statement M
 s-slash-rem-spec =

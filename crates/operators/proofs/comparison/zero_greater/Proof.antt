@@ -3,6 +3,7 @@ use borrow.Author.Needs.{needs}
 use Rattle.operators.proofs.comparison.zero_greater.Statement.{statement}
 use Rattle.operators.proofs.comparison.zero_greater.Tie as tie
 use Rattle.instruction.specs.Plain as plain
+use Rattle.operators.proofs.Reading.{first-fails, first-read}
 use Rattle.cell.specs.Number as number
 use mathlib.Core.Path.{_∙_, sym, ap}
 
@@ -20,7 +21,7 @@ fail-one-requires c κs = (_, c .enum-told .given .1)
 
 returns : tie.Need-returns
 unfolding plain.plainOf
-returns c = simp (sym (c .before .before .before .fetch .ensures) ∙ c .before .enum-told .given .1) (c .fail-one .ensures ∙ ap plain.failed (c .before .enum-told .given .1))
+returns c = c .fail-one .ensures ∙ first-fails _ _ _ _ _ (c .before .before .before .fetch .ensures) _ (c .before .enum-told .given .1)
 
 is-less-requires : tie.Need-is-less-requires
 is-less-requires c κs = search needs
@@ -34,10 +35,10 @@ replace-requires c κs = search needs
 returns-2 : tie.Need-returns-2
 unfolding plain.plainOf
 returns-2 c =
-    simp (sym (c .before .before .before .before .before .before .fetch .ensures) ∙ c .before .before .before .before .got .given .1) (c .replace .ensures ∙ ap
-    (plain.replaces (c .before .before .before .before .before .before .before .before .args .r .sp)
+    (c .replace .ensures ∙ ap (plain.replaces (c .before .before .before .before .before .before .before .before .args .r .sp)
     (c .before .before .before .before .before .before .before .before .args .r .rp)) (c .before .flag .ensures ∙ ap number.flag
     (c .before .before .is-less .ensures)))
+    ∙ sym (first-read _ _ _ _ _ (c .before .before .before .before .before .before .fetch .ensures) _ (c .before .before .before .before .got .given .1))
 
 pub zero-greater-spec : {M : Type 1} → statement M
 zero-greater-spec =

@@ -3,6 +3,7 @@ use borrow.Author.Needs.{needs}
 use Rattle.operators.proofs.comparison.zero_not_equal.Statement.{statement}
 use Rattle.operators.proofs.comparison.zero_not_equal.Tie as tie
 use Rattle.instruction.specs.Plain as plain
+use Rattle.operators.proofs.Reading.{first-fails, first-read}
 use mathlib.Core.Path.{_∙_, sym, ap}
 
 fetch-requires : tie.Need-fetch-requires
@@ -19,7 +20,7 @@ fail-one-requires c κs = (_, c .enum-told .given .1)
 
 returns : tie.Need-returns
 unfolding plain.plainOf
-returns c = simp (sym (c .before .before .before .fetch .ensures) ∙ c .before .enum-told .given .1) (c .fail-one .ensures ∙ ap plain.failed (c .before .enum-told .given .1))
+returns c = c .fail-one .ensures ∙ first-fails _ _ _ _ _ (c .before .before .before .fetch .ensures) _ (c .before .enum-told .given .1)
 
 flag-requires : tie.Need-flag-requires
 flag-requires c κs = search needs
@@ -30,9 +31,9 @@ replace-requires c κs = search needs
 returns-2 : tie.Need-returns-2
 unfolding plain.plainOf
 returns-2 c =
-    simp (sym (c .before .before .before .before .before .fetch .ensures) ∙ c .before .before .before .got .given .1) (c .replace .ensures ∙ ap (plain.replaces
-    (c .before .before .before .before .before .before .before .args .r .sp) (c .before .before .before .before .before .before .before .args .r .rp))
-    (c .before .flag .ensures))
+    (c .replace .ensures ∙ ap (plain.replaces (c .before .before .before .before .before .before .before .args .r .sp)
+    (c .before .before .before .before .before .before .before .args .r .rp)) (c .before .flag .ensures))
+    ∙ sym (first-read _ _ _ _ _ (c .before .before .before .before .before .fetch .ensures) _ (c .before .before .before .got .given .1))
 
 pub zero-not-equal-spec : {M : Type 1} → statement M
 zero-not-equal-spec =

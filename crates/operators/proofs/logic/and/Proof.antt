@@ -3,7 +3,8 @@ use borrow.Author.Needs.{needs}
 use Rattle.operators.proofs.logic.and.Statement.{statement}
 use Rattle.operators.proofs.logic.and.Tie as tie
 use Rattle.instruction.specs.Plain as plain
-use mathlib.Core.Path.{_∙_, sym, ap}
+use Rattle.operators.proofs.Reading.{first-fails, second-fails, both-read}
+use mathlib.Core.Path.{_∙_, sym}
 
 fetch-requires : tie.Need-fetch-requires
 fetch-requires c κs = search needs
@@ -19,7 +20,7 @@ fail-one-requires c κs = (_, c .enum-told .given .1)
 
 returns : tie.Need-returns
 unfolding plain.plainOf
-returns c = simp (sym (c .before .before .before .fetch .ensures) ∙ c .before .enum-told .given .1) (c .fail-one .ensures ∙ ap plain.failed (c .before .enum-told .given .1))
+returns c = c .fail-one .ensures ∙ first-fails _ _ _ _ _ (c .before .before .before .fetch .ensures) _ (c .before .enum-told .given .1)
 
 add-requires : tie.Need-add-requires
 add-requires c κs = search needs
@@ -39,12 +40,10 @@ fail-one-requires-2 c κs = (_, c .enum-told2 .given .1)
 returns-2 : tie.Need-returns-2
 unfolding plain.plainOf
 returns-2 c =
-    simp (
-      sym (c .before .before .before .before .before .before .before .before .fetch .ensures) ∙
-          c .before .before .before .before .before .before .got .given .1,
-      rw (c .before .before .before .before .add .ensures) at (sym
-          (c .before .before .before .fetch2 .ensures) ∙ c .before .enum-told2 .given .1),
-    ) (c .fail-one2 .ensures ∙ ap plain.failed (c .before .enum-told2 .given .1))
+    c .fail-one2 .ensures
+    ∙ second-fails _ _ _ _ _ (c .before .before .before .before .before .before .before .before .fetch .ensures) _
+    (c .before .before .before .before .before .before .got .given .1) _ (c .before .before .before .before .add .ensures) _
+    (c .before .before .before .fetch2 .ensures) _ (c .before .enum-told2 .given .1)
 
 reduce-requires : tie.Need-reduce-requires
 reduce-requires c κs = search needs
@@ -52,12 +51,11 @@ reduce-requires c κs = search needs
 returns-3 : tie.Need-returns-3
 unfolding plain.plainOf
 returns-3 c =
-    simp (
-      sym (c .before .before .before .before .before .before .before .before .before .fetch .ensures) ∙
-          c .before .before .before .before .before .before .before .got .given .1,
-      rw (c .before .before .before .before .before .add .ensures) at (sym
-          (c .before .before .before .before .fetch2 .ensures) ∙ c .before .before .got2 .given .1),
-    ) (c .reduce .ensures)
+    (c .reduce .ensures)
+    ∙ sym
+    (both-read _ _ _ _ _ (c .before .before .before .before .before .before .before .before .before .fetch .ensures) _
+    (c .before .before .before .before .before .before .before .got .given .1) _ (c .before .before .before .before .before .add .ensures) _
+    (c .before .before .before .before .fetch2 .ensures) _ (c .before .before .got2 .given .1))
 
 pub and-spec : {M : Type 1} → statement M
 and-spec =

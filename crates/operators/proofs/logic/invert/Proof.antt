@@ -3,7 +3,8 @@ use borrow.Author.Needs.{needs}
 use Rattle.operators.proofs.logic.invert.Statement.{statement}
 use Rattle.operators.proofs.logic.invert.Tie as tie
 use Rattle.instruction.specs.Plain as plain
-use mathlib.Core.Path.{_∙_, sym, ap}
+use Rattle.operators.proofs.Reading.{first-fails, first-read}
+use mathlib.Core.Path.{_∙_, sym}
 
 fetch-requires : tie.Need-fetch-requires
 fetch-requires c κs = search needs
@@ -19,7 +20,7 @@ fail-one-requires c κs = (_, c .enum-told .given .1)
 
 returns : tie.Need-returns
 unfolding plain.plainOf
-returns c = simp (sym (c .before .before .before .fetch .ensures) ∙ c .before .enum-told .given .1) (c .fail-one .ensures ∙ ap plain.failed (c .before .enum-told .given .1))
+returns c = c .fail-one .ensures ∙ first-fails _ _ _ _ _ (c .before .before .before .fetch .ensures) _ (c .before .enum-told .given .1)
 
 sub-replace : tie.Need-sub-replace
 sub-replace c = search needs
@@ -29,7 +30,9 @@ replace-requires c κs = search needs
 
 returns-2 : tie.Need-returns-2
 unfolding plain.plainOf
-returns-2 c = simp (sym (c .before .before .before .before .fetch .ensures) ∙ c .before .before .got .given .1) (c .replace .ensures)
+returns-2 c =
+    (c .replace .ensures)
+    ∙ sym (first-read _ _ _ _ _ (c .before .before .before .before .fetch .ensures) _ (c .before .before .got .given .1))
 
 pub invert-spec : {M : Type 1} → statement M
 invert-spec =
