@@ -1,10 +1,10 @@
 -- Stores of cells, and one step of the image pass.
 -- Assumes nothing.
-use Rattle.cell.specs.Memory.{cellBytes}
+use Rattle.cell.specs.Memory.{byte0, byte1, byte2, byte3, cellBytes, storeCell}
 use mathlib.Core.Path.{_≡_, refl, sym, ap, ap₂, _∙_}
 use mathlib.Core.Bool.{Bool, true, false}
 use mathlib.Core.List.{List, [], _∷_, _++_, append-assoc}
-use Prim.Native.Nat.{ℕ, zero, suc, _+_, _-_, _*_, _/_, _%_, _≤_, _<_}
+use Prim.Native.Nat.{ℕ, zero, suc, _+_, _-_, _*_, _≤_, _<_}
 use native.Mathlib.Nat.{add-zero}
 use native.Mathlib.Numerals.{add-one, add-two, add-three}
 use native.Mathlib.Omega.{arith}
@@ -30,18 +30,15 @@ use Rattle.pack_layout.proofs.Image.{image-size}
 use Rattle.pack_layout.proofs.Listing.{is-branch, target-below}
 use Rattle.pack_layout.proofs.Rounds.{bit-most}
 
-pub four-sets : (l : List ℕ) (i a b c d : ℕ)
+four-sets : (l : List ℕ) (i a b c d : ℕ)
     → set (set (set (set l i a) (i + 1) b) (i + 2) c) (i + 3) d ≡ sets l i (a ∷ b ∷ c ∷ d ∷ [])
 four-sets l i a b c d = simp (add-one, add-two, add-three)
 
-pub least-first : (order x a b c d : ℕ) → order ≡ 0 → a ≡ x % 256 → b ≡ x / 256 % 256 → c ≡ x / 65536 % 256
-    → d ≡ x / 16777216 % 256 → (a ∷ b ∷ c ∷ d ∷ []) ≡ cellBytes order x
-least-first order x a b c d e p q r s = rw (e, p, q, r, s)
-
-pub most-first : (order x a b c d : ℕ) → (order ≡ 0 → ⊥) → a ≡ x % 256 → b ≡ x / 256 % 256 → c ≡ x / 65536 % 256
-    → d ≡ x / 16777216 % 256 → (d ∷ c ∷ b ∷ a ∷ []) ≡ cellBytes order x
-most-first zero x a b c d e p q r s = absurd (e refl)
-most-first (suc order) x a b c d e p q r s = rw (p, q, r, s)
+-- a cell stored is its bytes set in a row
+pub store-sets : (order : ℕ) (l : List ℕ) (i x : ℕ) → storeCell order l i x ≡ sets l i (cellBytes order x)
+unfolding storeCell
+store-sets zero l i x = four-sets l i (byte0 x) (byte1 x) (byte2 x) (byte3 x)
+store-sets (suc order) l i x = four-sets l i (byte3 x) (byte2 x) (byte1 x) (byte0 x)
 
 cell-length : (order x : ℕ) → length (cellBytes order x) ≡ 4
 cell-length zero x = refl

@@ -1,6 +1,7 @@
 // Cells of an image, and their bytes in a lent output.
 use cell::Address;
 use cell::CellCount;
+use cell::memory::store_at;
 use pack_judging::entries::is_branch;
 use pack_judging::kinds::class_of;
 use pack_layout::ItemForm;
@@ -9,7 +10,6 @@ use pack_rounds::mark::place_of;
 use pack_rounds::measure::value_of;
 use pack_rounds::place::form_of;
 ghost use mathlib.Core.Bool.{true, false};
-ghost use mathlib.Core.List.{[], _∷_};
 ghost use mathlib.Core.Path.{_≡_};
 ghost use Prim.Native.Nat.{_+_, _*_, _≤_, _<_};
 ghost use lib.ListN.{length, getD};
@@ -25,39 +25,13 @@ ghost use Rattle.pack_layout.specs.Image.{byteOf, above};
 ghost use Rattle.pack_layout.specs.Packing.{formOf, valueOf, marks as marksOf, layout, image, imageCells};
 ghost use Rattle.pack_layout.specs.Output.{written, joinedAt, openedAt};
 
-// A byte of a cell.
-fn low(x: u32) -> u8
-    requires { ⌜ x < 256 ⌝ }
-    ensures { λ r. ⌜ r ≡ x ⌝ }
-{
-    x as u8
-}
-
-fn put_bytes(out: &mut [u8], at: usize, a: u8, b: u8, c: u8, d: u8)
-    requires { ⌜ at + 4 ≤ length (now out) ⌝ }
-    ensures { λ r. ⌜ now (out .exit) ≡ sets (now (out .entry)) at (a ∷ b ∷ c ∷ d ∷ []) ⌝ }
-{
-    out[at] = a;
-    out[at + 1] = b;
-    out[at + 2] = c;
-    out[at + 3] = d;
-}
-
 // Stores a cell at its index.
 fn put_cell(order: u8, out: &mut [u8], index: CellCount, x: u32)
     requires { ⌜ (index .0 ≤ 8192) × (4 * index .0 + 4 ≤ length (now out)) ⌝ }
     ensures { λ r. ⌜ now (out .exit) ≡ sets (now (out .entry)) (4 * index .0) (cellBytes order x) ⌝ }
 {
     let at = 4 * (index.0 as usize);
-    let a = low(x % 256);
-    let b = low(x / 256 % 256);
-    let c = low(x / 65536 % 256);
-    let d = low(x / 16777216 % 256);
-    if order == 0 {
-        put_bytes(out, at, a, b, c, d);
-    } else {
-        put_bytes(out, at, d, c, b, a);
-    }
+    store_at(order, out, at, x)
 }
 
 // An item's opcode.
