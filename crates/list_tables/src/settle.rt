@@ -9,6 +9,7 @@ ghost use Rattle.pack_prepare.specs.Prepared.{Places};
 ghost use Rattle.list_tables.specs.Tables as tables;
 use crate::tabling::tabulate;
 use cell::CellCount;
+use pack_layout::MOST_ITEMS;
 use pack_prepare::prepare::prepare;
 
 // The rounds in the lent arrays, then the table. The answer is the number of cells of the image.
@@ -41,11 +42,11 @@ pub fn settle_table(kinds: &[u8], operands: &[u32], table: &mut [u32]) -> CellCo
     ensures { λ r. ⌜ tables.Rows (listed (now (kinds .entry)) (now (operands .entry))) (now (table .exit)) (length (now (kinds .entry))) ⌝ }
 {
     let n = kinds.len();
-    let mut entries = [0u8; 4096];
-    let mut marks = [0u8; 4096];
-    let mut ats = [0u32; 4096];
-    let mut nexts = [0u32; 4096];
-    let mut lefts = [0u32; 4096];
+    let mut entries = [0u8; MOST_ITEMS];
+    let mut marks = [0u8; MOST_ITEMS];
+    let mut ats = [0u32; MOST_ITEMS];
+    let mut nexts = [0u32; MOST_ITEMS];
+    let mut lefts = [0u32; MOST_ITEMS];
     fill_table(
         kinds,
         operands,

@@ -10,6 +10,7 @@ use cell::Refusal;
 use pack_judging::file::cell_at;
 use pack_judging::file::judge_length;
 use pack_judging::file::read_operands;
+use pack_layout::MOST_ITEMS;
 use packer::Packed;
 use packer::judgement::judge_order;
 use packer::judgement::judge_pack;
@@ -34,12 +35,12 @@ fn judge_header(order: u8, file: &[u8]) -> Judged
 }
 
 // The operands, in front of an array of as many as a file may have.
-fn operands_of(file: &[u8]) -> [u32; 4096]
+fn operands_of(file: &[u8]) -> [u32; MOST_ITEMS]
     requires { ⌜ files.Header (now file) ⌝ }
     ensures { λ r. ⌜ (4096 ≡ length r) × (take (fileCount (now (file .entry))) r ≡ fileOperands (now (file .entry))) ⌝ }
 {
     let n = cell_at(file, 0) as usize;
-    let mut operands = [0u32; 4096];
+    let mut operands = [0u32; MOST_ITEMS];
     read_operands(file, 8 + n, &mut operands[0..n]);
     operands
 }

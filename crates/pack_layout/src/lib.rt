@@ -32,3 +32,6 @@ pub enum Entry {
     Item(ItemNumber),
     Nothing,
 }
+
+// The items that a listing has at most, and so the places of a working array.
+pub const MOST_ITEMS: usize = 4096;

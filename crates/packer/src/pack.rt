@@ -12,6 +12,7 @@ use crate::judgement::judge_input;
 use cell::Address;
 use cell::Judged;
 use pack_image::write::write_image;
+use pack_layout::MOST_ITEMS;
 use pack_prepare::prepare::prepare;
 
 // A listing that the input list passed, with the working arrays lent.
@@ -58,11 +59,11 @@ pub fn pack(order: u8, kinds: &[u8], operands: &[u32], base: Address, output: &m
         Judged::Refused(r) => Packed::Refused(r),
         Judged::Passed => {
             let n = kinds.len();
-            let mut entries = [0u8; 4096];
-            let mut marks = [0u8; 4096];
-            let mut ats = [0u32; 4096];
-            let mut nexts = [0u32; 4096];
-            let mut lefts = [0u32; 4096];
+            let mut entries = [0u8; MOST_ITEMS];
+            let mut marks = [0u8; MOST_ITEMS];
+            let mut ats = [0u32; MOST_ITEMS];
+            let mut nexts = [0u32; MOST_ITEMS];
+            let mut lefts = [0u32; MOST_ITEMS];
             pack_checked(
                 order,
                 kinds,
