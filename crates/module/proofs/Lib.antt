@@ -7,4 +7,3 @@ pub mod SameLaws
 pub mod AnswerLaws
 pub mod FileLaws
 pub mod Theorems
-pub mod Rows

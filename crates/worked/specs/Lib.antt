@@ -1,4 +1,4 @@
--- The rows of document 01, "Worked on paper", that are marked P.
+-- The rows marked P of document 01, Worked on paper.
 pub mod Rows
 pub mod Processor
 pub mod Packing

@@ -1,7 +1,7 @@
--- The row on modules: a cell of 55h between machines of the two byte orders.
+-- The row on modules: one cell of 55h is loaded, between machines of the two byte orders.
 use mathlib.Core.List.{List, [], _∷_}
-use Rattle.module.specs.Rows.{bytes55, paper55}
-use Rattle.worked.specs.Rows.{Row, lists}
+use Rattle.module.specs.Rows.{loaded55, bytes55, paper55}
+use Rattle.worked.specs.Rows.{Row, numbers, lists}
 
 abbrev pub moduleRows : List Row
-moduleRows = (lists bytes55 paper55 ∷ []) ∷ []
+moduleRows = (numbers (loaded55 .count) 1 ∷ lists bytes55 paper55 ∷ []) ∷ []
