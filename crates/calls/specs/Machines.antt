@@ -33,7 +33,7 @@ pub record Called : Type 0 where
 abbrev pub called : List ℕ → List ℕ → List ℕ → ℕ → Called
 called m registers out n = record { memory = m; told = told registers out n }
 
--- "-4101, -4102, .. -4105", the last for `registers` and `out`
+-- -4101, -4102 and -4105 in this order, the last for `registers` and `out`
 unfoldable pub judgeCall : ℕ → ℕ → ℕ → ℕ → ℕ → Judged
 judgeCall len order registers out needed = withRoom (withRoom (judgeMachine len order) registers 4) out needed
 

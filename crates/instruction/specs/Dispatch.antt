@@ -31,7 +31,7 @@ opcodes =
     Unloop ∷ J ∷ Literal ∷ LiteralI ∷ Throw ∷ Halt ∷ Illegal ∷ Lib ∷
     []
 
--- document 01, The processor: "00h and FFh are NEXT"; from 58h to FEh -256 is raised
+-- document 01, The processor: NEXT has two opcodes, 00h and FFh; from 58h to FEh there is no instruction
 unfoldable pub decodeOf : ℕ → Instruction
 decodeOf opcode = if (eqb opcode 0xFF) Next (getD opcodes opcode Illegal)
 

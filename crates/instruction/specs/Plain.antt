@@ -264,7 +264,7 @@ plainOf machine Throw m ep sp rp = action sp rp [] throwing
 plainOf machine Halt m ep sp rp = halted sp rp (fetchOf machine DataRead m sp)
 -- 57h LIB ( n -- )
 plainOf machine Lib m ep sp rp = data1 machine m sp (λ n. raise Library)
--- the opcodes that raise -256: "(CREATE), OS, LINK, RUN and STEP raise -256", "5Ch to FEh raise -256"
+-- opcodes without an instruction, and (CREATE), OS, LINK, RUN and STEP, which this machine does not have: -256
 plainOf machine Illegal m ep sp rp = raise fault.Illegal
 -- not of this kind: NEXT, and the instructions that take an operand (specs/Taking.antt)
 plainOf machine Next m ep sp rp = raise fault.Illegal

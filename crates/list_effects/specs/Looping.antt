@@ -11,7 +11,7 @@ use Rattle.machine.specs.declared.Access.the-variants.{ReturnWrite}
 use Rattle.instruction.specs.Plain.{action, return2}
 use Rattle.instruction.specs.Taking.{crosses}
 
--- "(LOOP) .. ends when it equals the limit"; (+LOOP) ends where it crosses it
+-- (LOOP) is over at the limit, (+LOOP) where its step goes over the border below it
 abbrev pub isOver : Bool → ℕ → ℕ → ℕ → Bool
 isOver false index next limit = eqb next limit
 isOver true index next limit = crosses index next limit

@@ -47,7 +47,7 @@ pub data Effect : Type 0 where
   act : Action → Effect
   raise : Fault → Effect
 
--- a fetched cell is handed on; a fault is raised. "The first fault wins"
+-- a fetched cell is handed on; a fault is raised, and nothing after it is looked at
 abbrev pub fetched : Fetched → (ℕ → Effect) → Effect
 fetched (Cell x) k = k x
 fetched (Failed f) k = raise f
