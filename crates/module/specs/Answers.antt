@@ -1,5 +1,5 @@
 -- What load_object and save_object leave and answer. Document 01, Turned back for the state: a refusal has a number and a count of
--- 0 and leaves everything lent; a success changes its own bytes alone. Document 001, section 4.3: the result is 0 if successful.
+-- 0 and leaves everything lent; a success changes its own bytes alone. The number of a success is 0, document 001, section 4.3.
 use mathlib.Core.List.{List, _++_}
 use Prim.Native.Nat.{ℕ, _+_, _*_}
 use lib.ListN.{length, drop}

@@ -1,4 +1,4 @@
--- An address leads to the entry placed there, surely and to no other.
+-- Entries by address: the address of an entry finds that entry, and what an address finds is an entry there.
 -- Assumes nothing.
 use mathlib.Core.Path.{_≡_, refl, sym, ap, _∙_}
 use mathlib.Core.Bool.{Bool, true, false, _&&_, true≢false}

@@ -168,7 +168,7 @@ pub fn halt(m: &mut impl Memory, r: &mut Registers) -> Act {
     }
 }
 
-/// LIB reads its operand, then raises -257.
+/// LIB is always -257, once its operand could be read.
 #[inline(always)]
 pub fn lib(m: &mut impl Memory, r: &mut Registers) -> Act {
     m.fetch(r.sp)?;

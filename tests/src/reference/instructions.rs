@@ -246,7 +246,7 @@ pub fn r_from(m: &mut impl Memory, r: &mut Registers) -> Act {
     Ok(Control::Continue)
 }
 
-/// C@, C!: the address exclusive-or 3 where ENDISM is 1.
+/// C@, C!: with the most significant byte first, the two low bits of the address are inverted.
 #[inline(always)]
 fn byte_address(m: &impl Memory, address: u32) -> u32 {
     match m.order() {

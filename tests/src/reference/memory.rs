@@ -87,7 +87,7 @@ pub trait Memory {
     fn byte(&self, address: u32) -> u8;
     fn set_byte(&mut self, address: u32, byte: u8);
 
-    /// Range (-9) is checked before alignment (-23).
+    /// Outside memory is -9, aligned or not; inside, an unaligned address is -23.
     #[inline(always)]
     fn check_cell(&self, address: u32) -> Result<(), Fault> {
         if address >= self.length() {

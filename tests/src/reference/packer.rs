@@ -120,13 +120,13 @@ fn form(listing: &Listing, marks: &[bool], item: usize, placement: &Placement) -
     }
 }
 
-/// A branch value: (target - EP value) / 4.
+/// The value of an immediate branch: the cells from its EP value to its target.
 fn branch_value(listing: &Listing, layout: &Layout, item: usize) -> i64 {
     let target = layout.placements[listing.target(item)].cell as i64;
     target - layout.placements[item].ep as i64
 }
 
-/// Rounds repeat until one adds no mark.
+/// Lays the listing out round by round; the first that marks no further branch gives the layout.
 pub fn layout(listing: &Listing) -> Layout {
     let entries = listing.entries();
     let mut marks = vec![false; listing.items()];
