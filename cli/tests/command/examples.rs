@@ -14,8 +14,8 @@ fn runs_as_stored(name: &str) {
     let expected = example(&format!("{name}.expected"));
     assert_eq!(folder.done("run rule.mod"), expected);
     assert_eq!(folder.done("run rule.mod --order 1"), expected);
-    folder.done("save rule.lst -o turned.mod --order 1");
-    assert_eq!(folder.done("run turned.mod"), expected);
+    folder.done("save rule.lst -o reversed.mod --order 1");
+    assert_eq!(folder.done("run reversed.mod"), expected);
     let stop = expected.lines().nth(1).expect("a second line");
     for order in ["0", "1"] {
         let followed = folder.done(&format!("follow rule.lst --beside --order {order}"));

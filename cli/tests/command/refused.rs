@@ -2,8 +2,8 @@
 
 use crate::folder::Folder;
 
-/// Says that the command ends with this status and says this on the error stream.
-fn turned_back(folder: &Folder, words: &str, status: i32, error: &str) {
+/// The command ends with this status, and its error stream holds this text.
+fn is_refused(folder: &Folder, words: &str, status: i32, error: &str) {
     let said = folder.beetle(words);
     assert_eq!(said.status, status, "{words}: {said:?}");
     assert!(said.error.contains(error), "{words}: {said:?}");
@@ -24,7 +24,7 @@ RULE.txt:5:1: number too large: '4294967296' (a cell holds -2147483648 to 429496
 RULE.txt:6:1: no ' )' ends this comment
 ";
     assert_eq!((said.status, said.error.as_str()), (1, expected));
-    turned_back(&folder, "pack never.lst", 1, "never.lst: ");
+    is_refused(&folder, "pack never.lst", 1, "never.lst: ");
 }
 
 #[test]
@@ -41,10 +41,10 @@ fn texts_that_the_packer_refuses() {
     for (text, number) in rows {
         folder.write("rule.txt", text);
         let error = format!("refused with {number}: ");
-        turned_back(&folder, "assemble rule.txt -o rule.lst", 1, &error);
+        is_refused(&folder, "assemble rule.txt -o rule.lst", 1, &error);
     }
     folder.write("rule.txt", [0x44, 0xFF]);
-    turned_back(&folder, "assemble rule.txt -o rule.lst", 1, "no text");
+    is_refused(&folder, "assemble rule.txt -o rule.lst", 1, "no text");
 }
 
 #[test]
@@ -59,7 +59,7 @@ fn cut_and_damaged_listings() {
         assert!(said.error.contains("refused with -4106: "));
     }
     for command in ["show", "follow", "save -o x.mod"] {
-        turned_back(&folder, &format!("{command} cut.lst"), 1, "-4106");
+        is_refused(&folder, &format!("{command} cut.lst"), 1, "-4106");
     }
     let rows: [(&[(usize, u8)], &str); 3] = [
         (&[(8, 0x53)], "-4107"),
@@ -83,8 +83,8 @@ fn cut_and_misplaced_modules() {
         folder.write("cut.mod", &file[..length]);
         let number = if length < 8 { "-2" } else { "-4103" };
         let error = format!("refused with {number}: ");
-        turned_back(&folder, "load cut.mod", 1, &error);
-        turned_back(&folder, "run cut.mod", 1, &error);
+        is_refused(&folder, "load cut.mod", 1, &error);
+        is_refused(&folder, "run cut.mod", 1, &error);
     }
     let rows = [
         ("--memory 1020", "-4101"),
@@ -96,7 +96,7 @@ fn cut_and_misplaced_modules() {
     ];
     for (words, number) in rows {
         let error = format!("refused with {number}: ");
-        turned_back(&folder, &format!("run rule.mod {words}"), 1, &error);
+        is_refused(&folder, &format!("run rule.mod {words}"), 1, &error);
     }
 }
 
@@ -115,7 +115,7 @@ fn wrong_command_lines() {
         ("assemble a", "-o FILE is missing"),
     ];
     for (words, error) in rows {
-        turned_back(&folder, words, 2, error);
+        is_refused(&folder, words, 2, error);
     }
 }
 

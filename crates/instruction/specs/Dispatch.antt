@@ -31,7 +31,7 @@ opcodes =
     Unloop ∷ J ∷ Literal ∷ LiteralI ∷ Throw ∷ Halt ∷ Illegal ∷ Lib ∷
     []
 
--- document 01, The processor: NEXT has two opcodes, 00h and FFh; from 58h to FEh there is no instruction
+-- document 01, The processor: NEXT has two opcodes, 00h and FFh; 56h and 58h to FEh raise -256
 unfoldable pub decodeOf : ℕ → Instruction
 decodeOf opcode = if (eqb opcode 0xFF) Next (getD opcodes opcode Illegal)
 

@@ -1,3 +1,4 @@
+-- Demand 3 and its parts, laws of runs, and the worked runs.
 pub mod Frame
 pub mod Opcodes
 pub mod Image

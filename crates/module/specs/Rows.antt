@@ -13,7 +13,7 @@ module55 =
 abbrev pub loaded55 : LoadResult
 loaded55 = loadOf 1 (replicate 1024 0) module55 0x10
 
--- the four bytes from the address on, and those that the paper has
+-- the four bytes from the address on, and those that document 01 has
 abbrev pub bytes55 : List ℕ
 bytes55 = take 4 (drop 0x10 (loaded55 .memory))
 

@@ -8,7 +8,7 @@ pub mod saving;
 use cell::CellCount;
 use cell::Refusal;
 
-// What load_object answers: the number of cells loaded. specs/Answers.antt has the paper's numbers of each case.
+// What load_object answers: the number of cells loaded. specs/Answers.antt has document 01's numbers of each case.
 pub enum Loaded {
     Refused(Refusal),
     Cells(CellCount),

@@ -1,1 +1,2 @@
+-- Laws of a listing file.
 pub mod Filing

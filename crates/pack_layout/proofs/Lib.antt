@@ -1,3 +1,4 @@
+-- Laws of listings, their layout, rounds and image, and the worked rows.
 pub mod Classes
 pub mod KindLaws
 pub mod Bytes

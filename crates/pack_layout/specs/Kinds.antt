@@ -1,5 +1,5 @@
 -- The kinds of a listing, document 01, Listings: one literal, five branches, and as plain items all opcodes of the table but NEXT, the
--- immediate ones and those that always raise.
+-- immediate ones and those that raise -256.
 use mathlib.Core.Bool.{Bool, true, false, _||_}
 use mathlib.Core.List.{List, [], _∷_}
 use Prim.Native.Nat.{ℕ}

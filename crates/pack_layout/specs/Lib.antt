@@ -1,3 +1,4 @@
+-- What crate `pack_layout` means: listings, their entries, layout, rounds and image, the listing file, and the worked rows.
 pub mod Grounds
 pub mod Kinds
 pub mod Bytes

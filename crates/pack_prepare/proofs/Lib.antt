@@ -1,1 +1,2 @@
+-- Laws of a listing that the input list passed.
 pub mod Checking

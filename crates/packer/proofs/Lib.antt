@@ -1,2 +1,3 @@
+-- Laws of the judgement and the answer of a packing.
 pub mod Judging
 pub mod Answering

@@ -1,4 +1,4 @@
-// The numbers of each answer, as the paper has them.
+// The numbers of each answer, as document 01 has them.
 ghost use mathlib.Core.Path.{_≡_};
 ghost use Rattle.packer.specs.Pack as answers;
 use crate::Packed;

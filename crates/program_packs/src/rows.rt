@@ -54,7 +54,7 @@ fn others() {
     row(b"branch to itself", &[0x42], &[0]);
 }
 
-// The rows of the paper, in its order.
+// The rows of document 01 on packing, in its order.
 pub fn worked() {
     literals();
     others();

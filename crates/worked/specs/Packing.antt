@@ -1,4 +1,4 @@
--- The rows on packing (the table of crate layout), and the run of the first of them, for a byte order.
+-- The rows on packing (the table of crate `pack_layout`), and the run of the first of them, for a byte order.
 use mathlib.Core.List.{List, [], _∷_, map}
 use Prim.Native.Nat.{ℕ, _+_}
 use Rattle.cell.specs.Memory.{storeCell}

@@ -8,27 +8,21 @@ use Rattle.machine.specs.Commits as commits
 use Rattle.instruction.specs.Dispatch as dispatch
 use Rattle.instruction.proofs.OpcodeLaws.{loop-is}
 
--- src/looping.rt:46:9
 form-of-requires : tie.Need-form-of-requires
 form-of-requires c κs = search needs
 
--- src/looping.rt:47:9
 loop-effect-requires : tie.Need-loop-effect-requires
 loop-effect-requires c κs = search needs
 
--- src/looping.rt:59:18
 commit-maybe-requires : tie.Need-commit-maybe-requires
 commit-maybe-requires c κs = search needs
 
--- src/looping.rt:59:5
 onward-requires : tie.Need-onward-requires
 onward-requires c κs = search needs
 
--- src/looping.rt:41:1
 same-length : tie.Need-same-length
 same-length c = search needs
 
--- src/looping.rt:41:1
 returns : tie.Need-returns
 unfolding dispatch.executeOf
 returns c =

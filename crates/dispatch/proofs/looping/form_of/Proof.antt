@@ -3,11 +3,9 @@ use Rattle.dispatch.proofs.looping.form_of.Statement.{statement}
 use Rattle.dispatch.proofs.looping.form_of.Tie as tie
 use borrow.Author.Tests.{eq-eqb, ne-eqb}
 
--- src/looping.rt:25:9
 returns : tie.Need-returns
 returns c = rw (eq-eqb _ _ (c .if1 .taken))
 
--- src/looping.rt:21:1
 returns-2 : tie.Need-returns-2
 returns-2 c = rw (ne-eqb _ _ (c .if1 .left))
 

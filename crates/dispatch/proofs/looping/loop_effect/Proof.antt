@@ -4,19 +4,15 @@ use Rattle.dispatch.proofs.looping.loop_effect.Statement.{statement}
 use Rattle.dispatch.proofs.looping.loop_effect.Tie as tie
 use borrow.Author.Tests.{lt-ltb, le-ltb}
 
--- src/looping.rt:36:9
 step-loop-requires : tie.Need-step-loop-requires
 step-loop-requires c κs = search needs
 
--- src/looping.rt:36:9
 returns : tie.Need-returns
 returns c = rw (lt-ltb _ _ (c .before .if1 .taken)) (c .step-loop .ensures)
 
--- src/looping.rt:38:5
 step-plus-loop-requires : tie.Need-step-plus-loop-requires
 step-plus-loop-requires c κs = search needs
 
--- src/looping.rt:31:1
 returns-2 : tie.Need-returns-2
 returns-2 c = rw (le-ltb _ _ (c .before .if1 .left)) (c .step-plus-loop .ensures)
 

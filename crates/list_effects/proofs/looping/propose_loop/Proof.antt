@@ -5,19 +5,15 @@ use Rattle.list_effects.proofs.looping.propose_loop.Tie as tie
 use denote.Ref.{now}
 use Rattle.list_effects.proofs.LoopingLaws.{loop-is}
 
--- src/looping.rt:74:24
 mul-add : tie.Need-mul-add
 mul-add c = search needs
 
--- src/looping.rt:74:9
 add-requires : tie.Need-add-requires
 add-requires c κs = search needs
 
--- src/looping.rt:75:5
 propose-step-requires : tie.Need-propose-step-requires
 propose-step-requires c κs = search needs
 
--- src/looping.rt:70:1
 returns : tie.Need-returns
 returns c = let a = c .before .before .before .before .args in loop-is (a .machine) (now (a .memory)) (a .r) _ _ (c .before .add .ensures) (c .propose-step .ensures)
 

@@ -7,45 +7,35 @@ use denote.Ref.{now}
 use Rattle.instruction.specs.Plain as plain
 use Rattle.list_effects.proofs.LoopingLaws.{plus-loop-is, plus-loop-fails}
 
--- src/looping.rt:82:9
 fetch-requires : tie.Need-fetch-requires
 fetch-requires c κs = search needs
 
--- src/looping.rt:83:23
 enum-known-got : tie.Need-enum-known-got
 enum-known-got c = search needs
 
--- src/looping.rt:84:9
 enum-told : tie.Need-enum-told
 enum-told c = search needs
 
--- src/looping.rt:84:9
 fail-maybe-requires : tie.Need-fail-maybe-requires
 fail-maybe-requires c κs = (_, c .enum-told .given .1)
 
--- src/looping.rt:84:9
 returns : tie.Need-returns
 returns c =
     let a = c .before .before .before .before .before .args in plus-loop-fails (a .machine) (now (a .memory)) (a .r) _ _ (sym
     (c .before .before .before .fetch .ensures) ∙ c .before .enum-told .given .1) (c .fail-maybe .ensures ∙ ap plain.failed (c .before .enum-told .given .1))
 
--- src/looping.rt:86:24
 mul-add : tie.Need-mul-add
 mul-add c = search needs
 
--- src/looping.rt:86:9
 add-requires : tie.Need-add-requires
 add-requires c κs = search needs
 
--- src/looping.rt:87:35
 add-requires-2 : tie.Need-add-requires-2
 add-requires-2 c κs = search needs
 
--- src/looping.rt:87:5
 propose-step-requires : tie.Need-propose-step-requires
 propose-step-requires c κs = search needs
 
--- src/looping.rt:78:1
 returns-2 : tie.Need-returns-2
 returns-2 c =
     let a = c .before .before .before .before .before .before .before .before .before .args in plus-loop-is (a .machine) (now (a .memory)) (a .r) _ _ _ _
