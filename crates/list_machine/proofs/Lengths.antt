@@ -7,7 +7,6 @@ use Prim.Native.Nat.{ℕ, zero, suc}
 use lib.Dec.{ltb}
 use lib.ListN.{length}
 use Rattle.cell.specs.Choice.{if}
-use Rattle.cell.specs.Memory.{cellAt}
 use Rattle.cell.specs.Number.{difference}
 use Rattle.cell.specs.declared.Checked.{Checked}
 use Rattle.cell.specs.declared.Checked.the-variants.{Good, Bad}
@@ -15,7 +14,7 @@ use Rattle.cell.specs.declared.Fault.{Fault}
 use Rattle.machine.specs.Places.{oneCell, placeOf}
 use Rattle.machine.specs.Effects.{Control, goOn, jump, halt, throwing, Action, Effect, act, raise}
 use Rattle.machine.specs.Commits.{stepped, placesOf}
-use Rattle.machine.specs.Throws.{CycleState, handlerCell, throwOf, throwingOf, finishOf}
+use Rattle.machine.specs.Throws.{CycleState, throwOf, throwingOf, finishOf}
 use Rattle.machine.specs.declared.Machine.{Machine}
 use Rattle.machine.specs.declared.Registers.{Registers}
 use Rattle.machine.specs.declared.Access.the-variants.{Push}
@@ -29,8 +28,8 @@ use Rattle.pack_layout.specs.Packing.{layout, entryAt}
 use Rattle.pack_layout.specs.declared.Entry.{Entry}
 use Rattle.pack_layout.specs.declared.Entry.the-variants.{Item, Nothing}
 use Rattle.list_machine.specs.declared.Outside.{Outside}
-use Rattle.list_machine.specs.declared.Outside.the-variants.{WritesImage, NoEntry, NoHandler, PastEnd}
-use Rattle.list_machine.specs.ListMachine.{Position, Carried, on, stopped, outside, isImmediate, pushOf, thrownTo, actedTo, movedTo, enteredAt, effectAt, writesImage, registersAt, handledBy, handled, thrown, followed, acted, carriedBy, carryOut}
+use Rattle.list_machine.specs.declared.Outside.the-variants.{WritesImage, NoEntry, PastEnd}
+use Rattle.list_machine.specs.ListMachine.{Position, Carried, on, stopped, outside, isImmediate, pushOf, thrownTo, actedTo, movedTo, enteredAt, effectAt, writesImage, registersAt, handlerAt, handledBy, handled, thrown, followed, acted, carriedBy, carryOut}
 use Rattle.list_machine.specs.Runs.{Course, goesOn, stoppedBy, stoodOutside, Run, furtherBy, furtherIn, further, runOf}
 
 -- what an item comes to has a memory of n bytes
@@ -64,8 +63,8 @@ throwing-length machine m r = finish-length machine (stepped m (record { registe
 module _ (machine : Machine) (base : ℕ) (l : Listing) where
   handled-by-long : (n : ℕ) (p : Position) (t : CycleState) (e : Ended) → length (t .memory) ≡ n → Long n (handledBy machine base l p t e)
   handled-by-long n p t (Stopped x) h = h
-  handled-by-long n p t Went h = entered-long n NoHandler (entryAt base l (cellAt (machine .order) (t .memory) handlerCell)) (thrownTo p t) h
-  handled-by-long n p t (Threw f) h = entered-long n NoHandler (entryAt base l (cellAt (machine .order) (t .memory) handlerCell)) (thrownTo p t) h
+  handled-by-long n p t Went h = entered-long n _ (entryAt base l (handlerAt machine base l t)) (thrownTo p t) h
+  handled-by-long n p t (Threw f) h = entered-long n _ (entryAt base l (handlerAt machine base l t)) (thrownTo p t) h
 
   thrown-long : (p : Position) (f : Fault) → Long (length (p .memory)) (thrown machine base l p f)
   thrown-long p f =

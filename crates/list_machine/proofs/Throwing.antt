@@ -31,7 +31,7 @@ use Rattle.processor_laws.proofs.LengthLaws.{noted-length}
 use Rattle.pack_layout.specs.Listing.{Listing}
 use Rattle.pack_layout.specs.Packing.{imageCells, epValue, Legal}
 use Rattle.pack_layout.proofs.Packing.{placed}
-use Rattle.list_machine.specs.declared.Outside.the-variants.{WritesImage, NoHandler}
+use Rattle.list_machine.specs.declared.Outside.the-variants.{WritesImage}
 use Rattle.list_machine.specs.ListMachine.{Position, outside, pushOf, writesImage, registersAt, handled, thrown}
 use Rattle.list_machine.specs.Demand3.{Holds}
 use Rattle.list_machine.proofs.Frame.{stores-frame}
@@ -73,10 +73,10 @@ module _ (machine : Machine) (base : ℕ) (l : Listing) (ok : Legal base l) wher
           (handed m2 (record { ep = ep; a = a; sp = sp; rp = rp }) e (cellAt (machine .order) m2 handlerCell) g)
       go (Failed f) q e going = record { memory = refl; sp = refl; rp = refl; ended = refl }
       go (Cell x) q Went going =
-          enters machine base l ok NoHandler (record { item = p .item; ran = p .ran; memory = m2; sp = sp; rp = rp })
+          enters machine base l ok _ (record { item = p .item; ran = p .ran; memory = m2; sp = sp; rp = rp })
           (cellAt (machine .order) m2 handlerCell) x a ep Went refl kept q
       go (Cell x) q (Threw f) going =
-          enters machine base l ok NoHandler (record { item = p .item; ran = p .ran; memory = m2; sp = sp; rp = rp })
+          enters machine base l ok _ (record { item = p .item; ran = p .ran; memory = m2; sp = sp; rp = rp })
           (cellAt (machine .order) m2 handlerCell) x a ep (Threw f) refl kept q
       go (Cell x) q (Stopped y) going = absurd (true≢false going)
 

@@ -7,7 +7,6 @@ use borrow.Author.Tests.{ltb-true}
 use lib.Dec.{ltb}
 use lib.ListN.{length}
 use Rattle.cell.specs.Choice.{if}
-use Rattle.cell.specs.Memory.{cellAt}
 use Rattle.cell.specs.Number.{difference}
 use Rattle.cell.specs.declared.Checked.{Checked}
 use Rattle.cell.specs.declared.Checked.the-variants.{Good, Bad}
@@ -15,7 +14,7 @@ use Rattle.cell.specs.declared.Fault.{Fault}
 use Rattle.machine.specs.Places.{oneCell, placeOf}
 use Rattle.machine.specs.Effects.{Control, goOn, jump, halt, throwing, Action, Effect, act, raise}
 use Rattle.machine.specs.Commits.{placesOf}
-use Rattle.machine.specs.Throws.{CycleState, handlerCell, throwOf, throwingOf}
+use Rattle.machine.specs.Throws.{CycleState, throwOf, throwingOf}
 use Rattle.machine.specs.declared.Machine.{Machine}
 use Rattle.machine.specs.declared.Access.the-variants.{Push}
 use Rattle.machine.specs.declared.Ended.{Ended}
@@ -27,8 +26,8 @@ use Rattle.pack_layout.specs.declared.Entry.{Entry}
 use Rattle.pack_layout.specs.declared.Entry.the-variants.{Item, Nothing}
 use Rattle.pack_layout.proofs.Finding.{found}
 use Rattle.list_machine.specs.declared.Outside.{Outside}
-use Rattle.list_machine.specs.declared.Outside.the-variants.{WritesImage, NoEntry, NoHandler, PastEnd}
-use Rattle.list_machine.specs.ListMachine.{Position, Carried, on, stopped, outside, isImmediate, pushOf, thrownTo, actedTo, movedTo, enteredAt, effectAt, writesImage, transferred, registersAt, handledBy, handled, thrown, ranOn, followed, acted, carriedBy, carryOut}
+use Rattle.list_machine.specs.declared.Outside.the-variants.{WritesImage, NoEntry, PastEnd}
+use Rattle.list_machine.specs.ListMachine.{Position, Carried, on, stopped, outside, isImmediate, pushOf, thrownTo, actedTo, movedTo, enteredAt, effectAt, writesImage, transferred, registersAt, handlerAt, handledBy, handled, thrown, ranOn, followed, acted, carriedBy, carryOut}
 
 abbrev pub Within : ℕ → Carried → Type 0
 Within n (on q) = q .item < n
@@ -49,8 +48,8 @@ module _ (machine : Machine) (base : ℕ) (l : Listing) where
 
   handled-by-within : (p : Position) (t : CycleState) (e : Ended) → Within (l .count) (handledBy machine base l p t e)
   handled-by-within p t (Stopped x) = tt
-  handled-by-within p t Went = transferred-within NoHandler (cellAt (machine .order) (t .memory) handlerCell) (thrownTo p t)
-  handled-by-within p t (Threw f) = transferred-within NoHandler (cellAt (machine .order) (t .memory) handlerCell) (thrownTo p t)
+  handled-by-within p t Went = transferred-within _ (handlerAt machine base l t) (thrownTo p t)
+  handled-by-within p t (Threw f) = transferred-within _ (handlerAt machine base l t) (thrownTo p t)
 
   handled-within : (p : Position) (t : CycleState) → Within (l .count) (handled machine base l p t)
   handled-within p t = handled-by-within p t (t .result .ended)

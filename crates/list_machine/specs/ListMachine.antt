@@ -119,11 +119,15 @@ module _ (machine : Machine) (base : ℕ) (l : Listing) where
   abbrev pub registersAt : Position → Registers
   registersAt p = record { ep = epValue base l (p .item); a = 0; sp = p .sp; rp = p .rp }
 
+  -- where a throw goes on: 'THROW, in the memory that the throw's writes leave
+  abbrev pub handlerAt : CycleState → ℕ
+  handlerAt t = cellAt (machine .order) (t .memory) handlerCell
+
   -- a throw as the processor makes it: stopped with -258 or -259, or on to 'THROW, and outside where no entry is there
   abbrev pub handledBy : Position → CycleState → Ended → Carried
   handledBy p t (Stopped x) = stopped x (thrownTo p t)
-  handledBy p t Went = transferred NoHandler (cellAt (machine .order) (t .memory) handlerCell) (thrownTo p t)
-  handledBy p t (Threw f) = transferred NoHandler (cellAt (machine .order) (t .memory) handlerCell) (thrownTo p t)
+  handledBy p t Went = transferred NoHandler (handlerAt t) (thrownTo p t)
+  handledBy p t (Threw f) = transferred NoHandler (handlerAt t) (thrownTo p t)
 
   abbrev pub handled : Position → CycleState → Carried
   handled p t = handledBy p t (t .result .ended)
