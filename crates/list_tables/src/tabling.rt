@@ -2,6 +2,7 @@
 ghost use mathlib.Core.Path.{_≡_};
 ghost use Prim.Native.Nat.{_+_, _*_, _≤_, _<_};
 ghost use lib.ListN.{length};
+ghost use Rattle.cell.specs.Memory.{cellCount};
 ghost use Rattle.pack_layout.specs.Flags.{Flags, flagged, bit};
 ghost use Rattle.pack_layout.specs.Listing.{listed, entry, Checked};
 ghost use Rattle.pack_layout.specs.Layout as placing;
@@ -25,13 +26,13 @@ fn is_short(form: ItemForm) -> bool
 }
 
 // The operand cells of a form.
-fn extra_of(form: ItemForm) -> u32
-    ensures { λ r. ⌜ r ≡ placing.extra form ⌝ }
+fn extra_of(form: ItemForm) -> CellCount
+    ensures { λ r. ⌜ r ≡ cellCount (placing.extra form) ⌝ }
 {
     match form {
-        ItemForm::Alone => 0,
-        ItemForm::Immediate => 0,
-        ItemForm::InCell => 1,
+        ItemForm::Alone => CellCount(0),
+        ItemForm::Immediate => CellCount(0),
+        ItemForm::InCell => CellCount(1),
     }
 }
 
@@ -92,7 +93,8 @@ pub fn tabulate(
         let left = lefts[i];
         let form = form_of(class_of(kinds[i]), marks[i] == 1, operands[i], left);
         let next = nexts[i];
-        let behind = next + extra_of(form);
+        let extra = extra_of(form);
+        let behind = next + extra.0;
         let flags = flags_for(entries[i] == 1, left == 3, is_short(form));
         write_row(
             table,

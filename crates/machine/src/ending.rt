@@ -31,11 +31,11 @@ use cell::place::fault_code;
 use cell::place::fault_in;
 
 // The registers once A is the cell at h.
-fn enter(h: u32, x: u32, r: Registers) -> Registers
-    ensures { λ s. ⌜ s ≡ throws.entered h x r ⌝ }
+fn enter(h: Address, x: u32, r: Registers) -> Registers
+    ensures { λ s. ⌜ s ≡ throws.entered (h .0) x r ⌝ }
 {
     Registers {
-        ep: add(h, 4),
+        ep: add(h.0, 4),
         a: x,
         sp: r.sp,
         rp: r.rp,
@@ -43,11 +43,17 @@ fn enter(h: u32, x: u32, r: Registers) -> Registers
 }
 
 // EP takes 'THROW and NEXT follows, or the machine stops with -259.
-fn to_handler(machine: Machine, memory: &[u8], r: Registers, ended: Ended, h: u32) -> CycleResult
+fn to_handler(
+    machine: Machine,
+    memory: &[u8],
+    r: Registers,
+    ended: Ended,
+    h: Address,
+) -> CycleResult
     requires { ⌜ places.Whole (now memory) ⌝ }
-    ensures { λ t. ⌜ throws.withResult (now (memory .entry)) t ≡ throws.toHandler machine (now (memory .entry)) r ended h ⌝ }
+    ensures { λ t. ⌜ throws.withResult (now (memory .entry)) t ≡ throws.toHandler machine (now (memory .entry)) r ended (h .0) ⌝ }
 {
-    let got = fetch(machine, Access::Stream, memory, Address(h));
+    let got = fetch(machine, Access::Stream, memory, h);
     let Fetched::Cell(x) = got else {
         return CycleResult {
             registers: Registers {
@@ -92,7 +98,7 @@ pub fn handle(machine: Machine, memory: &mut [u8], r: Registers, ended: Ended) -
             rp: r.rp,
         },
         ended,
-        h,
+        Address(h),
     )
 }
 
@@ -194,7 +200,7 @@ pub fn next(machine: Machine, memory: &mut [u8], r: Registers) -> CycleResult
     };
     CycleResult {
         registers: enter(
-            r.ep,
+            Address(r.ep),
             x,
             Registers {
                 ep: r.ep,

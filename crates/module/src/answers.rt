@@ -1,8 +1,10 @@
 // The numbers of each answer, as document 01 has them.
 ghost use mathlib.Core.Path.{_≡_};
+ghost use Rattle.cell.specs.Memory.{cellCount};
 ghost use Rattle.module.specs.Answers as answers;
 use crate::Loaded;
 use crate::Saved;
+use cell::CellCount;
 use cell::judgement::refusal_number;
 
 // 0, or the refusal's number.
@@ -16,12 +18,12 @@ pub fn load_number(answer: Loaded) -> u32
 }
 
 // The number of cells loaded, 0 on a refusal.
-pub fn load_count(answer: Loaded) -> u32
-    ensures { λ n. ⌜ n ≡ answers.loadCount answer ⌝ }
+pub fn load_count(answer: Loaded) -> CellCount
+    ensures { λ n. ⌜ n ≡ cellCount (answers.loadCount answer) ⌝ }
 {
     match answer {
-        Loaded::Refused(_) => 0,
-        Loaded::Cells(l) => l.0,
+        Loaded::Refused(_) => CellCount(0),
+        Loaded::Cells(l) => l,
     }
 }
 

@@ -8,7 +8,22 @@ use cell::CellCount;
 use cell::memory::load_at;
 use cell::memory::store_at;
 
-// The first `count` cells of a code part go to the byte address `to` on, first cell first, each read in `theirs` and stored in `ours`.
+// The first `count` cells of a code part go from the position `at` on, first cell first, each read in `theirs` and stored in `ours`.
+pub fn copy_at(theirs: u8, ours: u8, code: &[u8], bytes: &mut [u8], at: usize, count: CellCount)
+    requires { ⌜ 4 * count .0 ≤ length (now code) ⌝ }
+    requires { ⌜ at + 4 * count .0 ≤ length (now bytes) ⌝ }
+    ensures { λ r. ⌜ now (bytes .exit) ≡ copies.copied theirs ours (now (code .entry)) (now (bytes .entry)) at (count .0) ⌝ }
+{
+    let n = count.0 as usize;
+    let mut k = 0;
+    while k < n {
+        let x = load_at(theirs, code, 4 * k);
+        store_at(ours, bytes, at + 4 * k, x);
+        k += 1;
+    }
+}
+
+// The same into memory, from the byte address `to` on.
 pub fn copy_cells(
     theirs: u8,
     ours: u8,
@@ -21,12 +36,5 @@ pub fn copy_cells(
     requires { ⌜ to .0 + 4 * count .0 ≤ length (now memory) ⌝ }
     ensures { λ r. ⌜ now (memory .exit) ≡ copies.copied theirs ours (now (code .entry)) (now (memory .entry)) (to .0) (count .0) ⌝ }
 {
-    let at = to.0 as usize;
-    let n = count.0 as usize;
-    let mut k = 0;
-    while k < n {
-        let x = load_at(theirs, code, 4 * k);
-        store_at(ours, memory, at + 4 * k, x);
-        k += 1;
-    }
+    copy_at(theirs, ours, code, memory, to.0 as usize, count)
 }

@@ -6,7 +6,7 @@ ghost use lib.ListN.{length, drop};
 ghost use Rattle.module.specs.Format as format;
 ghost use Rattle.module.specs.Answers as answers;
 use crate::Saved;
-use crate::copying::copy_cells;
+use crate::copying::copy_at;
 use crate::judgement::judge_save;
 use cell::Address;
 use cell::CellCount;
@@ -43,7 +43,7 @@ pub fn save_object(
         Judged::Passed => {
             write_header(order, cells, output);
             let at = address.0 as usize;
-            copy_cells(order, order, &memory[at..], output, Address(12), cells);
+            copy_at(order, order, &memory[at..], output, 12, cells);
             Saved::Bytes(12 + 4 * cells.0)
         }
     }

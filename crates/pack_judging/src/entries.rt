@@ -1,6 +1,7 @@
 // The entries of a listing, as flags.
 use crate::kinds::class_of;
 use pack_layout::Class;
+use pack_layout::ItemNumber;
 ghost use mathlib.Core.Path.{_≡_};
 ghost use Prim.Native.Nat.{_<_};
 ghost use lib.ListN.{length, getD};
@@ -61,7 +62,8 @@ fn add_targets(kinds: &[u8], operands: &[u32], entries: &mut [u8])
     while j < n {
         let next = j + 1;
         if is_branch(kinds[j]) {
-            let t = operands[j] as usize;
+            let target = ItemNumber(operands[j]);
+            let t = target.0 as usize;
             entries[t] = 1;
         }
         j = next;

@@ -31,24 +31,18 @@ fn damage(memory: &mut [u8], file: &mut [u8], at: usize) {
 }
 
 // A file at an address of the first n bytes of a memory.
-fn place(order: u8, memory: &mut [u8], file: &[u8], n: usize, address: u32) {
+fn place(order: u8, memory: &mut [u8], file: &[u8], n: usize, address: Address) {
     if n <= memory.len() {
-        print_label(b"address ", address as usize);
-        print_loaded(load_object(order, &mut memory[0..n], file, Address(address)));
+        print_label(b"address ", address.0 as usize);
+        print_loaded(load_object(order, &mut memory[0..n], file, address));
     }
 }
 
 // Cells saved into the first n bytes of an output.
-fn save(order: u8, memory: &[u8], output: &mut [u8], n: usize, address: u32, cells: u32) {
+fn save(order: u8, memory: &[u8], output: &mut [u8], n: usize, address: Address, cells: CellCount) {
     if n <= output.len() {
         print_label(b"output ", n);
-        print_saved(save_object(
-            order,
-            memory,
-            Address(address),
-            CellCount(cells),
-            &mut output[0..n],
-        ));
+        print_saved(save_object(order, memory, address, cells, &mut output[0..n]));
     }
 }
 
@@ -77,26 +71,26 @@ fn damages(memory: &mut [u8; 1024], file: &mut [u8; 20]) {
 }
 
 fn places(memory: &mut [u8; 1024], file: &[u8; 20]) {
-    place(0, memory, file, 1020, 16);
-    place(0, memory, file, 1023, 16);
-    place(2, memory, file, 1024, 16);
-    place(0, memory, file, 1024, 18);
-    place(0, memory, file, 1024, 1020);
-    place(0, memory, file, 1024, 1024);
-    place(0, memory, file, 1024, 0xFFFFFFFC);
-    place(1, memory, file, 1024, 16);
+    place(0, memory, file, 1020, Address(16));
+    place(0, memory, file, 1023, Address(16));
+    place(2, memory, file, 1024, Address(16));
+    place(0, memory, file, 1024, Address(18));
+    place(0, memory, file, 1024, Address(1020));
+    place(0, memory, file, 1024, Address(1024));
+    place(0, memory, file, 1024, Address(0xFFFFFFFC));
+    place(1, memory, file, 1024, Address(16));
     print_front(memory);
 }
 
 fn saves(memory: &[u8; 1024], output: &mut [u8; 24]) {
-    save(2, memory, output, 20, 16, 2);
-    save(1, memory, output, 20, 17, 2);
-    save(1, memory, output, 20, 1020, 2);
-    save(1, memory, output, 20, 1024, 0);
-    save(1, memory, output, 20, 16, 0xFFFFFFFF);
-    save(1, memory, output, 19, 16, 2);
+    save(2, memory, output, 20, Address(16), CellCount(2));
+    save(1, memory, output, 20, Address(17), CellCount(2));
+    save(1, memory, output, 20, Address(1020), CellCount(2));
+    save(1, memory, output, 20, Address(1024), CellCount(0));
+    save(1, memory, output, 20, Address(16), CellCount(0xFFFFFFFF));
+    save(1, memory, output, 19, Address(16), CellCount(2));
     print_front(output);
-    save(1, memory, output, 20, 16, 2);
+    save(1, memory, output, 20, Address(16), CellCount(2));
     print_front(output);
 }
 

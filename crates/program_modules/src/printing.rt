@@ -34,7 +34,8 @@ fn print_answer(number: u32, count: u32) {
 }
 
 pub fn print_loaded(answer: Loaded) {
-    print_answer(load_number(answer), load_count(answer))
+    let cells = load_count(answer);
+    print_answer(load_number(answer), cells.0)
 }
 
 pub fn print_saved(answer: Saved) {

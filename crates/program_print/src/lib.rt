@@ -62,7 +62,7 @@ pub fn print_packed(answer: Packed, output: &[u8])
 {
     let number = pack_number(answer);
     if number == 0 {
-        print_cells(output, CellCount(pack_count(answer)));
+        print_cells(output, pack_count(answer));
     } else {
         print_number(number);
     }

@@ -5,6 +5,7 @@ use Prim.Native.Nat.{_-_, _*_, _≤_}
 use native.Mathlib.Omega.{arith}
 use lib.Dec.{eqb}
 use lib.ListN.{length, getD}
+use Rattle.cell.specs.declared.CellCount.{CellCount}
 use Rattle.pack_layout.specs.declared.Class.{Class}
 use Rattle.pack_layout.specs.Listing.{listed}
 use Rattle.pack_layout.specs.Packing.{formOf}
@@ -102,28 +103,28 @@ extra-of-requires c κs = tt
 add-behind : tie.Need-add-behind Inv-loop μ-loop
 add-behind c =
     let args =
-    c .before .before .before .before .before .before .before .before .before .before .before .before .before .before .before .before .before .before .args in
+    c .before .before .before .before .before .before .before .before .before .before .before .before .before .before .before .before .before .before .before .args in
     let pre =
-    c .before .before .before .before .before .before .before .before .before .before .before .before .before .before .before .before .before .before .pre in
+    c .before .before .before .before .before .before .before .before .before .before .before .before .before .before .before .before .before .before .before .pre in
     omega (
       arith,
       behind-low (args .kinds .now) (args .operands .now) (args .entries .now) (args .marks .now) (args .ats .now) (args .nexts .now)
           (args .lefts .now) (pre .0) (pre .1 .1 .1 .1 .0) (pre .1 .1 .1 .1 .1 .0) (pre .1 .1 .1 .1 .1 .1)
-          (c .before .before .before .before .before .before .before .before .before .loop .i)
-          (c .before .before .before .before .before .before .before .before .loop-test .taken) (c .before .before .form-of .result)
-          (c .before .before .form-of .ensures ∙ ap (λ (k : Class). formOf k (eqb (getD (args .marks .now)
-          (c .before .before .before .before .before .before .before .before .before .loop .i) 0) 1) (getD (args .operands .now)
-          (c .before .before .before .before .before .before .before .before .before .loop .i) 0) (getD (args .lefts .now)
-          (c .before .before .before .before .before .before .before .before .before .loop .i) 0)) (c .before .before .before .before .before .class-of .ensures))
-          (c .extra-of .result) (c .extra-of .ensures),
+          (c .before .before .before .before .before .before .before .before .before .before .loop .i)
+          (c .before .before .before .before .before .before .before .before .before .loop-test .taken) (c .before .before .before .form-of .result)
+          (c .before .before .before .form-of .ensures ∙ ap (λ (k : Class). formOf k (eqb (getD (args .marks .now)
+          (c .before .before .before .before .before .before .before .before .before .before .loop .i) 0) 1) (getD (args .operands .now)
+          (c .before .before .before .before .before .before .before .before .before .before .loop .i) 0) (getD (args .lefts .now)
+          (c .before .before .before .before .before .before .before .before .before .before .loop .i) 0)) (c .before .before .before .before .before .before .class-of .ensures))
+          (c .before .extra-of .result .0) (ap (λ (x : CellCount). x .0) (c .before .extra-of .ensures)),
     )
 
 shared-slice-read-flags-for : tie.Need-shared-slice-read-flags-for Inv-loop μ-loop
 shared-slice-read-flags-for c =
     omega (
       arith,
-      c .before .before .before .before .before .before .before .before .before .loop-test .taken,
-      c .before .before .before .before .before .before .before .before .before .before .before .before .before .before .before .before .before .before .before .pre .1 .0 .0,
+      c .before .before .before .before .before .before .before .before .before .before .loop-test .taken,
+      c .before .before .before .before .before .before .before .before .before .before .before .before .before .before .before .before .before .before .before .before .pre .1 .0 .0,
     )
 
 is-short-requires : tie.Need-is-short-requires Inv-loop μ-loop
@@ -132,92 +133,92 @@ is-short-requires c κs = tt
 flags-for-requires : tie.Need-flags-for-requires Inv-loop μ-loop
 flags-for-requires c κs = tt
 
-cast-t19 : tie.Need-cast-t19 Inv-loop μ-loop
-cast-t19 c =
-    omega (
-      arith,
-      c .before .before .before .before .before .before .before .before .before .before .before .before .loop-test .taken,
-      some-item (listed
-          (c .before .before .before .before .before .before .before .before .before .before .before .before .before .before .before .before .before .before .before .before .before .before .args .kinds .now)
-          (c .before .before .before .before .before .before .before .before .before .before .before .before .before .before .before .before .before .before .before .before .before .before .args .operands .now))
-          (c .before .before .before .before .before .before .before .before .before .before .before .before .before .before .before .before .before .before .before .before .before .before .pre .0 .input) .1,
-    )
-
-mul-t17 : tie.Need-mul-t17 Inv-loop μ-loop
-mul-t17 c =
-    omega (
-      arith,
-      c .before .before .before .before .before .before .before .before .before .before .before .before .loop-test .taken,
-      some-item (listed
-          (c .before .before .before .before .before .before .before .before .before .before .before .before .before .before .before .before .before .before .before .before .before .before .args .kinds .now)
-          (c .before .before .before .before .before .before .before .before .before .before .before .before .before .before .before .before .before .before .before .before .before .before .args .operands .now))
-          (c .before .before .before .before .before .before .before .before .before .before .before .before .before .before .before .before .before .before .before .before .before .before .pre .0 .input) .1,
-    )
-
-shared-slice-read-t35 : tie.Need-shared-slice-read-t35 Inv-loop μ-loop
-shared-slice-read-t35 c =
+cast-t20 : tie.Need-cast-t20 Inv-loop μ-loop
+cast-t20 c =
     omega (
       arith,
       c .before .before .before .before .before .before .before .before .before .before .before .before .before .loop-test .taken,
-      c .before .before .before .before .before .before .before .before .before .before .before .before .before .before .before .before .before .before .before .before .before .before .before .pre .1 .1 .0 .0,
+      some-item (listed
+          (c .before .before .before .before .before .before .before .before .before .before .before .before .before .before .before .before .before .before .before .before .before .before .before .args .kinds .now)
+          (c .before .before .before .before .before .before .before .before .before .before .before .before .before .before .before .before .before .before .before .before .before .before .before .args .operands .now))
+          (c .before .before .before .before .before .before .before .before .before .before .before .before .before .before .before .before .before .before .before .before .before .before .before .pre .0 .input) .1,
+    )
+
+mul-t18 : tie.Need-mul-t18 Inv-loop μ-loop
+mul-t18 c =
+    omega (
+      arith,
+      c .before .before .before .before .before .before .before .before .before .before .before .before .before .loop-test .taken,
+      some-item (listed
+          (c .before .before .before .before .before .before .before .before .before .before .before .before .before .before .before .before .before .before .before .before .before .before .before .args .kinds .now)
+          (c .before .before .before .before .before .before .before .before .before .before .before .before .before .before .before .before .before .before .before .before .before .before .before .args .operands .now))
+          (c .before .before .before .before .before .before .before .before .before .before .before .before .before .before .before .before .before .before .before .before .before .before .before .pre .0 .input) .1,
+    )
+
+shared-slice-read-t36 : tie.Need-shared-slice-read-t36 Inv-loop μ-loop
+shared-slice-read-t36 c =
+    omega (
+      arith,
+      c .before .before .before .before .before .before .before .before .before .before .before .before .before .before .loop-test .taken,
+      c .before .before .before .before .before .before .before .before .before .before .before .before .before .before .before .before .before .before .before .before .before .before .before .before .pre .1 .1 .0 .0,
     )
 
 write-row-requires : tie.Need-write-row-requires Inv-loop μ-loop
 write-row-requires c κs = (
   omega (
     arith,
-    c .before .before .before .before .before .before .before .before .before .before .before .before .before .loop-test .taken,
-    c .before .before .before .before .before .before .before .before .before .before .before .before .before .before .loop .inv .1,
+    c .before .before .before .before .before .before .before .before .before .before .before .before .before .before .loop-test .taken,
+    c .before .before .before .before .before .before .before .before .before .before .before .before .before .before .before .loop .inv .1,
   ),
   omega (
     arith,
-    c .before .before .before .before .before .before .before .before .before .before .before .before .before .loop-test .taken,
+    c .before .before .before .before .before .before .before .before .before .before .before .before .before .before .loop-test .taken,
     some-item (listed
-        (c .before .before .before .before .before .before .before .before .before .before .before .before .before .before .before .before .before .before .before .before .before .before .before .args .kinds .now)
-        (c .before .before .before .before .before .before .before .before .before .before .before .before .before .before .before .before .before .before .before .before .before .before .before .args .operands .now))
-        (c .before .before .before .before .before .before .before .before .before .before .before .before .before .before .before .before .before .before .before .before .before .before .before .pre .0 .input) .1,
+        (c .before .before .before .before .before .before .before .before .before .before .before .before .before .before .before .before .before .before .before .before .before .before .before .before .args .kinds .now)
+        (c .before .before .before .before .before .before .before .before .before .before .before .before .before .before .before .before .before .before .before .before .before .before .before .before .args .operands .now))
+        (c .before .before .before .before .before .before .before .before .before .before .before .before .before .before .before .before .before .before .before .before .before .before .before .before .pre .0 .input) .1,
   ),
 )
 
 add-i : tie.Need-add-i Inv-loop μ-loop
-add-i c = omega (arith, c .before .before .before .before .before .before .before .before .before .before .before .before .before .before .before .before .loop-test .taken)
+add-i c = omega (arith, c .before .before .before .before .before .before .before .before .before .before .before .before .before .before .before .before .before .loop-test .taken)
 
 loop-less : tie.Need-loop-less Inv-loop μ-loop
-loop-less c = omega (arith, c .before .before .before .before .before .before .before .before .before .before .before .before .before .before .before .before .loop-test .taken)
+loop-less c = omega (arith, c .before .before .before .before .before .before .before .before .before .before .before .before .before .before .before .before .before .loop-test .taken)
 
 loop-again : tie.Need-loop-again Inv-loop μ-loop
 loop-again c =
     let args =
-    c .before .before .before .before .before .before .before .before .before .before .before .before .before .before .before .before .before .before .before .before .before .before .before .before .before .before .args
+    c .before .before .before .before .before .before .before .before .before .before .before .before .before .before .before .before .before .before .before .before .before .before .before .before .before .before .before .args
     in let pre =
-    c .before .before .before .before .before .before .before .before .before .before .before .before .before .before .before .before .before .before .before .before .before .before .before .before .before .before .pre
+    c .before .before .before .before .before .before .before .before .before .before .before .before .before .before .before .before .before .before .before .before .before .before .before .before .before .before .before .pre
     in (
       omega (
         arith,
-        c .before .before .before .before .before .before .before .before .before .before .before .before .before .before .before .before .loop-test .taken,
+        c .before .before .before .before .before .before .before .before .before .before .before .before .before .before .before .before .before .loop-test .taken,
       ),
       c .before .before .write-row .kept .0 ∙
-          c .before .before .before .before .before .before .before .before .before .before .before .before .before .before .before .before .before .loop .inv .1,
+          c .before .before .before .before .before .before .before .before .before .before .before .before .before .before .before .before .before .before .loop .inv .1,
       rw
           (c .before .before .write-row .ensures) (next-row (args .kinds .now) (args .operands .now) (args .entries .now) (args .marks .now) (args .ats .now)
           (args .nexts .now) (args .lefts .now) (pre .0) (pre .1 .1 .1 .1 .0) (pre .1 .1 .1 .1 .1 .0) (pre .1 .1 .1 .1 .1 .1)
-          (c .before .before .before .before .before .before .before .before .before .before .before .before .before .before .before .before .before .loop .i)
-          (c .before .before .before .before .before .before .before .before .before .before .before .before .before .before .before .before .loop-test .taken)
-          (c .before .before .before .before .before .before .before .before .before .before .form-of .result)
-          (c .before .before .before .before .before .before .before .before .before .before .form-of .ensures ∙ ap (λ (k : Class). formOf k (eqb (getD
+          (c .before .before .before .before .before .before .before .before .before .before .before .before .before .before .before .before .before .before .loop .i)
+          (c .before .before .before .before .before .before .before .before .before .before .before .before .before .before .before .before .before .loop-test .taken)
+          (c .before .before .before .before .before .before .before .before .before .before .before .form-of .result)
+          (c .before .before .before .before .before .before .before .before .before .before .before .form-of .ensures ∙ ap (λ (k : Class). formOf k (eqb (getD
           (args .marks .now)
-          (c .before .before .before .before .before .before .before .before .before .before .before .before .before .before .before .before .before .loop .i) 0) 1)
+          (c .before .before .before .before .before .before .before .before .before .before .before .before .before .before .before .before .before .before .loop .i) 0) 1)
           (getD (args .operands .now)
-          (c .before .before .before .before .before .before .before .before .before .before .before .before .before .before .before .before .before .loop .i) 0)
+          (c .before .before .before .before .before .before .before .before .before .before .before .before .before .before .before .before .before .before .loop .i) 0)
           (getD (args .lefts .now)
-          (c .before .before .before .before .before .before .before .before .before .before .before .before .before .before .before .before .before .loop .i) 0))
-          (c .before .before .before .before .before .before .before .before .before .before .before .before .before .class-of .ensures))
-          (c .before .before .before .before .before .before .before .before .before .before .before .before .before .before .before .before .before .loop .table)
-          (c .before .before .before .before .before .before .before .before .before .before .before .before .before .before .before .before .before .loop .inv .1)
-          (c .before .before .before .before .before .before .before .before .extra-of .result) (c .before .before .before .before .before .flags-for .result)
-          (c .before .before .before .before .before .before .is-short .result) (c .before .before .before .before .before .before .before .before .extra-of .ensures)
+          (c .before .before .before .before .before .before .before .before .before .before .before .before .before .before .before .before .before .before .loop .i) 0))
+          (c .before .before .before .before .before .before .before .before .before .before .before .before .before .before .class-of .ensures))
+          (c .before .before .before .before .before .before .before .before .before .before .before .before .before .before .before .before .before .before .loop .table)
+          (c .before .before .before .before .before .before .before .before .before .before .before .before .before .before .before .before .before .before .loop .inv .1)
+          (c .before .before .before .before .before .before .before .before .before .extra-of .result .0) (c .before .before .before .before .before .flags-for .result)
+          (c .before .before .before .before .before .before .is-short .result) (ap (λ (x : CellCount). x .0) (c .before .before .before .before .before .before .before .before .before .extra-of .ensures))
           (c .before .before .before .before .before .before .is-short .ensures) (c .before .before .before .before .before .flags-for .ensures)
-          (c .before .before .before .before .before .before .before .before .before .before .before .before .before .before .before .before .before .loop .inv .2)),
+          (c .before .before .before .before .before .before .before .before .before .before .before .before .before .before .before .before .before .before .loop .inv .2)),
     )
 
 same-length : tie.Need-same-length Inv-loop μ-loop
@@ -252,9 +253,9 @@ tabulate-spec =
     shared-slice-read-flags-for
     is-short-requires
     flags-for-requires
-    cast-t19
-    mul-t17
-    shared-slice-read-t35
+    cast-t20
+    mul-t18
+    shared-slice-read-t36
     write-row-requires
     add-i
     loop-less

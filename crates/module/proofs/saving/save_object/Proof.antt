@@ -30,8 +30,8 @@ write-header-requires c κs =
 cast-at : tie.Need-cast-at
 cast-at c = search needs
 
-sub-copy-cells : tie.Need-sub-copy-cells
-sub-copy-cells c =
+sub-copy-at : tie.Need-sub-copy-at
+sub-copy-at c =
     let g = save-good (c .before .before .before .before .before .before .before .before .before .before .args .order)
     (c .before .before .before .before .before .before .before .before .before .before .args .memory .now)
     (c .before .before .before .before .before .before .before .before .before .before .args .address .0)
@@ -40,8 +40,8 @@ sub-copy-cells c =
     (c .before .before .before .before .before .before .before .judge-save .ensures) ∙ c .before .before .before .before .before .enum-told .given .1) in omega
     (arith, g .place .inside)
 
-part-copy-cells-start : tie.Need-part-copy-cells-start
-part-copy-cells-start c =
+part-copy-at-start : tie.Need-part-copy-at-start
+part-copy-at-start c =
     let g = save-good (c .before .before .before .before .before .before .before .before .before .before .args .order)
     (c .before .before .before .before .before .before .before .before .before .before .args .memory .now)
     (c .before .before .before .before .before .before .before .before .before .before .args .address .0)
@@ -50,11 +50,11 @@ part-copy-cells-start c =
     (c .before .before .before .before .before .before .before .judge-save .ensures) ∙ c .before .before .before .before .before .enum-told .given .1) in omega
     (arith, g .place .inside)
 
-part-copy-cells-end : tie.Need-part-copy-cells-end
-part-copy-cells-end c = search needs
+part-copy-at-end : tie.Need-part-copy-at-end
+part-copy-at-end c = search needs
 
-copy-cells-requires : tie.Need-copy-cells-requires
-copy-cells-requires c κs =
+copy-at-requires : tie.Need-copy-at-requires
+copy-at-requires c κs =
     let g = save-good (c .before .before .before .before .before .before .before .before .before .before .before .before .args .order)
     (c .before .before .before .before .before .before .before .before .before .before .before .before .args .memory .now)
     (c .before .before .before .before .before .before .before .before .before .before .before .before .args .address .0)
@@ -70,8 +70,8 @@ copy-cells-requires c κs =
     in
     (rw t (simp length-drop (omega (arith, g .place .room))), omega (arith, g .room, c .before .before .before .before .before .write-header .kept .1 .1 .0))
 
-mul-t22 : tie.Need-mul-t22
-mul-t22 c =
+mul-t21 : tie.Need-mul-t21
+mul-t21 c =
     let g = save-good
     (c .before .before .before .before .before .before .before .before .before .before .before .before .before .before .before .before .args .order)
     (c .before .before .before .before .before .before .before .before .before .before .before .before .before .before .before .before .args .memory .now)
@@ -85,8 +85,8 @@ mul-t22 c =
       g .machine .lent .most,
     )
 
-add-t23 : tie.Need-add-t23
-add-t23 c =
+add-t22 : tie.Need-add-t22
+add-t22 c =
     let g = save-good
     (c .before .before .before .before .before .before .before .before .before .before .before .before .before .before .before .before .args .order)
     (c .before .before .before .before .before .before .before .before .before .before .before .before .before .before .before .before .args .memory .now)
@@ -124,7 +124,7 @@ returns-2 c =
     (c .before .before .before .before .before .before .before .before .before .before .before .before .before .before .before .before .args .address .0)
     (c .before .before .before .before .before .before .before .before .before .before .before .before .before .before .before .before .args .memory .now))
     (simp length-drop (omega arith))) (c .before .before .before .before .before .before .before .before .before .write-header .ensures)
-    (c .before .before .before .copy-cells .ensures)
+    (c .before .before .before .copy-at .ensures)
 
 pub save-object-spec : {M : Type 1} → statement M
 save-object-spec =
@@ -135,12 +135,12 @@ save-object-spec =
     enum-told
     write-header-requires
     cast-at
-    sub-copy-cells
-    part-copy-cells-start
-    part-copy-cells-end
-    copy-cells-requires
-    mul-t22
-    add-t23
+    sub-copy-at
+    part-copy-at-start
+    part-copy-at-end
+    copy-at-requires
+    mul-t21
+    add-t22
     returns
     same-length
     returns-2)

@@ -38,33 +38,33 @@ shared-slice-read-is-branch c = omega arith
 is-branch-requires : tie.Need-is-branch-requires Inv-loop μ-loop
 is-branch-requires c κs = search needs
 
-mul-t : tie.Need-mul-t Inv-loop μ-loop
-mul-t c =
+mul-t13 : tie.Need-mul-t13 Inv-loop μ-loop
+mul-t13 c =
     let pre-here = c .before .before .before .before .before .before .before .before .pre in
     omega (arith, pre-here .0 .equal)
 
-shared-slice-read-t : tie.Need-shared-slice-read-t Inv-loop μ-loop
-shared-slice-read-t c =
+shared-slice-read-t15 : tie.Need-shared-slice-read-t15 Inv-loop μ-loop
+shared-slice-read-t15 c =
     let pre-here = c .before .before .before .before .before .before .before .before .before .pre in
     let loop-test = c .before .before .before .before .loop-test in
     omega (arith, pre-here .0 .equal, loop-test .taken)
 
 cast-t : tie.Need-cast-t Inv-loop μ-loop
 cast-t c =
-    let loop = c .before .before .before .before .before .loop in
-    omega (arith, c .shared-slice-known4 .given (loop .j))
+    let loop = c .before .before .before .before .before .before .loop in
+    omega (arith, c .before .shared-slice-known4 .given (loop .j))
 
 slice-write-entries : tie.Need-slice-write-entries Inv-loop μ-loop
 slice-write-entries c =
-    let args = c .before .before .before .before .before .before .before .before .before .args in
-    let pre-here = c .before .before .before .before .before .before .before .before .before .pre in
-    let loop = c .before .before .before .before .before .loop in
-    let loop-test = c .before .before .before .before .loop-test in
-    let is-branch-here = c .before .before .is-branch in
+    let args = c .before .before .before .before .before .before .before .before .before .before .args in
+    let pre-here = c .before .before .before .before .before .before .before .before .before .before .pre in
+    let loop = c .before .before .before .before .before .before .loop in
+    let loop-test = c .before .before .before .before .before .loop-test in
+    let is-branch-here = c .before .before .before .is-branch in
     omega (
       arith,
       target-below (listed (args .kinds .now) (args .operands .now)) (pre-here .0 .input) (loop .j) (loop-test
-          .taken) (is-branch _ (sym (is-branch-here .ensures) ∙ c .before .if1 .taken)),
+          .taken) (is-branch _ (sym (is-branch-here .ensures) ∙ c .before .before .if1 .taken)),
     )
 
 loop-less : tie.Need-loop-less Inv-loop μ-loop
@@ -72,17 +72,17 @@ loop-less c = omega arith
 
 loop-again : tie.Need-loop-again Inv-loop μ-loop
 loop-again c =
-    let args = c .before .before .before .before .before .before .before .before .before .args in
-    let pre-here = c .before .before .before .before .before .before .before .before .before .pre in
-    let loop = c .before .before .before .before .before .loop in
-    let loop-test = c .before .before .before .before .loop-test in
-    let is-branch-here = c .before .before .is-branch in
+    let args = c .before .before .before .before .before .before .before .before .before .before .args in
+    let pre-here = c .before .before .before .before .before .before .before .before .before .before .pre in
+    let loop = c .before .before .before .before .before .before .loop in
+    let loop-test = c .before .before .before .before .before .loop-test in
+    let is-branch-here = c .before .before .before .is-branch in
     let h = target-below (listed (args .kinds .now) (args .operands .now)) (pre-here .0 .input) (loop .j) (loop-test .taken)
-    (is-branch _ (sym (is-branch-here .ensures) ∙ c .before .if1 .taken)) in (
+    (is-branch _ (sym (is-branch-here .ensures) ∙ c .before .before .if1 .taken)) in (
       omega arith,
       length-set (loop .entries) _ 1 ∙ loop .inv .1,
       targets-more (listed (args .kinds .now) (args .operands .now)) (loop .j) (loop .entries) (length (args .kinds .now))
-          (sym (is-branch-here .ensures) ∙ c .before .if1 .taken) (rw (loop .inv .1) h) (loop .inv .2),
+          (sym (is-branch-here .ensures) ∙ c .before .before .if1 .taken) (rw (loop .inv .1) h) (loop .inv .2),
     )
 
 loop-less-2 : tie.Need-loop-less-2 Inv-loop μ-loop
@@ -119,8 +119,8 @@ add-targets-spec =
     add-next
     shared-slice-read-is-branch
     is-branch-requires
-    mul-t
-    shared-slice-read-t
+    mul-t13
+    shared-slice-read-t15
     cast-t
     slice-write-entries
     loop-less

@@ -1,19 +1,16 @@
--- `copy_cells` meets its contract: the loop has copied the first k cells.
-use Rattle.module.proofs.copying.copy_cells.Statement.{statement}
-use Rattle.module.proofs.copying.copy_cells.Tie as tie
+-- `copy_at` meets its contract: the loop has copied the first k cells.
+use Rattle.module.proofs.copying.copy_at.Statement.{statement}
+use Rattle.module.proofs.copying.copy_at.Tie as tie
 use Prim.Native.Nat.{_<_, _≤_, _-_}
 use native.Mathlib.Omega.{arith}
 use borrow.Author.Needs.{needs}
 use Rattle.module.proofs.CopyLaws.{Copying, copy-begins, copy-goes-on, copy-ends}
 
 abbrev Inv-loop : tie.InvT-loop
-Inv-loop theirs ours code memory₀ at n k₀ memory k = Copying theirs ours code memory₀ at n memory k
+Inv-loop theirs ours code bytes₀ at n k₀ bytes k = Copying theirs ours code bytes₀ at n bytes k
 
 abbrev μ-loop : tie.MeasureT-loop
-μ-loop theirs ours code memory₀ at n k₀ memory k = n - k
-
-cast-at : tie.Need-cast-at Inv-loop μ-loop
-cast-at c = search needs
+μ-loop theirs ours code bytes₀ at n k₀ bytes k = n - k
 
 cast-n : tie.Need-cast-n Inv-loop μ-loop
 cast-n c = search needs
@@ -44,10 +41,10 @@ loop-less c = omega (arith, c .before .before .before .before .before .loop-test
 
 loop-again : tie.Need-loop-again Inv-loop μ-loop
 loop-again c =
-    let a = c .before .before .before .before .before .before .before .before .before .before .before .args in
+    let a = c .before .before .before .before .before .before .before .before .before .before .args in
     let l = c .before .before .before .before .before .before .loop in
     let h : l .k < a .count .0 = omega (arith, c .before .before .before .before .before .loop-test .taken) in
-    copy-goes-on _ _ _ _ _ _ (l .memory) (l .k) (c .before .before .before .before .load-at .result) _ h (c .before .before .before .before .load-at .ensures)
+    copy-goes-on _ _ _ _ _ _ (l .bytes) (l .k) (c .before .before .before .before .load-at .result) _ h (c .before .before .before .before .load-at .ensures)
     (c .before .before .store-at .ensures) (l .inv)
 
 same-length : tie.Need-same-length Inv-loop μ-loop
@@ -55,18 +52,17 @@ same-length c = c .before .loop .inv .long
 
 returns : tie.Need-returns Inv-loop μ-loop
 returns c =
-    let a = c .before .before .before .before .before .before .args in
+    let a = c .before .before .before .before .before .args in
     let l = c .before .loop in
     let h : a .count .0 ≤ l .k = omega (arith, c .loop-test .left) in
     copy-ends _ _ _ _ _ _ _ (l .k) h (l .inv)
 
-pub copy-cells-spec : {M : Type 1} → statement M
-copy-cells-spec =
+pub copy-at-spec : {M : Type 1} → statement M
+copy-at-spec =
     tie.close
     (tie.spec
     Inv-loop
     μ-loop
-    cast-at
     cast-n
     loop-holds
     mul-load-at
