@@ -30,6 +30,7 @@ pub fn tell_started(answer: Started, registers: &mut [u32], out: &mut [u32]) -> 
     ensures { λ n. ⌜ machines.told (now (registers .exit)) (now (out .exit)) n ≡ machines.startTold (now (registers .entry)) (now (out .entry)) answer ⌝ }
 {
     match answer {
+        // never reached: the call judges before it asks for this answer
         Started::Refused(n) => refusal_number(n),
         Started::Ready(r) => {
             write_registers(registers, r);
@@ -50,6 +51,7 @@ pub fn tell_cycled(answer: Cycled, registers: &mut [u32], out: &mut [u32]) -> u3
     ensures { λ n. ⌜ machines.told (now (registers .exit)) (now (out .exit)) n ≡ machines.cycleTold (now (registers .entry)) (now (out .entry)) answer ⌝ }
 {
     match answer {
+        // never reached: the call judges before it asks for this answer
         Cycled::Refused(n) => refusal_number(n),
         Cycled::Went(r) => {
             write_registers(registers, r);
@@ -75,6 +77,7 @@ pub fn tell_ran(answer: Ran, budget: u32, registers: &mut [u32], out: &mut [u32]
     ensures { λ n. ⌜ machines.told (now (registers .exit)) (now (out .exit)) n ≡ machines.runTold (now (registers .entry)) (now (out .entry)) budget answer ⌝ }
 {
     match answer {
+        // never reached: the call judges before it asks for this answer
         Ran::Refused(n) => refusal_number(n),
         Ran::Spent(r) => {
             write_registers(registers, r);

@@ -13,6 +13,7 @@ pub fn note_loaded(answer: Loaded, out: &mut [u32]) -> u32
     ensures { λ n. ⌜ modules.noted (now (out .exit)) n ≡ modules.loadNoted (now (out .entry)) answer ⌝ }
 {
     match answer {
+        // never reached: the call judges before it asks for this answer
         Loaded::Refused(r) => refusal_number(r),
         Loaded::Cells(l) => {
             write_one(out, l.0);
@@ -26,6 +27,7 @@ pub fn note_saved(answer: Saved, out: &mut [u32]) -> u32
     ensures { λ n. ⌜ modules.noted (now (out .exit)) n ≡ modules.saveNoted (now (out .entry)) answer ⌝ }
 {
     match answer {
+        // never reached: the call judges before it asks for this answer
         Saved::Refused(r) => refusal_number(r),
         Saved::Bytes(n) => {
             write_one(out, n);

@@ -47,7 +47,7 @@ pub fn propose_from_46(machine: Machine, memory: &[u8], r: Registers, opcode: u3
         0x55 => Shape::None(halt(machine, memory, r)),
         // LIB
         0x57 => Shape::None(lib(machine, memory, r)),
-        // the other opcodes raise -256, and the pointers are never read
+        // never reached: from 42h on, those above are all the plain kinds
         _ => Shape::None(NoStore {
             sp: r.sp,
             rp: r.rp,

@@ -222,6 +222,7 @@ pub fn finish(machine: Machine, memory: &mut [u8], s: Step) -> CycleResult
     let outcome = s.outcome;
     let r = s.registers;
     match outcome {
+        // never reached: the loop of a run takes these registers itself
         Outcome::Went => CycleResult {
             registers: Registers {
                 ep: r.ep,
@@ -231,6 +232,7 @@ pub fn finish(machine: Machine, memory: &mut [u8], s: Step) -> CycleResult
             },
             ended: Ended::Went,
         },
+        // never reached: a run's cycle has made NEXT's fetch before
         Outcome::Next => next(
             machine,
             memory,

@@ -40,6 +40,7 @@ fn newly(kind: u8, marked: bool, x: u32, f: u32, next: CellCount, ats: &[u32]) -
         Class::Branch => {
             let g = taken(marked, f);
             match g {
+                // never reached: `taken` gives one of the other two
                 ItemForm::Alone => false,
                 ItemForm::Immediate => {
                     let fit = fits_in(f, distance_of(next, place_of(ats, ItemNumber(x))));
@@ -48,6 +49,7 @@ fn newly(kind: u8, marked: bool, x: u32, f: u32, next: CellCount, ats: &[u32]) -
                 ItemForm::InCell => false,
             }
         }
+        // never reached: the input list refuses a byte that is no kind
         Class::NoKind => false,
     }
 }

@@ -52,6 +52,7 @@ pub fn value_of(c: Class, g: ItemForm, x: u32, next: CellCount, to: CellCount, b
         Class::Plain => 0,
         Class::Literal => x,
         Class::Branch => match g {
+            // never reached: a branch has a value, in one form or the other
             ItemForm::Alone => 0,
             ItemForm::Immediate => distance_of(next, to),
             ItemForm::InCell => {
@@ -59,6 +60,7 @@ pub fn value_of(c: Class, g: ItemForm, x: u32, next: CellCount, to: CellCount, b
                 target.0
             }
         },
+        // never reached: the input list refuses a byte that is no kind
         Class::NoKind => 0,
     }
 }

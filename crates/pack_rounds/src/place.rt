@@ -87,6 +87,7 @@ pub fn form_of(c: Class, marked: bool, x: u32, f: u32) -> ItemForm
             taken(!fit, f)
         }
         Class::Branch => taken(marked, f),
+        // never reached: the input list refuses a byte that is no kind
         Class::NoKind => ItemForm::Alone,
     }
 }
