@@ -15,6 +15,7 @@ use cell::Judged;
 use list_items::running::run_items;
 use list_judging::Stand;
 use list_tables::Image;
+use list_tables::TABLE_NUMBERS;
 use list_tables::settle::settle_table;
 use machine::Machine;
 use pack_layout::ItemNumber;
@@ -66,7 +67,7 @@ pub fn follow_within(
         Judged::Refused(r) => Followed::Refused(r),
         Judged::Passed => {
             let size = 4 * kinds.len();
-            let mut table = [0u32; 16384];
+            let mut table = [0u32; TABLE_NUMBERS];
             follow_checked(
                 Machine { order: order },
                 memory,

@@ -25,7 +25,7 @@ fn judge_header(order: u8, file: &[u8]) -> Judged
         Judged::Passed => match judge_length(file) {
             Judged::Refused(r) => Judged::Refused(r),
             Judged::Passed => {
-                if 4096 < cell_at(file, 0) {
+                if MOST_ITEMS < cell_at(file, 0) as usize {
                     return Judged::Refused(Refusal::ItemCount);
                 }
                 Judged::Passed

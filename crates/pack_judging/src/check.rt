@@ -5,6 +5,7 @@ use cell::CellCount;
 use cell::Judged;
 use cell::Refusal;
 use pack_layout::Class;
+use pack_layout::MOST_ITEMS;
 ghost use mathlib.Core.Path.{_≡_};
 ghost use Prim.Native.Nat.{_≤_};
 ghost use lib.ListN.{length};
@@ -61,7 +62,7 @@ pub fn judge_arrays(kinds: &[u8], operands: &[u32]) -> Judged
     if n == 0 {
         return Judged::Refused(Refusal::ItemCount);
     }
-    if 4096 < n {
+    if MOST_ITEMS < n {
         return Judged::Refused(Refusal::ItemCount);
     }
     judge_items(kinds, operands)

@@ -7,6 +7,7 @@ ghost use Rattle.pack_layout.specs.Packing.{imageCells};
 ghost use Rattle.pack_prepare.specs.Prepared.{Places, Prepared};
 use cell::CellCount;
 use pack_judging::entries::find_entries;
+use pack_layout::MOST_ITEMS;
 use pack_rounds::settle::settle_marks;
 
 // Fills the working arrays. The answer is the number of cells of the image.
@@ -34,11 +35,11 @@ pub fn count_cells(kinds: &[u8], operands: &[u32]) -> CellCount
     ensures { λ r. ⌜ r ≡ cellCount (imageCells (listed (now (kinds .entry)) (now (operands .entry)))) ⌝ }
 {
     let n = kinds.len();
-    let mut entries = [0u8; 4096];
-    let mut marks = [0u8; 4096];
-    let mut ats = [0u32; 4096];
-    let mut nexts = [0u32; 4096];
-    let mut lefts = [0u32; 4096];
+    let mut entries = [0u8; MOST_ITEMS];
+    let mut marks = [0u8; MOST_ITEMS];
+    let mut ats = [0u32; MOST_ITEMS];
+    let mut nexts = [0u32; MOST_ITEMS];
+    let mut lefts = [0u32; MOST_ITEMS];
     prepare(
         kinds,
         operands,

@@ -32,6 +32,9 @@ cell-at-requires c κs =
     let judge-length = c .before .before .judge-length in
     let w = length-of (args .file .now) (sym (judge-length .ensures) ∙ c .enum-told2 .given .1) in omega (arith, w)
 
+cast-if1 : tie.Need-cast-if1
+cast-if1 c = search needs
+
 returns : tie.Need-returns
 unfolding files.judgeHeader
 returns c =
@@ -76,6 +79,7 @@ judge-header-spec =
     enum-known-r-2
     enum-told-2
     cell-at-requires
+    cast-if1
     returns
     returns-2
     returns-3
