@@ -55,6 +55,10 @@ memoryLength len =
 abbrev pub byteOrder : ℕ → Ground
 byteOrder order = record { applies = ltb 1 order; refusal = ByteOrder }
 
+-- -4104: an address that is no multiple of 4
+abbrev pub unaligned : ℕ → Ground
+unaligned a = record { applies = not (eqb (a % 4) 0); refusal = Unaligned }
+
 -- what every call on a lent memory judges first
 unfoldable pub judgeMachine : ℕ → ℕ → Judged
 judgeMachine len order = judge (memoryLength len ∷ byteOrder order ∷ [])

@@ -1,6 +1,5 @@
 -- Opcodes from the end of the table on, the loops among them, and a choice of two cases.
 use mathlib.Core.Path.{_≡_}
-use mathlib.Core.Logic.{_⊎_, inl, inr}
 use Prim.Native.Nat.{ℕ, suc, _/_, _<_, _≤_}
 use native.Mathlib.Decide.{decLe, decLt}
 use native.Mathlib.Omega.{arith}
@@ -40,8 +39,3 @@ loop-is n h = go (decLt n 0x4D) (decLt n 0x4E) (decLt n 0x4F)
 
 pub loop-quarter : {n : ℕ} → 0x4C ≤ n → n < 0x50 → n / 4 ≡ 0x13
 loop-quarter h l = omega arith
-
--- one of two ways
-pub either : {A B C : Type 0} → A ⊎ B → (A → C) → (B → C) → C
-either (inl a) f g = f a
-either (inr b) f g = g b

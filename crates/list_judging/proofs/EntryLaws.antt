@@ -5,15 +5,15 @@ use mathlib.Core.List.{List}
 use Prim.Native.Nat.{ℕ, suc, _+_, _-_, _*_, _≤_, _<_}
 use native.Mathlib.Omega.{arith}
 use lib.Dec.{eqb}
+use Rattle.cell.specs.Choice.{if}
 use Rattle.pack_layout.specs.declared.Entry.{Entry}
 use Rattle.pack_layout.specs.declared.Entry.the-variants.{Item, Nothing}
-use Rattle.pack_layout.specs.Packing.{pickEntry}
 use Rattle.list_tables.specs.Tables.{placeIn, entryIn, rows, entryBelow}
 
-pick-entry : (b : Bool) (e f : Entry) → b ≡ true → pickEntry b e f ≡ e
+pick-entry : (b : Bool) (e f : Entry) → b ≡ true → if b e f ≡ e
 pick-entry b e f q = rw q
 
-pick-other : (b : Bool) (e f : Entry) → b ≡ false → pickEntry b e f ≡ f
+pick-other : (b : Bool) (e f : Entry) → b ≡ false → if b e f ≡ f
 pick-other b e f q = rw q
 
 -- what the search keeps: the entry that is looked for is among the first i

@@ -5,11 +5,12 @@ use mathlib.Core.List.{List}
 use Prim.Native.Nat.{ℕ, zero, suc, _+_, _*_, _/_, _%_, _^_, _≤_, _<_}
 use lib.Dec.{eqb}
 use lib.ListN.{length, getD, set}
+use Rattle.cell.specs.Choice.{if}
 use Rattle.cell.specs.declared.Judged.the-variants.{Passed}
 use Rattle.pack_layout.specs.Flags.{bit}
 use Rattle.pack_layout.specs.Listing.{Listing, listed, entry, Checked}
 use Rattle.pack_layout.specs.Layout.{extra, opens, mid, formAt}
-use Rattle.pack_layout.specs.Packing.{layout, imageCells, judgedPlace, pickEntry}
+use Rattle.pack_layout.specs.Packing.{layout, imageCells, judgedPlace}
 use Rattle.pack_layout.specs.declared.Entry.{Entry}
 use Rattle.pack_layout.specs.declared.Entry.the-variants.{Item, Nothing}
 use Rattle.list_machine.specs.ListMachine.{isImmediate}
@@ -54,7 +55,7 @@ withRow table i at next behind flags =
 unfoldable pub entryBelow : List ℕ → ℕ → ℕ → ℕ → Entry
 entryBelow table base zero a = Nothing
 entryBelow table base (suc i) a =
-    pickEntry (entryIn table i && eqb (base + 4 * placeIn table i) a) (Item (record { 0 = i })) (entryBelow table base i a)
+    if (entryIn table i && eqb (base + 4 * placeIn table i) a) (Item (record { 0 = i })) (entryBelow table base i a)
 
 -- few rows, and every cell that they name has an address
 pub record Near (table : List ℕ) (base : ℕ) : Type 0 where

@@ -4,12 +4,12 @@ use mathlib.Core.Bool.{Bool, true, false}
 use mathlib.Core.List.{List, [], _∷_, _++_}
 use Prim.Native.Nat.{ℕ}
 use Rattle.cell.specs.Choice.{if}
-use Rattle.cell.specs.Refusals.{Ground, judge, after, judgeMachine, memoryLength, byteOrder}
+use Rattle.cell.specs.Refusals.{Ground, judge, after, judgeMachine, memoryLength, byteOrder, unaligned}
 use Rattle.cell.specs.declared.Refusal.{Refusal}
 use Rattle.cell.specs.declared.Judged.{Judged}
 use Rattle.cell.specs.declared.Judged.the-variants.{Refused}
 use Rattle.module.specs.Format.{countOf}
-use Rattle.module.specs.Grounds.{header, fileLength, unaligned, outside, shortOutput, judgeFile, judgePlace, judgeLoad, judgeSave}
+use Rattle.module.specs.Grounds.{header, fileLength, outside, shortOutput, judgeFile, judgePlace, judgeLoad, judgeSave}
 
 if-after : (t : Bool) (r : Refusal) (i j k : Judged) → k ≡ after i j → if t (Refused r) k ≡ after (if t (Refused r) i) j
 if-after true r i j k e = refl

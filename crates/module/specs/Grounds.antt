@@ -2,11 +2,11 @@
 -- is exact: a count of FFFFFFFFh or an address near 2^32 refuses, and never wraps.
 use mathlib.Core.Bool.{Bool, true, not, _||_, _&&_}
 use mathlib.Core.List.{List, [], _∷_}
-use Prim.Native.Nat.{ℕ, suc, _+_, _*_, _%_}
+use Prim.Native.Nat.{ℕ, suc, _+_, _*_}
 use lib.Dec.{leb, ltb, eqb}
 use lib.ListN.{length, getD}
-use Rattle.cell.specs.Refusals.{Ground, judge, memoryLength, byteOrder}
-use Rattle.cell.specs.declared.Refusal.the-variants.{Header, FileLength, Unaligned, Outside, ShortOutput}
+use Rattle.cell.specs.Refusals.{Ground, judge, memoryLength, byteOrder, unaligned}
+use Rattle.cell.specs.declared.Refusal.the-variants.{Header, FileLength, Outside, ShortOutput}
 use Rattle.cell.specs.declared.Judged.{Judged}
 use Rattle.module.specs.Format.{title, orderOf, countOf}
 
@@ -27,10 +27,6 @@ header file =
 abbrev pub fileLength : List ℕ → Ground
 fileLength file =
     record { applies = ltb (length file) 12 || not (eqb (length file) (12 + 4 * countOf file)); refusal = FileLength }
-
--- -4104: an address that is no multiple of 4
-abbrev pub unaligned : ℕ → Ground
-unaligned a = record { applies = not (eqb (a % 4) 0); refusal = Unaligned }
 
 -- -1: an address outside memory, or cells that run over its end
 abbrev pub outside : ℕ → ℕ → ℕ → Ground

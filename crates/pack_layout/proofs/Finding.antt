@@ -7,11 +7,12 @@ use native.Mathlib.Decide.{decLt}
 use native.Mathlib.Omega.{arith}
 use borrow.Author.Tests.{eqb-true, eq-eqb}
 use lib.Dec.{eqb}
+use Rattle.cell.specs.Choice.{if}
 use Rattle.cell.proofs.BooleanLaws.{both-true}
 use Rattle.pack_layout.specs.declared.Entry.the-variants.{Item, Nothing}
 use Rattle.pack_layout.specs.declared.ItemNumber.{ItemNumber}
 use Rattle.pack_layout.specs.Listing.{Listing, entry}
-use Rattle.pack_layout.specs.Packing.{layout, addressOf, pickEntry, entryBelow, entryAt}
+use Rattle.pack_layout.specs.Packing.{layout, addressOf, entryBelow, entryAt}
 use Rattle.pack_layout.proofs.Placing.{entry-opens, one-entry}
 
 pub record Found (base : ℕ) (l : Listing) (k a j : ℕ) : Type 0 where
@@ -37,7 +38,7 @@ module _ (base : ℕ) (l : Listing) where
             there = rw (← i) (eqb-true _ _ (q .1));
           }
 
-      go : (b : Bool) → (entry l k && eqb (addressOf base l k) a) ≡ b → pickEntry b (Item (record { 0 = k })) (entryBelow base l k a) ≡ Item (record { 0 = j })
+      go : (b : Bool) → (entry l k && eqb (addressOf base l k) a) ≡ b → if b (Item (record { 0 = k })) (entryBelow base l k a) ≡ Item (record { 0 = j })
           → (entryBelow base l k a ≡ Item (record { 0 = j }) → Found base l k a j) → Found base l (suc k) a j
       go true q e f =
           let r : _≡_ {A = ItemNumber} (record { 0 = k }) (record { 0 = j }) = cc in
@@ -59,7 +60,7 @@ module _ (base : ℕ) (l : Listing) where
 
       go : (b : Bool) → (entry l k && eqb (addressOf base l k) (addressOf base l j)) ≡ b → Dec (j < k)
           → (j < k → entryBelow base l k (addressOf base l j) ≡ Item (record { 0 = j }))
-          → pickEntry b (Item (record { 0 = k })) (entryBelow base l k (addressOf base l j)) ≡ Item (record { 0 = j })
+          → if b (Item (record { 0 = k })) (entryBelow base l k (addressOf base l j)) ≡ Item (record { 0 = j })
       go true q d f = ap (λ (x : ℕ). Item (record { 0 = x })) (only (both-true (entry l k) (eqb (addressOf base l k) (addressOf base l j)) q))
       go false q (yes c) f = f c
       go false q (no c) f = absurd (true≢false (sym (last (omega arith)) ∙ q))

@@ -8,16 +8,17 @@ use Prim.{Unit}
 use Prim.Native.Nat.{ℕ}
 use borrow.Author.Tests.{eqb-true}
 use lib.Dec.{eqb}
+use Rattle.cell.specs.Choice.{if}
 use Rattle.cell.proofs.BooleanLaws.{either-true}
-use Rattle.pack_layout.specs.Kinds.{classOf, pickClass, among, branches, outside, immediates, raising, plain, literal, branch, noKind}
+use Rattle.pack_layout.specs.Kinds.{classOf, among, branches, outside, immediates, raising, plain, literal, branch, noKind}
 
-picked-literal : (a b c : Bool) → pickClass a literal (pickClass b branch (pickClass c noKind plain)) ≡ literal → a ≡ true
+picked-literal : (a b c : Bool) → if a literal (if b branch (if c noKind plain)) ≡ literal → a ≡ true
 picked-literal true b c e = refl
 picked-literal false true c e = cc
 picked-literal false false true e = cc
 picked-literal false false false e = cc
 
-picked-branch : (a b c : Bool) → pickClass a literal (pickClass b branch (pickClass c noKind plain)) ≡ branch → b ≡ true
+picked-branch : (a b c : Bool) → if a literal (if b branch (if c noKind plain)) ≡ branch → b ≡ true
 picked-branch true b c e = cc
 picked-branch false true c e = refl
 picked-branch false false true e = cc

@@ -1,9 +1,9 @@
 -- What refuses a listing and its base. Document 01, Turned back for the input and Turned back for the state.
 use mathlib.Core.Bool.{not, _||_}
-use Prim.Native.Nat.{ℕ, _+_, _*_, _%_}
+use Prim.Native.Nat.{ℕ, _+_, _*_}
 use lib.Dec.{leb, ltb, eqb}
 use Rattle.cell.specs.Refusals.{Ground}
-use Rattle.cell.specs.declared.Refusal.the-variants.{ItemCount, PlainOperand, Target, Unaligned, Base}
+use Rattle.cell.specs.declared.Refusal.the-variants.{ItemCount, PlainOperand, Target, Base}
 
 -- -4106: no item, or more than 4,096
 abbrev pub itemCount : ℕ → Ground
@@ -24,10 +24,6 @@ plainOperand x = record { applies = not (eqb x 0); refusal = PlainOperand }
 -- -4109: a branch of a listing of n items leads to none of them
 abbrev pub noTarget : ℕ → ℕ → Ground
 noTarget n x = record { applies = leb n x; refusal = Target }
-
--- -4104: the base is no multiple of 4
-abbrev pub unaligned : ℕ → Ground
-unaligned base = record { applies = not (eqb (base % 4) 0); refusal = Unaligned }
 
 -- -4110: an image of size cells begins among the first four cells, or ends past 16,777,216
 abbrev pub outOfPlace : ℕ → ℕ → Ground

@@ -4,6 +4,7 @@ use mathlib.Core.Bool.{Bool, true, false, _||_}
 use mathlib.Core.List.{List, [], _∷_}
 use Prim.Native.Nat.{ℕ}
 use lib.Dec.{leb, eqb}
+use Rattle.cell.specs.Choice.{if}
 use Rattle.pack_layout.specs.declared.Class.{Class}
 pub use Rattle.pack_layout.specs.declared.Class.the-variants.{Plain as plain, Literal as literal, Branch as branch, NoKind as noKind}
 
@@ -26,14 +27,10 @@ raising = 0x56 ∷ 0x58 ∷ 0x59 ∷ 0x5A ∷ 0x5B ∷ []
 abbrev pub outside : ℕ → Bool
 outside k = eqb k 0 || leb 0x5C k
 
-abbrev pub pickClass : Bool → Class → Class → Class
-pickClass true a b = a
-pickClass false a b = b
-
 unfoldable pub classOf : ℕ → Class
 classOf k =
-    pickClass (eqb k 0x52) literal
-    (pickClass (among k branches) branch (pickClass (outside k || among k immediates || among k raising) noKind plain))
+    if (eqb k 0x52) literal
+    (if (among k branches) branch (if (outside k || among k immediates || among k raising) noKind plain))
 
 abbrev pub isBranch : Class → Bool
 isBranch plain = false

@@ -4,7 +4,8 @@ use mathlib.Core.Bool.{Bool, true, false, not, _&&_, _||_}
 use mathlib.Core.List.{List, [], _∷_}
 use Prim.Native.Nat.{ℕ, zero, suc, _+_, _-_, _*_, _%_, _^_, _<_}
 use lib.Dec.{eqb}
-use Rattle.cell.specs.Refusals.{judge}
+use Rattle.cell.specs.Choice.{if}
+use Rattle.cell.specs.Refusals.{judge, unaligned}
 use Rattle.cell.specs.declared.Judged.{Judged}
 use Rattle.cell.specs.declared.Judged.the-variants.{Passed}
 use Rattle.pack_layout.specs.declared.Class.{Class}
@@ -14,7 +15,7 @@ use Rattle.pack_layout.specs.declared.ItemForm.{ItemForm}
 use Rattle.pack_layout.specs.Bytes.{fits}
 use Rattle.pack_layout.specs.Flags.{flagged}
 use Rattle.pack_layout.specs.Kinds.{classOf, plain, literal, branch, noKind}
-use Rattle.pack_layout.specs.Grounds.{unaligned, outOfPlace}
+use Rattle.pack_layout.specs.Grounds.{outOfPlace}
 use Rattle.pack_layout.specs.Listing.{Listing, entry, judgedListing}
 use Rattle.pack_layout.specs.Layout.{Plan, extra, cur, mid, left, formAt, alone, immediate, inCell}
 use Rattle.pack_layout.specs.Image.{cells, reg}
@@ -62,10 +63,6 @@ newOf plain g fit = false
 newOf literal g fit = false
 newOf branch g fit = newIn g fit
 newOf noKind g fit = false
-
-abbrev pub pickEntry : Bool → Entry → Entry → Entry
-pickEntry true a b = a
-pickEntry false a b = b
 
 module _ (l : Listing) where
   -- the layout under the branch marks m
@@ -116,7 +113,7 @@ module _ (base : ℕ) (l : Listing) where
   -- argument says
   unfoldable pub entryBelow : ℕ → ℕ → Entry
   entryBelow zero a = Nothing
-  entryBelow (suc i) a = pickEntry (entry l i && eqb (addressOf i) a) (Item (record { 0 = i })) (entryBelow i a)
+  entryBelow (suc i) a = if (entry l i && eqb (addressOf i) a) (Item (record { 0 = i })) (entryBelow i a)
 
   unfoldable pub entryAt : ℕ → Entry
   entryAt = entryBelow (l .count)

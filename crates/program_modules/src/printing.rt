@@ -9,6 +9,7 @@ use module::answers::load_count;
 use module::answers::load_number;
 use module::answers::save_count;
 use module::answers::save_number;
+use program_print::print_number;
 
 pub fn print_label(name: &[u8], n: usize) {
     write_all(STDOUT_FILENO, name);
@@ -16,18 +17,12 @@ pub fn print_label(name: &[u8], n: usize) {
     write_all(STDOUT_FILENO, b": ");
 }
 
-// A cell as a signed number.
-fn print_signed(x: u32) {
-    if x < 0x80000000 {
-        print_decimal(STDOUT_FILENO, x as u64);
-    } else {
-        write_all(STDOUT_FILENO, b"-");
-        print_decimal(STDOUT_FILENO, 0x100000000 - (x as u64));
-    }
-}
-
 fn print_answer(number: u32, count: u32) {
-    print_signed(number);
+    if number == 0 {
+        print_decimal(STDOUT_FILENO, 0);
+    } else {
+        print_number(number);
+    }
     write_all(STDOUT_FILENO, b", count ");
     print_decimal(STDOUT_FILENO, count as u64);
     write_all(STDOUT_FILENO, b"\n");

@@ -50,10 +50,9 @@ fn print_cells(output: &[u8], count: CellCount)
 }
 
 // A refusal's number, a cell that is negative.
-fn print_number(x: u32) {
+pub fn print_number(x: u32) {
     write_all(STDOUT_FILENO, b"-");
     print_decimal(STDOUT_FILENO, 0x100000000 - (x as u64));
-    write_all(STDOUT_FILENO, b"\n");
 }
 
 // What a packing in order 0 answered and left.
@@ -65,5 +64,6 @@ pub fn print_packed(answer: Packed, output: &[u8])
         print_cells(output, pack_count(answer));
     } else {
         print_number(number);
+        write_all(STDOUT_FILENO, b"\n");
     }
 }

@@ -14,6 +14,12 @@ print-cells-requires c κs = rw (c .pack-count .ensures) (c .before .before .bef
 print-number-requires : tie.Need-print-number-requires
 print-number-requires c κs = search needs
 
+slice-aggregate-write-all : tie.Need-slice-aggregate-write-all
+slice-aggregate-write-all c = search needs
+
+write-all-requires : tie.Need-write-all-requires
+write-all-requires c κs = search needs
+
 returns : tie.Need-returns
 returns c = search needs
 
@@ -28,5 +34,7 @@ print-packed-spec =
     pack-count-requires
     print-cells-requires
     print-number-requires
+    slice-aggregate-write-all
+    write-all-requires
     returns
     returns-2)

@@ -1,6 +1,7 @@
 -- `execute_from_42` meets its contract: by the opcode, each arm is the commit of its instruction's effect.
 use borrow.Author.Needs.{needs}
 use mathlib.Core.Path.{_∙_, ap}
+use mathlib.Core.Logic.{⊎-elim}
 use Prim.Native.Nat.{_≤_}
 use native.Mathlib.Omega.{arith}
 use denote.Ref.{now}
@@ -8,7 +9,7 @@ use Rattle.machine.specs.Commits as commits
 use Rattle.instruction.specs.Plain as plain
 use Rattle.instruction.specs.declared.OperandForm.the-variants.{InCell, Immediate}
 use Rattle.instruction.specs.Dispatch as dispatch
-use Rattle.instruction.proofs.OpcodeLaws.{past, loop-quarter, either, illegal-is}
+use Rattle.instruction.proofs.OpcodeLaws.{past, loop-quarter, illegal-is}
 use Rattle.dispatch.proofs.from_42.execute_from_42.Statement.{statement}
 use Rattle.dispatch.proofs.from_42.execute_from_42.Tie as tie
 
@@ -330,7 +331,7 @@ unfolding dispatch.executeOf plain.plainOf
 returns-20 c =
     let n = c .before .before .before .before .match .rest in
     let a = c .before .before .before .before .before .before in
-    let above : 0x50 ≤ a .args .opcode = either (c .before .before .before .if1 .came) (λ t. absurd (omega (arith, t .taken, a .pre .1))) (λ e. e .1 .left) in
+    let above : 0x50 ≤ a .args .opcode = ⊎-elim (λ t. absurd (omega (arith, t .taken, a .pre .1))) (λ e. e .1 .left) (c .before .before .before .if1 .came) in
     rw (illegal-is (a .args .opcode) (record {
       above =
           (past 0x55 (past 0x54 (past 0x53 (past 0x52 (past 0x51 (past 0x50 above (n .0 .0 .0 .0 .0 .0 .1)) (n .0 .0 .0 .0 .0 .1)) (n .0 .0 .0 .0 .1))

@@ -4,7 +4,7 @@ use Rattle.processor.proofs.cycling.run_cycles.Statement.{statement}
 use Rattle.processor.proofs.cycling.run_cycles.Tie as tie
 use native.Mathlib.Omega.{arith}
 use mathlib.Core.Path.{_∙_, sym, refl}
-use Rattle.instruction.proofs.OpcodeLaws.{either}
+use mathlib.Core.Logic.{⊎-elim}
 use Rattle.processor.proofs.RunLaws.{Looping, loop-begins, stops-at, loops-at, ends-at, went}
 use denote.Ref.{now}
 
@@ -73,9 +73,10 @@ loop-again c =
     let loops =
     loops-at (a .machine) (now (a .memory)) (a .r) (a .budget) (l .memory) (l .registers) (l .left) (l .inv)
     (b .before .before .before .before .loop-test .taken) in
-    either (c .match .came)
+    ⊎-elim
     (λ p. rw (p .3, p .4) (loops _ _ (went (a .machine) _ (x .result) (p .1 .given .1) ∙ x .ensures) (x .kept .1 .0) refl))
     (λ p. rw (p .8, p .9) (loops _ (p .2 .result) (p .2 .ensures ∙ x .ensures) (p .2 .kept .1 .0 ∙ x .kept .1 .0) (sym (p .5 .ensures) ∙ p .6 .left)))
+    (c .match .came)
 
 same-length-2 : tie.Need-same-length-2 Inv-loop μ-loop
 same-length-2 c = c .before .loop .inv .running .long
