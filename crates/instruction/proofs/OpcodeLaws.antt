@@ -1,4 +1,4 @@
--- Opcodes from the end of the table on, the loops among them, and a choice of two cases.
+-- The opcodes that raise -256, the loops' opcodes, and a number past an arm.
 use mathlib.Core.Path.{_≡_}
 use Prim.Native.Nat.{ℕ, suc, _/_, _<_, _≤_}
 use native.Mathlib.Decide.{decLe, decLt}

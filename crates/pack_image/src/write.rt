@@ -101,7 +101,7 @@ fn put_opened(order: u8, out: &mut [u8], opens: bool, at: CellCount, w: u32) -> 
 }
 
 // An item as it is packed: its form and its value.
-struct Packed {
+struct PackedItem {
     form: ItemForm,
     value: u32,
 }
@@ -115,7 +115,7 @@ fn pack_item(
     next: CellCount,
     ats: &[u32],
     base: Address,
-) -> Packed
+) -> PackedItem
     requires { ⌜ (f ≤ 3) × (base .0 ≤ 16777216) × (isBranch (classOf kind) ≡ true → (x < length (now ats)) × (getD (now ats) x 0 ≤ 8192)) ⌝ }
     ensures { λ r. ⌜ (r .form ≡ formOf (classOf kind) marked x f) × (r .value ≡ valueOf (classOf kind) (r .form) x (next .0) (if (isBranch (classOf kind)) (getD (now (ats .entry)) x 0) 0) (base .0)) ⌝ }
 {
@@ -123,7 +123,7 @@ fn pack_item(
     let g = form_of(c, marked, x, f);
     let to = target_of(kind, x, ats);
     let v = value_of(c, g, x, next, to, base);
-    Packed { form: g, value: v }
+    PackedItem { form: g, value: v }
 }
 
 // The open cell from an item's byte up.

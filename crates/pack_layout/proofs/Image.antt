@@ -176,5 +176,5 @@ module _ (p : Plan) (kind val : ℕ → ℕ) where
         end zero e h = above-nothing (formAt p i) (opens p (suc i)) (val i)
         end (suc k) e h = absurd (omega arith)
 
-    pub theorem1 : (i : ℕ) → i < n → Decoded p kind val n img i
-    theorem1 i h = decode i (n - suc i) (omega arith)
+    pub image-decodes : (i : ℕ) → i < n → Decoded p kind val n img i
+    image-decodes i h = decode i (n - suc i) (omega arith)

@@ -1,4 +1,4 @@
--- The image of an accepted listing: the rounds settle, every immediate fits, and Theorem 1 holds of it with no further condition.
+-- The image of an accepted listing: the rounds settle, every immediate fits, and the image decodes to its items with no further condition.
 -- Assumes nothing.
 use mathlib.Core.Path.{_≡_, refl, ap, _∙_}
 use mathlib.Core.Bool.{Bool, true, false, not, _||_, false≢true}
@@ -21,7 +21,7 @@ use Rattle.pack_layout.specs.Image.{byteOf}
 use Rattle.pack_layout.specs.Rounds.{settled}
 use Rattle.pack_layout.specs.Packing.{taking, formOf, distance, branchValue, valueOf, newIn, newOf, plan, distanceAt, new, marks, layout, value, image, imageCells, judgedPlace, Legal}
 use Rattle.pack_layout.proofs.Placing.{at-before, reach}
-use Rattle.pack_layout.proofs.Image.{Decoded, theorem1, image-size, cells-below}
+use Rattle.pack_layout.proofs.Image.{Decoded, image-decodes, image-size, cells-below}
 use Rattle.pack_layout.proofs.Rounds.{settled-adds-none}
 use Rattle.pack_layout.proofs.Listing.{kind-below, target-below}
 
@@ -115,10 +115,10 @@ module _ (base : ℕ) (l : Listing) (ok : Legal base l) where
   low : (i : ℕ) → i < l .count → byteOf (formAt (layout l) i) (l .kind i) < 128
   low i h = byte-low (formAt (layout l) i) (l .kind i) (kind-below l (ok .input) i h)
 
-  -- Theorem 1 of the listing's image
+  -- the listing's image decodes to its items
   pub decoded : (i : ℕ) → i < l .count → Decoded (layout l) (l .kind) (value base l) (l .count) (image base l) i
   unfolding image
-  decoded = theorem1 (layout l) (l .kind) (value base l) (l .count) low (immediates-fit base l)
+  decoded = image-decodes (layout l) (l .kind) (value base l) (l .count) low (immediates-fit base l)
 
   pub size-is : length (image base l) ≡ imageCells l
   unfolding image
