@@ -20,9 +20,11 @@ use Rattle.list_machine.specs.Runs.{further, runOf}
 use Rattle.list_machine.specs.Worked.{Holding, cases}
 
 pub least-first : Holding 0 cases
-unfolding cellAt storeCell sum difference asr8 placeOf fetchOf placesOf storedOf touches handlerOf throwOf throwingOf plainOf takingOf decodeOf classOf fits any entry cur rounds settle settled marks entryBelow entryAt carryOut further runOf
+unfolding cellAt storeCell sum difference asr8 placeOf fetchOf placesOf storedOf touches handlerOf throwOf throwingOf plainOf takingOf decodeOf
+    classOf fits any entry cur rounds settle settled marks entryBelow entryAt carryOut further runOf
 least-first = refl
 
 pub most-first : Holding 1 cases
-unfolding cellAt storeCell sum difference asr8 placeOf fetchOf placesOf storedOf touches handlerOf throwOf throwingOf plainOf takingOf decodeOf classOf fits any entry cur rounds settle settled marks entryBelow entryAt carryOut further runOf
+unfolding cellAt storeCell sum difference asr8 placeOf fetchOf placesOf storedOf touches handlerOf throwOf throwingOf plainOf takingOf decodeOf
+    classOf fits any entry cur rounds settle settled marks entryBelow entryAt carryOut further runOf
 most-first = refl

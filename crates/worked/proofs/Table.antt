@@ -29,5 +29,7 @@ use Rattle.worked.specs.Rows.{tableHolds}
 use Rattle.worked.specs.Table.{table}
 
 pub worked-on-paper : tableHolds table ≡ true
-unfolding tableHolds cellAt storeCell sum difference negated symmetricOf flooredOf asr8 placeOf fetchOf placesOf storedOf commitOf handlerOf throwOf nextOf finishOf plainOf takingOf decodeOf executeOf cycleOf advance cyclesOf startOf judgeMachine startAnswer cycleAnswer doneOf runAnswer classOf fits pack any entry judgedFrom judgedListing judgedArrays cur word cells rounds settle settled marks image countOf judgeLoad copied loadOf
+unfolding tableHolds cellAt storeCell sum difference negated symmetricOf flooredOf asr8 placeOf fetchOf placesOf storedOf commitOf handlerOf throwOf
+    nextOf finishOf plainOf takingOf decodeOf executeOf cycleOf advance cyclesOf startOf judgeMachine startAnswer cycleAnswer doneOf runAnswer classOf
+    fits pack any entry judgedFrom judgedListing judgedArrays cur word cells rounds settle settled marks image countOf judgeLoad copied loadOf
 worked-on-paper = refl

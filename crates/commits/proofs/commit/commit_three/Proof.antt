@@ -132,14 +132,16 @@ put-requires-2 c κs =
 put-requires-3 : tie.Need-put-requires-3
 put-requires-3 c κs =
     let a =
-    c .before .before .before .before .before .before .before .before .before .before .before .before .before .before .before .before .before .before .before .before .before .before .before .before .before .args
+    c .before .before .before .before .before .before .before .before .before .before .before .before .before .before .before .before .before
+    .before .before .before .before .before .before .before .before .args
     in omega (
       arith,
       c .before .before .before .before .before .before .before .put .kept .1 .0,
       c .before .before .before .put2 .kept .1 .0,
       room-place
           (a .machine) (a .e .third .access) (length (now (a .memory))) (a .e .third .at .0)
-          (c .before .before .before .before .before .before .before .before .before .before .before .before .before .before .before .before .before .before .before .before .before .before .before .before .before .pre)
+          (c .before .before .before .before .before .before .before .before .before .before .before .before .before .before .before .before
+          .before .before .before .before .before .before .before .before .before .pre)
           (sym (c .before .before .before .before .before .before .before .before .before .before .before .check-write3 .ensures) ∙
           c .before .before .before .before .before .before .before .before .before .enum-told7 .given .1),
     )
@@ -154,7 +156,8 @@ returns-5 : tie.Need-returns-5
 unfolding commits.placesOf commits.storedOf
 returns-5 c =
     let a =
-    c .before .before .before .before .before .before .before .before .before .before .before .before .before .before .before .before .before .before .before .before .before .before .before .before .before .before .before .before .before .args
+    c .before .before .before .before .before .before .before .before .before .before .before .before .before .before .before .before .before
+    .before .before .before .before .before .before .before .before .before .before .before .before .args
     in rw (
       c .settle .ensures,
       c .before .before .before .put3 .ensures,
@@ -162,12 +165,15 @@ returns-5 c =
       c .before .before .before .before .before .before .before .before .before .before .before .put .ensures,
     ) (sym (commit-good (a .machine) (now (a .memory))
     (a .r) (a .e .sp) (a .e .rp) (effects.storeOf (a .e .first) ∷ effects.storeOf (a .e .second) ∷ effects.storeOf (a .e .third) ∷ []) (a .e .then) (sym
-    (c .before .before .before .before .before .before .before .before .before .before .before .before .before .before .before .before .before .before .before .before .before .before .before .before .fault-of .ensures)
+    (c .before .before .before .before .before .before .before .before .before .before .before .before .before .before .before .before .before
+    .before .before .before .before .before .before .before .fault-of .ensures)
     ∙
-    c .before .before .before .before .before .before .before .before .before .before .before .before .before .before .before .before .before .before .before .before .before .before .enum-told .given .1)
+    c .before .before .before .before .before .before .before .before .before .before .before .before .before .before .before .before .before
+    .before .before .before .before .before .enum-told .given .1)
     (simp (
       sym
-          (c .before .before .before .before .before .before .before .before .before .before .before .before .before .before .before .before .before .before .before .before .before .check-write .ensures)
+          (c .before .before .before .before .before .before .before .before .before .before .before .before .before .before .before .before
+          .before .before .before .before .before .check-write .ensures)
           ∙
           c .before .before .before .before .before .before .before .before .before .before .before .before .before .before .before .before .before .before .before .enum-told3 .given .1,
       sym

@@ -10,7 +10,8 @@ prepare-requires c κs = search needs
 tabulate-requires : tie.Need-tabulate-requires
 tabulate-requires c κs =
     let pre =
-    c .before .before .before .before .before .before .before .before .before .before .before .before .before .before .before .before .before .before .before .before .before .before .before .before .before .before .before .before .before .before .pre
+    c .before .before .before .before .before .before .before .before .before .before .before .before .before .before .before .before .before
+    .before .before .before .before .before .before .before .before .before .before .before .before .before .pre
     in let prepare = c .before .before .before .before .before .before .before .before .before .before .before .before .before .before .before .before .prepare
     in (
       pre .0,

@@ -139,9 +139,12 @@ cast-t20 c =
       arith,
       c .before .before .before .before .before .before .before .before .before .before .before .before .before .loop-test .taken,
       some-item (listed
-          (c .before .before .before .before .before .before .before .before .before .before .before .before .before .before .before .before .before .before .before .before .before .before .before .args .kinds .now)
-          (c .before .before .before .before .before .before .before .before .before .before .before .before .before .before .before .before .before .before .before .before .before .before .before .args .operands .now))
-          (c .before .before .before .before .before .before .before .before .before .before .before .before .before .before .before .before .before .before .before .before .before .before .before .pre .0 .input) .1,
+          (c .before .before .before .before .before .before .before .before .before .before .before .before .before .before .before .before
+          .before .before .before .before .before .before .before .args .kinds .now)
+          (c .before .before .before .before .before .before .before .before .before .before .before .before .before .before .before .before
+          .before .before .before .before .before .before .before .args .operands .now))
+          (c .before .before .before .before .before .before .before .before .before .before .before .before .before .before .before .before
+          .before .before .before .before .before .before .before .pre .0 .input) .1,
     )
 
 mul-t18 : tie.Need-mul-t18 Inv-loop μ-loop
@@ -150,9 +153,12 @@ mul-t18 c =
       arith,
       c .before .before .before .before .before .before .before .before .before .before .before .before .before .loop-test .taken,
       some-item (listed
-          (c .before .before .before .before .before .before .before .before .before .before .before .before .before .before .before .before .before .before .before .before .before .before .before .args .kinds .now)
-          (c .before .before .before .before .before .before .before .before .before .before .before .before .before .before .before .before .before .before .before .before .before .before .before .args .operands .now))
-          (c .before .before .before .before .before .before .before .before .before .before .before .before .before .before .before .before .before .before .before .before .before .before .before .pre .0 .input) .1,
+          (c .before .before .before .before .before .before .before .before .before .before .before .before .before .before .before .before
+          .before .before .before .before .before .before .before .args .kinds .now)
+          (c .before .before .before .before .before .before .before .before .before .before .before .before .before .before .before .before
+          .before .before .before .before .before .before .before .args .operands .now))
+          (c .before .before .before .before .before .before .before .before .before .before .before .before .before .before .before .before
+          .before .before .before .before .before .before .before .pre .0 .input) .1,
     )
 
 shared-slice-read-t36 : tie.Need-shared-slice-read-t36 Inv-loop μ-loop
@@ -160,7 +166,8 @@ shared-slice-read-t36 c =
     omega (
       arith,
       c .before .before .before .before .before .before .before .before .before .before .before .before .before .before .loop-test .taken,
-      c .before .before .before .before .before .before .before .before .before .before .before .before .before .before .before .before .before .before .before .before .before .before .before .before .pre .1 .1 .0 .0,
+      c .before .before .before .before .before .before .before .before .before .before .before .before .before .before .before .before
+          .before .before .before .before .before .before .before .before .pre .1 .1 .0 .0,
     )
 
 write-row-requires : tie.Need-write-row-requires Inv-loop μ-loop
@@ -174,9 +181,12 @@ write-row-requires c κs = (
     arith,
     c .before .before .before .before .before .before .before .before .before .before .before .before .before .before .loop-test .taken,
     some-item (listed
-        (c .before .before .before .before .before .before .before .before .before .before .before .before .before .before .before .before .before .before .before .before .before .before .before .before .args .kinds .now)
-        (c .before .before .before .before .before .before .before .before .before .before .before .before .before .before .before .before .before .before .before .before .before .before .before .before .args .operands .now))
-        (c .before .before .before .before .before .before .before .before .before .before .before .before .before .before .before .before .before .before .before .before .before .before .before .before .pre .0 .input) .1,
+        (c .before .before .before .before .before .before .before .before .before .before .before .before .before .before .before .before
+        .before .before .before .before .before .before .before .before .args .kinds .now)
+        (c .before .before .before .before .before .before .before .before .before .before .before .before .before .before .before .before
+        .before .before .before .before .before .before .before .before .args .operands .now))
+        (c .before .before .before .before .before .before .before .before .before .before .before .before .before .before .before .before
+        .before .before .before .before .before .before .before .before .pre .0 .input) .1,
   ),
 )
 
@@ -189,9 +199,11 @@ loop-less c = omega (arith, c .before .before .before .before .before .before .b
 loop-again : tie.Need-loop-again Inv-loop μ-loop
 loop-again c =
     let args =
-    c .before .before .before .before .before .before .before .before .before .before .before .before .before .before .before .before .before .before .before .before .before .before .before .before .before .before .before .args
+    c .before .before .before .before .before .before .before .before .before .before .before .before .before .before .before .before .before
+    .before .before .before .before .before .before .before .before .before .before .args
     in let pre =
-    c .before .before .before .before .before .before .before .before .before .before .before .before .before .before .before .before .before .before .before .before .before .before .before .before .before .before .before .pre
+    c .before .before .before .before .before .before .before .before .before .before .before .before .before .before .before .before .before
+    .before .before .before .before .before .before .before .before .before .before .pre
     in (
       omega (
         arith,
@@ -216,7 +228,8 @@ loop-again c =
           (c .before .before .before .before .before .before .before .before .before .before .before .before .before .before .before .before .before .before .loop .table)
           (c .before .before .before .before .before .before .before .before .before .before .before .before .before .before .before .before .before .before .loop .inv .1)
           (c .before .before .before .before .before .before .before .before .before .extra-of .result .0) (c .before .before .before .before .before .flags-for .result)
-          (c .before .before .before .before .before .before .is-short .result) (ap (λ (x : CellCount). x .0) (c .before .before .before .before .before .before .before .before .before .extra-of .ensures))
+          (c .before .before .before .before .before .before .is-short .result) (ap (λ (x : CellCount). x .0) (c .before .before .before
+          .before .before .before .before .before .before .extra-of .ensures))
           (c .before .before .before .before .before .before .is-short .ensures) (c .before .before .before .before .before .flags-for .ensures)
           (c .before .before .before .before .before .before .before .before .before .before .before .before .before .before .before .before .before .before .loop .inv .2)),
     )

@@ -51,7 +51,8 @@ lay-out-requires c κs =
 mark-branches-requires : tie.Need-mark-branches-requires Inv-loop μ-loop
 mark-branches-requires c κs =
     let pre-here =
-    c .before .before .before .before .before .before .before .before .before .before .before .before .before .before .before .before .before .before .before .before .before .before .before .before .before .before .before .pre
+    c .before .before .before .before .before .before .before .before .before .before .before .before .before .before .before .before .before
+    .before .before .before .before .before .before .before .before .before .before .pre
     in
     let lay-out = c .before .before .before .before .before .before .before .before .before .before .lay-out in
     let loop = c .before .before .before .before .before .before .before .before .before .before .before .before .before .before .before .loop in (
@@ -70,7 +71,8 @@ mark-branches-requires c κs =
 loop-less : tie.Need-loop-less Inv-loop μ-loop
 loop-less c =
     let args =
-    c .before .before .before .before .before .before .before .before .before .before .before .before .before .before .before .before .before .before .before .before .before .before .before .before .before .before .before .before .before .before .before .args
+    c .before .before .before .before .before .before .before .before .before .before .before .before .before .before .before .before .before
+    .before .before .before .before .before .before .before .before .before .before .before .before .before .before .args
     in
     let loop = c .before .before .before .before .before .before .before .before .before .before .before .before .before .before .before .before .before .before .before .loop in
     let mark-branches = c .before .before .before .mark-branches in
@@ -81,7 +83,8 @@ loop-less c =
 loop-again : tie.Need-loop-again Inv-loop μ-loop
 loop-again c =
     let args =
-    c .before .before .before .before .before .before .before .before .before .before .before .before .before .before .before .before .before .before .before .before .before .before .before .before .before .before .before .before .before .before .before .args
+    c .before .before .before .before .before .before .before .before .before .before .before .before .before .before .before .before .before
+    .before .before .before .before .before .before .before .before .before .before .before .before .before .before .args
     in
     let loop = c .before .before .before .before .before .before .before .before .before .before .before .before .before .before .before .before .before .before .before .loop in
     let mark-branches = c .before .before .before .mark-branches in
@@ -97,7 +100,8 @@ same-length c =
     let mark-branches = c .before .before .before .mark-branches in
     let loop = c .before .before .before .before .before .before .before .before .before .before .before .before .before .before .before .before .before .before .before .loop in
     let pre-here =
-    c .before .before .before .before .before .before .before .before .before .before .before .before .before .before .before .before .before .before .before .before .before .before .before .before .before .before .before .before .before .before .before .pre
+    c .before .before .before .before .before .before .before .before .before .before .before .before .before .before .before .before .before
+    .before .before .before .before .before .before .before .before .before .before .before .before .before .before .pre
     in
     (mark-branches .kept .1 .1 .1 .1 .1 .0) ∙ loop .inv .flags-length ∙ sym (pre-here .1 .0 .1)
 
@@ -106,7 +110,8 @@ same-length-2 c =
     let lay-out = c .before .before .before .before .before .before .before .before .before .before .before .before .before .before .lay-out in
     let loop = c .before .before .before .before .before .before .before .before .before .before .before .before .before .before .before .before .before .before .before .loop in
     let pre-here =
-    c .before .before .before .before .before .before .before .before .before .before .before .before .before .before .before .before .before .before .before .before .before .before .before .before .before .before .before .before .before .before .before .pre
+    c .before .before .before .before .before .before .before .before .before .before .before .before .before .before .before .before .before
+    .before .before .before .before .before .before .before .before .before .before .before .before .before .before .pre
     in
     (lay-out .kept .1 .1 .1 .1 .0) ∙ loop .inv .ats-length ∙ sym (pre-here .1 .1 .0 .0)
 
@@ -115,7 +120,8 @@ same-length-3 c =
     let lay-out = c .before .before .before .before .before .before .before .before .before .before .before .before .before .before .lay-out in
     let loop = c .before .before .before .before .before .before .before .before .before .before .before .before .before .before .before .before .before .before .before .loop in
     let pre-here =
-    c .before .before .before .before .before .before .before .before .before .before .before .before .before .before .before .before .before .before .before .before .before .before .before .before .before .before .before .before .before .before .before .pre
+    c .before .before .before .before .before .before .before .before .before .before .before .before .before .before .before .before .before
+    .before .before .before .before .before .before .before .before .before .before .before .before .before .before .pre
     in
     (lay-out .kept .1 .1 .1 .1 .1 .0) ∙ loop .inv .nexts-length ∙ sym (pre-here .1 .1 .0 .1)
 
@@ -124,14 +130,16 @@ same-length-4 c =
     let lay-out = c .before .before .before .before .before .before .before .before .before .before .before .before .before .before .lay-out in
     let loop = c .before .before .before .before .before .before .before .before .before .before .before .before .before .before .before .before .before .before .before .loop in
     let pre-here =
-    c .before .before .before .before .before .before .before .before .before .before .before .before .before .before .before .before .before .before .before .before .before .before .before .before .before .before .before .before .before .before .before .pre
+    c .before .before .before .before .before .before .before .before .before .before .before .before .before .before .before .before .before
+    .before .before .before .before .before .before .before .before .before .before .before .before .before .before .pre
     in
     (lay-out .kept .1 .1 .1 .1 .1 .1 .0) ∙ loop .inv .lefts-length ∙ sym (pre-here .1 .1 .0 .2)
 
 returns : tie.Need-returns Inv-loop μ-loop
 returns c =
     let args =
-    c .before .before .before .before .before .before .before .before .before .before .before .before .before .before .before .before .before .before .before .before .before .before .before .before .before .before .before .before .before .before .before .args
+    c .before .before .before .before .before .before .before .before .before .before .before .before .before .before .before .before .before
+    .before .before .before .before .before .before .before .before .before .before .before .before .before .before .args
     in
     let loop = c .before .before .before .before .before .before .before .before .before .before .before .before .before .before .before .before .before .before .before .loop in
     let mark-branches = c .before .before .before .mark-branches in

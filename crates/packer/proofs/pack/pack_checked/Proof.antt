@@ -16,7 +16,8 @@ judge-image-requires : tie.Need-judge-image-requires
 judge-image-requires c κs =
     let prepare = c .before .before .before .before .before .before .before .before .before .before .prepare in
     let pre-here =
-    c .before .before .before .before .before .before .before .before .before .before .before .before .before .before .before .before .before .before .before .before .before .before .before .before .pre
+    c .before .before .before .before .before .before .before .before .before .before .before .before .before .before .before .before .before
+    .before .before .before .before .before .before .before .pre
     in
     rw (prepare .ensures .0) (cells-most _ _ (pre-here .0))
 
@@ -29,11 +30,13 @@ enum-told c = search needs
 write-image-requires : tie.Need-write-image-requires
 write-image-requires c κs =
     let pre-here =
-    c .before .before .before .before .before .before .before .before .before .before .before .before .before .before .before .before .before .before .before .before .before .before .before .before .before .before .before .before .before .before .before .before .pre
+    c .before .before .before .before .before .before .before .before .before .before .before .before .before .before .before .before .before
+    .before .before .before .before .before .before .before .before .before .before .before .before .before .before .before .pre
     in
     let prepare = c .before .before .before .before .before .before .before .before .before .before .before .before .before .before .before .before .before .before .prepare in
     let args =
-    c .before .before .before .before .before .before .before .before .before .before .before .before .before .before .before .before .before .before .before .before .before .before .before .before .before .before .before .before .before .before .before .before .args
+    c .before .before .before .before .before .before .before .before .before .before .before .before .before .before .before .before .before
+    .before .before .before .before .before .before .before .before .before .before .before .before .before .before .before .args
     in
     let judge-image = c .before .before .before .before .before .before .before .judge-image in
     let enum-told = c .before .before .before .before .before .enum-told in (
@@ -75,7 +78,8 @@ same-length-5 c = search needs
 returns : tie.Need-returns
 returns c =
     let args =
-    c .before .before .before .before .before .before .before .before .before .before .before .before .before .before .before .before .before .before .before .before .before .before .before .before .before .before .before .before .args
+    c .before .before .before .before .before .before .before .before .before .before .before .before .before .before .before .before .before
+    .before .before .before .before .before .before .before .before .before .before .before .args
     in
     let prepare = c .before .before .before .before .before .before .before .before .before .before .before .before .before .before .prepare in
     let judge-image = c .before .before .before .judge-image in
@@ -104,7 +108,8 @@ same-length-11 c = search needs
 returns-2 : tie.Need-returns-2
 returns-2 c =
     let args =
-    c .before .before .before .before .before .before .before .before .before .before .before .before .before .before .before .before .before .before .before .before .before .before .before .before .before .before .before .before .before .before .before .before .before .before .before .args
+    c .before .before .before .before .before .before .before .before .before .before .before .before .before .before .before .before .before
+    .before .before .before .before .before .before .before .before .before .before .before .before .before .before .before .before .before .before .args
     in
     let prepare = c .before .before .before .before .before .before .before .before .before .before .before .before .before .before .before .before .before .before .before .before .before .prepare in
     let judge-image = c .before .before .before .before .before .before .before .before .before .before .judge-image in
