@@ -10,12 +10,12 @@ use cell::number::add;
 use cell::number::subtract;
 use instruction::Instruction;
 use instruction::OperandForm;
+use instruction::counting::plus_ends;
 use instruction::shape::branch_operand;
 use instruction::shape::fail_maybe;
 use instruction::shape::fail_none;
 use instruction::shape::fail_one;
 use instruction::shape::fail_two;
-use instruction::shape::is_crossed;
 use instruction::shape::push;
 use instruction::shape::return_address;
 use instruction::shape::write_nothing;
@@ -244,7 +244,7 @@ pub fn step_plus_loop(
         return fail_maybe(got3);
     };
     let next = add(index, n);
-    if is_crossed(index, next, limit) {
+    if plus_ends(next, limit, n) {
         return write_nothing(add(r.sp, 4), add(r.rp, 8));
     }
     let got4 = branch_operand(machine, memory, r, form);

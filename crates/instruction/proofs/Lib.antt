@@ -1,3 +1,4 @@
 -- Laws that belong to no one function.
 pub mod ShapeLaws
+pub mod CountingLaws
 pub mod OpcodeLaws

@@ -1,6 +1,5 @@
 -- Laws of the parts that many effects share.
 use mathlib.Core.Path.{_≡_, refl}
-use mathlib.Core.Bool.{Bool, true, false, not, _&&_, _||_}
 use mathlib.Core.List.{List}
 use Prim.Native.Nat.{ℕ, _+_, _*_, _%_, _^_}
 use native.Mathlib.Omega.{arith}
@@ -19,12 +18,3 @@ fails sp rp ss (Failed f) = refl
 pub branch-target : (ep a : ℕ) → sum ep (a % 0x40000000 * 4) ≡ (ep + 4 * a) % 2 ^ 32
 unfolding sum
 branch-target ep a = omega arith
-
--- the two tests of (+LOOP), the first of them known
-pub from-below : (b : Bool) → not b ≡ (true && not b) || (b && not true)
-from-below true = refl
-from-below false = refl
-
-pub from-above : (b : Bool) → b ≡ (false && not b) || (b && not false)
-from-above true = refl
-from-above false = refl

@@ -1,4 +1,5 @@
 -- What each instruction asks for and does, and its opcode.
 pub mod Plain
+pub mod Counting
 pub mod Taking
 pub mod Dispatch

@@ -1,11 +1,10 @@
 -- The instructions that take an operand from the instruction stream, each in two forms: the operand in the cell at EP, or in what is left of A.
 -- For a branch the operand is the address it leads to; for a literal its value. The operand is given as the answer of a fetch.
-use mathlib.Core.Bool.{Bool, not, _&&_, _||_}
 use mathlib.Core.List.{List, [], _∷_}
 use Prim.Native.Nat.{ℕ, _+_, _*_, _%_, _^_}
 use lib.Dec.{eqb}
 use Rattle.cell.specs.Choice.{if}
-use Rattle.cell.specs.Number.{sum, difference, less}
+use Rattle.cell.specs.Number.{sum, difference}
 use Rattle.cell.specs.declared.Fetched.{Fetched}
 use Rattle.cell.specs.declared.Fetched.the-variants.{Cell}
 use Rattle.machine.specs.Places.{fetchOf}
@@ -17,15 +16,12 @@ use Rattle.machine.specs.declared.Outcome.{Outcome}
 use Rattle.machine.specs.declared.Outcome.the-variants.{Went, Next, Raise, Halt, Throw}
 use Rattle.machine.specs.declared.Access.the-variants.{Stream, ReturnWrite}
 use Rattle.instruction.specs.Plain.{action, pushes, data1, return2}
+use Rattle.instruction.specs.Counting.{loopEnds, plusEnds}
 use Rattle.instruction.specs.declared.OperandForm.{OperandForm}
 use Rattle.instruction.specs.declared.OperandForm.the-variants.{InCell, Immediate}
 
 pub data Taking : Type 0 where
   branch questionBranch call loop plusLoop literal : Taking
-
--- (+LOOP) ends where its step, on signed numbers, goes over the border between limit - 1 and limit, up or down
-abbrev pub crosses : ℕ → ℕ → ℕ → Bool
-crosses old new limit = (less old limit && not (less new limit)) || (less new limit && not (less old limit))
 
 unfoldable pub takingOf : Machine → Taking → List ℕ → ℕ → ℕ → Fetched → ℕ → Effect
 -- 42h BRANCH ( -- )
@@ -41,15 +37,15 @@ takingOf machine call m sp rp operand after =
 takingOf machine loop m sp rp operand after =
     return2 machine m rp
     (λ limit index.
-    if (eqb (sum index 1) limit) (action sp (sum rp 8) [] goOn)
+    if (loopEnds index limit) (action sp (sum rp 8) [] goOn)
     (fetched operand (λ to. action sp rp (cellStore ReturnWrite rp (sum index 1) ∷ []) (jump to))))
--- 4Eh (+LOOP) ( n -- ) R: ( n2 n3 -- | n2 n4 )
+-- 4Eh (+LOOP) ( n -- ) R: ( n2 n3 -- | n2 n4 ): the index grows by n, unless the loop is over
 takingOf machine plusLoop m sp rp operand after =
     data1 machine m sp
     (λ n.
     return2 machine m rp
     (λ limit index.
-    if (crosses index (sum index n) limit) (action (sum sp 4) (sum rp 8) [] goOn)
+    if (plusEnds index limit n) (action (sum sp 4) (sum rp 8) [] goOn)
     (fetched operand (λ to. action (sum sp 4) rp (cellStore ReturnWrite rp (sum index n) ∷ []) (jump to)))))
 -- 52h (LITERAL) ( -- x )
 takingOf machine literal m sp rp operand after = fetched operand (λ x. pushes sp rp x)

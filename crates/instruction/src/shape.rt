@@ -14,7 +14,6 @@ use cell::Fault;
 use cell::Fetched;
 use cell::Quotient;
 use cell::number::add;
-use cell::number::is_less;
 use cell::number::subtract;
 use cell::place::fault_in;
 use machine::Access;
@@ -293,17 +292,6 @@ pub fn return_address(r: Registers, form: OperandForm) -> u32
     }
 }
 
-// Whether (+LOOP) passes the limit.
-pub fn is_crossed(old: u32, new: u32, limit: u32) -> bool
-    ensures { λ t. ⌜ t ≡ taking.crosses old new limit ⌝ }
-{
-    if is_less(old, limit) {
-        !is_less(new, limit)
-    } else {
-        is_less(new, limit)
-    }
-}
-
 // Where nothing was taken: past the operand cell, or NEXT.
 pub fn onward(form: OperandForm, s: Step) -> Step
     ensures { λ t. ⌜ t ≡ taking.onwardOf form s ⌝ }
@@ -328,6 +316,7 @@ pub fn onward(form: OperandForm, s: Step) -> Step
         },
         Outcome::Next => s,
         Outcome::Raise(_) => s,
+        // never reached: no instruction with an operand stops or throws
         Outcome::Halt(_) => s,
         Outcome::Throw => s,
     }

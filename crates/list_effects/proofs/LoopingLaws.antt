@@ -15,7 +15,7 @@ use Rattle.instruction.specs.Plain.{action}
 use Rattle.instruction.specs.Taking.{loop, plusLoop, takingOf, takingAt}
 use Rattle.instruction.specs.declared.OperandForm.the-variants.{Immediate}
 use Rattle.instruction.proofs.ShapeLaws.{branch-target}
-use Rattle.list_effects.specs.Looping.{isOver, loopedOf}
+use Rattle.list_effects.specs.Looping.{stepEnds, loopedOf}
 
 module _ (machine : Machine) (m : List ℕ) (r : Registers) where
   pub loop-is : (e : Effect) (to : ℕ) → to ≡ sum (r .ep) (r .a % 0x40000000 * 4) → e ≡ loopedOf machine m (r .sp) (r .rp) to 1 false
@@ -46,11 +46,11 @@ module _ (machine : Machine) (m : List ℕ) (sp rp to n : ℕ) (plus : Bool) whe
     looped-fails-too f e = rw (first, e)
 
     module _ (limit : ℕ) (second : fetchOf machine ReturnRead m (sum rp 4) ≡ Cell limit) where
-      pub looped-ends : isOver plus index (sum index n) limit ≡ true → loopedOf machine m sp rp to n plus ≡ action sp (sum rp 8) [] goOn
+      pub looped-ends : stepEnds plus index limit n ≡ true → loopedOf machine m sp rp to n plus ≡ action sp (sum rp 8) [] goOn
       unfolding loopedOf
       looped-ends e = rw (first, second, e)
 
-      pub looped-goes : isOver plus index (sum index n) limit ≡ false
+      pub looped-goes : stepEnds plus index limit n ≡ false
           → loopedOf machine m sp rp to n plus ≡ action sp rp (cellStore ReturnWrite rp (sum index n) ∷ []) (jump to)
       unfolding loopedOf
       looped-goes e = rw (first, second, e)

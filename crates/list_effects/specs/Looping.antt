@@ -9,17 +9,17 @@ use Rattle.machine.specs.Effects.{cellStore, goOn, jump, Effect}
 use Rattle.machine.specs.declared.Machine.{Machine}
 use Rattle.machine.specs.declared.Access.the-variants.{ReturnWrite}
 use Rattle.instruction.specs.Plain.{action, return2}
-use Rattle.instruction.specs.Taking.{crosses}
+use Rattle.instruction.specs.Counting.{plusEnds}
 
--- (LOOP) is over at the limit, (+LOOP) where its step goes over the border below it
-abbrev pub isOver : Bool → ℕ → ℕ → ℕ → Bool
-isOver false index next limit = eqb next limit
-isOver true index next limit = crosses index next limit
+-- whether the step ends the loop: that of (LOOP), or that of (+LOOP)
+abbrev pub stepEnds : Bool → ℕ → ℕ → ℕ → Bool
+stepEnds false index limit n = eqb (sum index n) limit
+stepEnds true index limit n = plusEnds index limit n
 
 -- to is where the loop goes on, sp SP behind it
 unfoldable pub loopedOf : Machine → List ℕ → ℕ → ℕ → ℕ → ℕ → Bool → Effect
 loopedOf machine m sp rp to n plus =
     return2 machine m rp
     (λ limit index.
-    if (isOver plus index (sum index n) limit) (action sp (sum rp 8) [] goOn)
+    if (stepEnds plus index limit n) (action sp (sum rp 8) [] goOn)
     (action sp rp (cellStore ReturnWrite rp (sum index n) ∷ []) (jump to)))

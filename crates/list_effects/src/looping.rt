@@ -9,8 +9,8 @@ ghost use Rattle.list_effects.specs.Looping as looping;
 use cell::Address;
 use cell::Fetched;
 use cell::number::add;
+use instruction::counting::plus_ends;
 use instruction::shape::fail_maybe;
-use instruction::shape::is_crossed;
 use instruction::shape::write_nothing;
 use machine::Access;
 use machine::Machine;
@@ -20,11 +20,13 @@ use machine::Then;
 use machine::Write;
 use machine::places::fetch;
 
-fn is_over(plus: bool, index: u32, next: u32, limit: u32) -> bool
-    ensures { λ r. ⌜ r ≡ looping.isOver plus index next limit ⌝ }
+// Whether the step ends the loop: that of (+LOOP), or that of (LOOP).
+fn step_ends(plus: bool, index: u32, limit: u32, n: u32) -> bool
+    ensures { λ r. ⌜ r ≡ looping.stepEnds plus index limit n ⌝ }
 {
+    let next = add(index, n);
     if plus {
-        return is_crossed(index, next, limit);
+        return plus_ends(next, limit, n);
     }
     next == limit
 }
@@ -35,12 +37,12 @@ fn propose_step(
     memory: &[u8],
     sp: u32,
     rp: u32,
-    to: u32,
+    to: Address,
     n: u32,
     plus: bool,
 ) -> MaybeStore
     requires { ⌜ places.Whole (now memory) ⌝ }
-    ensures { λ e. ⌜ effects.maybeStore e ≡ looping.loopedOf machine (now (memory .entry)) sp rp to n plus ⌝ }
+    ensures { λ e. ⌜ effects.maybeStore e ≡ looping.loopedOf machine (now (memory .entry)) sp rp (to .0) n plus ⌝ }
 {
     let got = fetch(machine, Access::ReturnRead, memory, Address(rp));
     let Fetched::Cell(index) = got else {
@@ -50,8 +52,7 @@ fn propose_step(
     let Fetched::Cell(limit) = got2 else {
         return fail_maybe(got2);
     };
-    let next = add(index, n);
-    if is_over(plus, index, next, limit) {
+    if step_ends(plus, index, limit, n) {
         return write_nothing(sp, add(rp, 8));
     }
     MaybeStore {
@@ -61,9 +62,9 @@ fn propose_step(
         write: Write {
             access: Access::ReturnWrite,
             at: Address(rp),
-            value: next,
+            value: add(index, n),
         },
-        then: Then::Jump(Address(to)),
+        then: Then::Jump(to),
     }
 }
 
@@ -72,7 +73,7 @@ pub fn propose_loop(machine: Machine, memory: &[u8], r: Registers) -> MaybeStore
     ensures { λ e. ⌜ effects.maybeStore e ≡ taking.takingAt machine form.Immediate taking.loop (now (memory .entry)) r ⌝ }
 {
     let to = add(r.ep, r.a % 0x40000000 * 4);
-    propose_step(machine, memory, r.sp, r.rp, to, 1, false)
+    propose_step(machine, memory, r.sp, r.rp, Address(to), 1, false)
 }
 
 pub fn propose_plus_loop(machine: Machine, memory: &[u8], r: Registers) -> MaybeStore
@@ -84,5 +85,5 @@ pub fn propose_plus_loop(machine: Machine, memory: &[u8], r: Registers) -> Maybe
         return fail_maybe(got);
     };
     let to = add(r.ep, r.a % 0x40000000 * 4);
-    propose_step(machine, memory, add(r.sp, 4), r.rp, to, n, true)
+    propose_step(machine, memory, add(r.sp, 4), r.rp, Address(to), n, true)
 }

@@ -5,12 +5,12 @@ use Prim.Native.Nat.{ℕ, _+_, _*_, _%_, _^_, _<_}
 use native.Mathlib.Omega.{arith}
 use lib.Dec.{eqb}
 use Rattle.cell.specs.Memory.{Bytewise}
-use Rattle.cell.specs.Number.{sum}
 use Rattle.cell.specs.declared.Fetched.{Fetched}
 use Rattle.machine.specs.declared.Machine.{Machine}
 use Rattle.machine.specs.declared.Registers.{Registers}
 use Rattle.machine.specs.declared.Access.the-variants.{Stream, DataRead, ReturnRead}
-use Rattle.instruction.specs.Taking.{Taking, branch, questionBranch, call, loop, plusLoop, literal, crosses, takingOf, takingAt, branchOperand, literalOperand, operandOf, afterOf}
+use Rattle.instruction.specs.Counting.{loopEnds, plusEnds}
+use Rattle.instruction.specs.Taking.{Taking, branch, questionBranch, call, loop, plusLoop, literal, takingOf, takingAt, branchOperand, literalOperand, operandOf, afterOf}
 use Rattle.instruction.specs.declared.OperandForm.{OperandForm}
 use Rattle.instruction.specs.declared.OperandForm.the-variants.{InCell, Immediate}
 use Rattle.processor_laws.specs.Soundness.{Sound, Below, Bounded}
@@ -29,13 +29,13 @@ module _ (machine : Machine) (m : List ℕ) (low : Bytewise m) where
     taking-bounded loop =
         read2 machine m low ReturnRead rp
         (λ limit index.
-        either (eqb (sum index 1) limit) (acting hs (sum-below rp 8) tt tt) (fetched-bounded operand h (λ to k. acting hs hr (tt, tt) k)))
+        either (loopEnds index limit) (acting hs (sum-below rp 8) tt tt) (fetched-bounded operand h (λ to k. acting hs hr (tt, tt) k)))
     taking-bounded plusLoop =
         read1 machine m low DataRead sp
         (λ n b.
         read2 machine m low ReturnRead rp
         (λ limit index.
-        either (crosses index (sum index n) limit) (acting (sum-below sp 4) (sum-below rp 8) tt tt)
+        either (plusEnds index limit n) (acting (sum-below sp 4) (sum-below rp 8) tt tt)
         (fetched-bounded operand h (λ to k. acting (sum-below sp 4) hr (tt, tt) k))))
     taking-bounded literal = fetched-bounded operand h (λ x k. acting (difference-below sp 4) hr (tt, tt) tt)
 

@@ -10,6 +10,7 @@ use Rattle.machine.specs.Places.{placeOf, fetchOf}
 use Rattle.machine.specs.Commits.{placesOf, storedOf, commitOf}
 use Rattle.machine.specs.Throws.{handlerOf, throwOf, nextOf, finishOf}
 use Rattle.instruction.specs.Plain.{plainOf}
+use Rattle.instruction.specs.Counting.{plusEnds}
 use Rattle.instruction.specs.Taking.{takingOf}
 use Rattle.instruction.specs.Dispatch.{decodeOf, executeOf}
 use Rattle.processor.specs.Cycles.{cycleOf, advance, cyclesOf, startOf}
@@ -30,6 +31,6 @@ use Rattle.worked.specs.Table.{table}
 
 pub worked-on-paper : tableHolds table ≡ true
 unfolding tableHolds cellAt storeCell sum difference negated symmetricOf flooredOf asr8 placeOf fetchOf placesOf storedOf commitOf handlerOf throwOf
-    nextOf finishOf plainOf takingOf decodeOf executeOf cycleOf advance cyclesOf startOf judgeMachine startAnswer cycleAnswer doneOf runAnswer classOf
+    nextOf finishOf plainOf plusEnds takingOf decodeOf executeOf cycleOf advance cyclesOf startOf judgeMachine startAnswer cycleAnswer doneOf runAnswer classOf
     fits pack any entry judgedFrom judgedListing judgedArrays cur word cells rounds settle settled marks image countOf judgeLoad copied loadOf
 worked-on-paper = refl

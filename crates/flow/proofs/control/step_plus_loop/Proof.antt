@@ -77,8 +77,8 @@ returns-3 c =
 add-requires-2 : tie.Need-add-requires-2
 add-requires-2 c κs = search needs
 
-is-crossed-requires : tie.Need-is-crossed-requires
-is-crossed-requires c κs = search needs
+plus-ends-requires : tie.Need-plus-ends-requires
+plus-ends-requires c κs = search needs
 
 add-requires-3 : tie.Need-add-requires-3
 add-requires-3 c κs = search needs
@@ -101,9 +101,8 @@ returns-4 c =
     (c .before .before .before .before .before .before .before .before .before .fetch3 .ensures) ∙
     c .before .before .before .before .before .before .before .got3 .given .1)) _ (sym
     (c .before .before .before .before .before .before .before .before .before .before .before .before .before .before .before .before .before .before .fetch .ensures)
-    ∙ c .before .before .before .before .before .before .before .before .before .before .before .before .before .before .before .before .got .given .1) _ (rw
-    (c .before .before .before .before .before .add2 .ensures) at (sym (c .before .before .before .before .is-crossed .ensures) ∙
-    c .before .before .before .if1 .taken)))
+    ∙ c .before .before .before .before .before .before .before .before .before .before .before .before .before .before .before .before .got .given .1) _ (sym (c .before .before .before .before .plus-ends .ensures _ (search needs) (c .before .before .before .before .before .add2 .ensures)) ∙
+    c .before .before .before .if1 .taken))
 
 branch-operand-requires : tie.Need-branch-operand-requires
 branch-operand-requires c κs = search needs
@@ -129,8 +128,8 @@ returns-5 c =
     c .before .before .before .before .before .before .before .before .got3 .given .1)) _ (sym
     (c .before .before .before .before .before .before .before .before .before .before .before .before .before .before .before .before .before .before .before .fetch .ensures)
     ∙ c .before .before .before .before .before .before .before .before .before .before .before .before .before .before .before .before .before .got .given .1)
-    _ _ (rw (c .before .before .before .before .before .before .add2 .ensures) at (sym (c .before .before .before .before .before .is-crossed .ensures) ∙
-    c .before .before .before .before .if1 .left)) (sym (c .before .before .before .branch-operand .ensures) ∙ c .before .enum-told4 .given .1))
+    _ _ (sym (c .before .before .before .before .before .plus-ends .ensures _ (search needs) (c .before .before .before .before .before .before .add2 .ensures)) ∙
+    c .before .before .before .before .if1 .left) (sym (c .before .before .before .branch-operand .ensures) ∙ c .before .enum-told4 .given .1))
 
 add-requires-5 : tie.Need-add-requires-5
 add-requires-5 c κs = search needs
@@ -149,8 +148,8 @@ returns-6 c =
     (c .before .before .before .before .before .before .before .before .before .before .before .before .before .before .before .before .before .before .before .before .fetch .ensures)
     ∙
     c .before .before .before .before .before .before .before .before .before .before .before .before .before .before .before .before .before .before .got .given .1)
-    _ _ (rw (c .before .before .before .before .before .before .before .add2 .ensures) at (sym
-    (c .before .before .before .before .before .before .is-crossed .ensures) ∙ c .before .before .before .before .before .if1 .left)) (sym
+    _ _ (sym
+    (c .before .before .before .before .before .before .plus-ends .ensures _ (search needs) (c .before .before .before .before .before .before .before .add2 .ensures)) ∙ c .before .before .before .before .before .if1 .left) (sym
     (c .before .before .before .before .branch-operand .ensures) ∙ c .before .before .got4 .given .1)))
 
 pub step-plus-loop-spec : {M : Type 1} → statement M
@@ -174,7 +173,7 @@ step-plus-loop-spec =
     fail-maybe-requires-3
     returns-3
     add-requires-2
-    is-crossed-requires
+    plus-ends-requires
     add-requires-3
     add-requires-4
     write-nothing-requires

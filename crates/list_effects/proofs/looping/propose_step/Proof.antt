@@ -7,93 +7,76 @@ use denote.Ref.{now}
 use Rattle.instruction.specs.Plain as plain
 use Rattle.list_effects.proofs.LoopingLaws.{looped-fails, looped-fails-too, looped-ends, looped-goes}
 
--- src/looping.rt:45:9
 fetch-requires : tie.Need-fetch-requires
 fetch-requires c κs = search needs
 
--- src/looping.rt:46:23
 enum-known-got : tie.Need-enum-known-got
 enum-known-got c = search needs
 
--- src/looping.rt:47:9
 enum-told : tie.Need-enum-told
 enum-told c = search needs
 
--- src/looping.rt:47:9
 fail-maybe-requires : tie.Need-fail-maybe-requires
 fail-maybe-requires c κs = (_, c .enum-told .given .1)
 
--- src/looping.rt:47:9
 returns : tie.Need-returns
 returns c =
     let a = c .before .before .before .before .before .args in c .fail-maybe .ensures ∙ ap plain.failed (c .before .enum-told .given .1) ∙ sym (looped-fails
-    (a .machine) (now (a .memory)) (a .sp) (a .rp) (a .to) (a .n) (a .plus) _ (sym (c .before .before .before .fetch .ensures) ∙
+    (a .machine) (now (a .memory)) (a .sp) (a .rp) (a .to .0) (a .n) (a .plus) _ (sym (c .before .before .before .fetch .ensures) ∙
     c .before .enum-told .given .1))
 
--- src/looping.rt:49:67
 add-requires : tie.Need-add-requires
 add-requires c κs = search needs
 
--- src/looping.rt:49:9
 fetch-requires-2 : tie.Need-fetch-requires-2
 fetch-requires-2 c κs = search needs
 
--- src/looping.rt:50:23
 enum-known-got2 : tie.Need-enum-known-got2
 enum-known-got2 c = search needs
 
--- src/looping.rt:51:9
 enum-told-2 : tie.Need-enum-told-2
 enum-told-2 c = search needs
 
--- src/looping.rt:51:9
 fail-maybe-requires-2 : tie.Need-fail-maybe-requires-2
 fail-maybe-requires-2 c κs = (_, c .enum-told2 .given .1)
 
--- src/looping.rt:51:9
 returns-2 : tie.Need-returns-2
 returns-2 c =
     let a = c .before .before .before .before .before .before .before .before .before .before .args in c .fail-maybe2 .ensures ∙ ap plain.failed
-    (c .before .enum-told2 .given .1) ∙ sym (looped-fails-too (a .machine) (now (a .memory)) (a .sp) (a .rp) (a .to) (a .n) (a .plus) _ (sym
+    (c .before .enum-told2 .given .1) ∙ sym (looped-fails-too (a .machine) (now (a .memory)) (a .sp) (a .rp) (a .to .0) (a .n) (a .plus) _ (sym
     (c .before .before .before .before .before .before .before .before .fetch .ensures) ∙ c .before .before .before .before .before .before .got .given .1) _
     (rw (c .before .before .before .before .add .ensures) at (sym (c .before .before .before .fetch2 .ensures) ∙ c .before .enum-told2 .given .1)))
 
--- src/looping.rt:53:9
+step-ends-requires : tie.Need-step-ends-requires
+step-ends-requires c κs = search needs
+
 add-requires-2 : tie.Need-add-requires-2
 add-requires-2 c κs = search needs
 
--- src/looping.rt:54:8
-is-over-requires : tie.Need-is-over-requires
-is-over-requires c κs = search needs
-
--- src/looping.rt:55:30
-add-requires-3 : tie.Need-add-requires-3
-add-requires-3 c κs = search needs
-
--- src/looping.rt:55:9
 write-nothing-requires : tie.Need-write-nothing-requires
 write-nothing-requires c κs = search needs
 
--- src/looping.rt:55:9
 returns-3 : tie.Need-returns-3
 returns-3 c =
-    let a = c .before .before .before .before .before .before .before .before .before .before .before .before .before .before .before .args in
-    c .write-nothing .ensures ∙ ap (plain.moved (a .sp)) (c .before .add3 .ensures) ∙ sym (looped-ends (a .machine) (now (a .memory)) (a .sp) (a .rp) (a .to)
-    (a .n) (a .plus) _ (sym (c .before .before .before .before .before .before .before .before .before .before .before .before .before .fetch .ensures) ∙
-    c .before .before .before .before .before .before .before .before .before .before .before .got .given .1) _ (rw
-    (c .before .before .before .before .before .before .before .before .before .add .ensures) at (sym
-    (c .before .before .before .before .before .before .before .before .fetch2 .ensures) ∙ c .before .before .before .before .before .before .got2 .given .1))
-    (rw (c .before .before .before .before .add2 .ensures) at (sym (c .before .before .before .is-over .ensures) ∙ c .before .before .if1 .taken)))
+    let a = c .before .before .before .before .before .before .before .before .before .before .before .before .before .before .args in
+    c .write-nothing .ensures ∙ ap (plain.moved (a .sp)) (c .before .add2 .ensures) ∙ sym (looped-ends (a .machine) (now (a .memory)) (a .sp) (a .rp) (a .to .0)
+    (a .n) (a .plus) _ (sym (c .before .before .before .before .before .before .before .before .before .before .before .before .fetch .ensures) ∙
+    c .before .before .before .before .before .before .before .before .before .before .got .given .1) _ (rw
+    (c .before .before .before .before .before .before .before .before .add .ensures) at (sym
+    (c .before .before .before .before .before .before .before .fetch2 .ensures) ∙ c .before .before .before .before .before .got2 .given .1))
+    (sym (c .before .before .before .step-ends .ensures) ∙ c .before .before .if1 .taken))
 
--- src/looping.rt:33:1
+add-requires-3 : tie.Need-add-requires-3
+add-requires-3 c κs = search needs
+
 returns-4 : tie.Need-returns-4
 returns-4 c =
-    let a = c .before .before .before .before .before .before .before .before .before .before .before .before .before .args in rw
-    (c .before .before .add2 .ensures) (sym (looped-goes (a .machine) (now (a .memory)) (a .sp) (a .rp) (a .to) (a .n) (a .plus) _ (sym
+    let a = c .before .before .before .before .before .before .before .before .before .before .before .before .before .args in
+    rw (c .add3 .ensures) (sym (looped-goes (a .machine) (now (a .memory)) (a .sp) (a .rp) (a .to .0) (a .n) (a .plus) _ (sym
     (c .before .before .before .before .before .before .before .before .before .before .before .fetch .ensures) ∙
     c .before .before .before .before .before .before .before .before .before .got .given .1) _ (rw
     (c .before .before .before .before .before .before .before .add .ensures) at (sym (c .before .before .before .before .before .before .fetch2 .ensures) ∙
-    c .before .before .before .before .got2 .given .1)) (rw (c .before .before .add2 .ensures) at (sym (c .before .is-over .ensures) ∙ c .if1 .left))))
+    c .before .before .before .before .got2 .given .1)) (sym (c .before .before .step-ends .ensures) ∙ c .before .if1 .left)))
 
 pub propose-step-spec : {M : Type 1} → statement M
 propose-step-spec =
@@ -110,9 +93,9 @@ propose-step-spec =
     enum-told-2
     fail-maybe-requires-2
     returns-2
+    step-ends-requires
     add-requires-2
-    is-over-requires
-    add-requires-3
     write-nothing-requires
     returns-3
+    add-requires-3
     returns-4)
