@@ -1,4 +1,5 @@
-//! The rows of document 01's "Worked on paper", tried on an implementation.
+//! The rows of document 01's "Worked on paper" and the cases of document 02, tried on an
+//! implementation.
 
 use crate::call::Implementation;
 
@@ -97,6 +98,36 @@ pub fn running(calls: &Implementation) {
     let answer = (calls.cycle)(0, &mut memory, &mut registers, &mut out);
     assert_eq!((answer, out[0] as i32), (1, -258), "DUP with SP 0");
     assert_eq!(memory, before, "DUP with SP 0");
+}
+
+/// The index with which (+LOOP)I goes on, or none where it ends.
+fn counted(calls: &Implementation, index: u32, limit: u32, step: i32) -> Option<u32> {
+    let (mut memory, mut registers) = started(calls, &[0xFFFF_FF4F]);
+    put(&mut memory, 0x200, step as u32);
+    put(&mut memory, 0x300, index);
+    put(&mut memory, 0x304, limit);
+    (registers[2], registers[3]) = (0x200, 0x300);
+    assert_eq!((calls.cycle)(0, &mut memory, &mut registers, &mut [0]), 0);
+    assert_eq!(registers[2], 0x204, "the step is dropped");
+    match registers[3] {
+        0x300 => Some(cell(&memory, 0x300)),
+        rp => {
+            assert_eq!((rp, cell(&memory, 0x300)), (0x308, index));
+            None
+        }
+    }
+}
+
+pub fn counting(calls: &Implementation) {
+    const HALF: u32 = 0x8000_0000;
+    assert_eq!(counted(calls, HALF - 1, HALF, 1), None);
+    assert_eq!(counted(calls, HALF - 1, 0, 1), Some(HALF));
+    assert_eq!(counted(calls, HALF - 8, HALF, 4), Some(HALF - 4));
+    assert_eq!(counted(calls, HALF + 4, HALF, -4), Some(HALF));
+    assert_eq!(counted(calls, HALF, HALF, -4), None);
+    assert_eq!(counted(calls, HALF, HALF, 0), Some(HALF));
+    assert_eq!(counted(calls, 0xFFFF_FFF0, 0x10, 0x10), Some(0));
+    assert_eq!(counted(calls, 0, 0x10, 0x10), None);
 }
 
 pub fn loading(calls: &Implementation) {

@@ -5,6 +5,7 @@ use beetle_tests::worked;
 
 fn all_rows(implementation: &Implementation) {
     worked::running(implementation);
+    worked::counting(implementation);
     worked::loading(implementation);
     worked::packing(implementation);
 }

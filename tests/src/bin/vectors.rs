@@ -1,5 +1,5 @@
 //! Checks the reference, and the library where it is linked, against vectors: those of the folder
-//! `vectors`, or `vectors cycles.txt listings.txt`.
+//! `vectors`, or a file that is named: `vectors cycles FILE`, `vectors listings FILE`.
 //!
 //! A cycle is a line of order, EP, A, SP, RP and memory, `=`, the answer (`on`, or `stop` and the
 //! reason in decimal), the registers afterwards, and each changed byte as `address:byte`. A listing
@@ -9,8 +9,25 @@
 use beetle_tests::call::library;
 use beetle_tests::call::{reference, Implementation};
 
-const OWN_CYCLES: &str = concat!(env!("CARGO_MANIFEST_DIR"), "/vectors/cycles.txt");
-const OWN_LISTINGS: &str = concat!(env!("CARGO_MANIFEST_DIR"), "/vectors/listings.txt");
+/// A kind of vectors: its name, its files in the folder, and how a line is checked.
+struct Kind {
+    name: &'static str,
+    files: &'static [&'static str],
+    agrees: fn(&Implementation, &str) -> bool,
+}
+
+const KINDS: [Kind; 2] = [
+    Kind {
+        name: "cycles",
+        files: &["cycles.txt", "plusloops.txt"],
+        agrees: cycle_agrees,
+    },
+    Kind {
+        name: "listings",
+        files: &["listings.txt"],
+        agrees: listing_agrees,
+    },
+];
 
 fn hexadecimal(word: &str) -> u32 {
     u32::from_str_radix(word, 16).expect("a hexadecimal number")
@@ -89,26 +106,43 @@ fn check(path: &str, agrees: impl Fn(&str) -> bool) -> bool {
     agreed == lines && lines > 0
 }
 
-/// Whether an implementation agrees with both files.
-fn check_both(name: &str, calls: &Implementation, cycles: &str, listings: &str) -> bool {
+/// Every file of the folder, or the one that is named, with its kind.
+fn chosen(words: &[String]) -> Option<Vec<(&'static Kind, String)>> {
+    let folder = concat!(env!("CARGO_MANIFEST_DIR"), "/vectors");
+    match words {
+        [] => {
+            let all = KINDS.iter().flat_map(|kind| {
+                let files = kind.files.iter();
+                files.map(move |file| (kind, format!("{folder}/{file}")))
+            });
+            Some(all.collect())
+        }
+        [name, path] => {
+            let kind = KINDS.iter().find(|kind| kind.name == name)?;
+            Some(vec![(kind, path.clone())])
+        }
+        _ => None,
+    }
+}
+
+/// Whether an implementation agrees with all files.
+fn check_all(name: &str, calls: &Implementation, files: &[(&Kind, String)]) -> bool {
     println!("{name}");
-    let good = check(cycles, |line| cycle_agrees(calls, line));
-    check(listings, |line| listing_agrees(calls, line)) && good
+    let agreeing = files
+        .iter()
+        .filter(|(kind, path)| check(path, |line| (kind.agrees)(calls, line)));
+    agreeing.count() == files.len()
 }
 
 fn main() {
-    let paths: Vec<String> = std::env::args().skip(1).collect();
-    let (cycles, listings) = match &paths[..] {
-        [] => (OWN_CYCLES, OWN_LISTINGS),
-        [cycles, listings] => (&cycles[..], &listings[..]),
-        _ => {
-            eprintln!("usage: vectors [cycles.txt listings.txt]");
-            std::process::exit(2);
-        }
+    let words: Vec<String> = std::env::args().skip(1).collect();
+    let Some(files) = chosen(&words) else {
+        eprintln!("usage: vectors [cycles FILE | listings FILE]");
+        std::process::exit(2);
     };
-    let good = check_both("reference", &reference(), cycles, listings);
+    let good = check_all("reference", &reference(), &files);
     #[cfg(feature = "library")]
-    let good = check_both("library", &library(), cycles, listings) && good;
+    let good = check_all("library", &library(), &files) && good;
     if !good {
         std::process::exit(1);
     }

@@ -80,9 +80,12 @@ pub fn shifted_right(cell: u32, places: u32) -> u32 {
     }
 }
 
-/// Whether a step of (+LOOP), on signed numbers, goes over the border below the limit, up or down.
+/// Whether a step of (+LOOP) ends the loop. Cells lie on a circle, and the index stands `above` the
+/// limit, counted upwards; the loop ends where that and the step, a signed number, add up to no such
+/// distance.
 #[inline(always)]
-pub fn crosses(old: u32, new: u32, limit: u32) -> bool {
-    let (old, new, limit) = (signed(old), signed(new), signed(limit));
-    (old < limit && limit <= new) || (new < limit && limit <= old)
+pub fn ends_loop(index: u32, limit: u32, step: u32) -> bool {
+    let above = i64::from(index.wrapping_sub(limit));
+    let sum = above + i64::from(signed(step));
+    !(0..1 << 32).contains(&sum)
 }

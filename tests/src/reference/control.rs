@@ -4,7 +4,7 @@
 //! which the processor's cell form fetches at EP, only when the branch is taken and after the
 //! stacks are read. Each answers whether it was taken, and where to.
 
-use super::arithmetic::crosses;
+use super::arithmetic::ends_loop;
 use super::instructions::{above, below, call_from, Act, Control, Registers, BAD_STACK};
 use super::memory::{Fault, Memory};
 
@@ -75,7 +75,7 @@ pub fn plus_loop<M: Memory>(
     let index = m.fetch(r.rp)?;
     let limit = m.fetch(above(r.rp, 1))?;
     let new = index.wrapping_add(n);
-    let branching = step(m, r, crosses(index, new, limit), new, target)?;
+    let branching = step(m, r, ends_loop(index, limit, n), new, target)?;
     r.sp = above(r.sp, 1);
     Ok(branching)
 }
