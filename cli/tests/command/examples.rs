@@ -38,3 +38,8 @@ fn child() {
 fn age() {
     runs_as_stored("age");
 }
+
+#[test]
+fn places() {
+    runs_as_stored("places");
+}
