@@ -1,4 +1,4 @@
-//! The three loops whose cycles are measured, and the machine that runs them.
+//! The loops whose cycles are measured, and the machine that runs them.
 
 use beetle_tests::call::Implementation;
 
@@ -8,7 +8,7 @@ pub struct Loop {
     cells: &'static [u32],
 }
 
-pub const LOOPS: [Loop; 3] = [
+pub const LOOPS: [Loop; 4] = [
     Loop {
         name: "stack and arithmetic",
         cells: &[0x031E_0401, 0x0125_1A34, 0xFD43_2E08],
@@ -36,6 +36,10 @@ pub const LOOPS: [Loop; 3] = [
             0xFFFF_F843,
             0x0000_004A,
         ],
+    },
+    Loop {
+        name: "(+LOOP)",
+        cells: &[0x0001_9053, 0x0000_4B19, 0xFFFF_4F1C, 0xFFFF_FC43],
     },
 ];
 
