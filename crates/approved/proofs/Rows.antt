@@ -23,8 +23,8 @@ use Rattle.pack_layout.specs.Packing.{marks, image}
 use Rattle.pack_layout.specs.Output.{bytesOf}
 use Rattle.packer.specs.Judgement.{judgeOrder, judgeRoom, judgePack}
 use Rattle.packer.specs.Pack.{packOf}
-use Rattle.module.specs.Format.{countOf, headerOf, moduleOf}
-use Rattle.module.specs.Grounds.{judgeLoad, judgeSave}
+use Rattle.module_judging.specs.Format.{countOf, headerOf, moduleOf}
+use Rattle.module_judging.specs.Grounds.{judgeLoad, judgeSave}
 use Rattle.module.specs.Copies.{copied}
 use Rattle.module.specs.Answers.{loadOf, saveOf}
 use Rattle.approved.specs.Worked.{ways, expected}

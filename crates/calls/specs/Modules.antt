@@ -5,7 +5,7 @@ use lib.ListN.{length}
 use Rattle.cell.specs.Refusals.{refusalNumber}
 use Rattle.cell.specs.declared.Judged.{Judged}
 use Rattle.cell.specs.declared.Judged.the-variants as judged
-use Rattle.module.specs.Grounds.{judgeLoad, judgeSave}
+use Rattle.module_judging.specs.Grounds.{judgeLoad, judgeSave}
 use Rattle.module.specs.Answers.{loadOf, saveOf}
 use Rattle.module.specs.declared.Loaded.{Loaded}
 use Rattle.module.specs.declared.Loaded.the-variants as loaded

@@ -8,10 +8,10 @@ use cell::Address;
 use cell::CellCount;
 use cell::Judged;
 use cell::judgement::refusal_number;
-use module::judgement::judge_load;
-use module::judgement::judge_save;
 use module::loading::load_object;
 use module::saving::save_object;
+use module_judging::judgement::judge_load;
+use module_judging::judgement::judge_save;
 
 #[no_mangle]
 pub extern "C" fn beetle_load(

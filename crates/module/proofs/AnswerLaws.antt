@@ -10,10 +10,10 @@ use Rattle.cell.specs.declared.CellCount.{CellCount}
 use Rattle.cell.specs.declared.Judged.the-variants.{Passed}
 use Rattle.module.specs.declared.Loaded.the-variants as loaded
 use Rattle.module.specs.declared.Saved.the-variants as saved
-use Rattle.module.specs.Format.{orderOf, countOf, codeOf, headerOf, moduleOf}
-use Rattle.module.specs.Grounds.{judgeLoad, judgeSave}
+use Rattle.module_judging.specs.Format.{orderOf, countOf, codeOf, headerOf, moduleOf}
+use Rattle.module_judging.specs.Grounds.{judgeLoad, judgeSave}
 use Rattle.module.specs.Copies.{copied}
-use Rattle.module.proofs.ConditionLaws.{save-good}
+use Rattle.module_judging.proofs.ConditionLaws.{save-good}
 use Rattle.module.proofs.SameLaws.{copied-same, drop-bytewise}
 use Rattle.module.specs.Answers.{loadedTo, loadOf, savedTo, saveOf}
 

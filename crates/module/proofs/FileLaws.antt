@@ -7,8 +7,8 @@ use lib.ListN.{length, getD, take, drop, length-append, length-drop}
 use lib.Seq.{drop-at, drop-cons, take-add, length-take-le, getD-take, getD-drop}
 use Rattle.cell.specs.Memory.{cellAt, Bytewise}
 use Rattle.cell.proofs.BytesLaws.{join-bytes}
-use Rattle.module.specs.Format.{title, orderOf, countOf, codeOf, headerOf, moduleOf}
-use Rattle.module.specs.Conditions.{GoodFile}
+use Rattle.module_judging.specs.Format.{title, orderOf, countOf, codeOf, headerOf, moduleOf}
+use Rattle.module_judging.specs.Conditions.{GoodFile}
 use Rattle.module.proofs.AnswerLaws.{header-length}
 use Rattle.module.proofs.SameLaws.{bytes-back}
 

@@ -6,7 +6,7 @@ use native.Mathlib.Omega.{arith}
 use lib.ListN.{length, drop}
 use lib.Seq.{sets, sets-eq}
 use Rattle.cell.specs.Memory.{storeCell}
-use Rattle.module.specs.Format.{title, headerOf}
+use Rattle.module_judging.specs.Format.{title, headerOf}
 
 -- an output with the title and the order byte at its start
 abbrev pub begun : ℕ → List ℕ → List ℕ

@@ -1,6 +1,4 @@
 -- Laws that belong to no one function.
-pub mod JudgeLaws
-pub mod ConditionLaws
 pub mod CopyLaws
 pub mod HeaderLaws
 pub mod SameLaws

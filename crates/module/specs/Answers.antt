@@ -11,8 +11,8 @@ use Rattle.module.specs.declared.Loaded.{Loaded}
 use Rattle.module.specs.declared.Loaded.the-variants as loaded
 use Rattle.module.specs.declared.Saved.{Saved}
 use Rattle.module.specs.declared.Saved.the-variants as saved
-use Rattle.module.specs.Format.{orderOf, countOf, codeOf, moduleOf}
-use Rattle.module.specs.Grounds.{judgeLoad, judgeSave}
+use Rattle.module_judging.specs.Format.{orderOf, countOf, codeOf, moduleOf}
+use Rattle.module_judging.specs.Grounds.{judgeLoad, judgeSave}
 use Rattle.module.specs.Copies.{copied}
 
 -- the number and the count of each answer of a load: 0 and the cells loaded, or the refusal's number and 0

@@ -7,9 +7,9 @@ use lib.ListN.{length, take, drop}
 use Rattle.cell.specs.Memory.{cellAt, Alike, Bytewise}
 use Rattle.cell.specs.Refusals.{GoodMachine}
 use Rattle.module.specs.declared.Saved.the-variants.{Bytes}
-use Rattle.module.specs.Format.{orderOf, countOf}
+use Rattle.module_judging.specs.Format.{orderOf, countOf}
 use Rattle.module.specs.Answers.{LoadResult, loadOf, SaveResult, savedTo, saveOf}
-use Rattle.module.specs.Conditions.{GoodPlace, Loadable, Savable}
+use Rattle.module_judging.specs.Conditions.{GoodPlace, Loadable, Savable}
 
 -- both ways
 pub record Exactly (P Q : Type 0) : Type 0 where

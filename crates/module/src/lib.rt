@@ -1,7 +1,6 @@
 // Object modules: loading and saving, in either byte order.
 pub mod answers;
 pub mod copying;
-pub mod judgement;
 pub mod loading;
 pub mod saving;
 

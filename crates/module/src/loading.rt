@@ -2,14 +2,14 @@
 ghost use mathlib.Core.Path.{_≡_};
 ghost use Prim.Native.Nat.{_≤_};
 ghost use lib.ListN.{length};
-ghost use Rattle.module.specs.Format as format;
+ghost use Rattle.module_judging.specs.Format as format;
 ghost use Rattle.module.specs.Answers as answers;
 use crate::Loaded;
 use crate::copying::copy_cells;
-use crate::judgement::count_of;
-use crate::judgement::judge_load;
 use cell::Address;
 use cell::Judged;
+use module_judging::judgement::count_of;
+use module_judging::judgement::judge_load;
 
 // The cells of a file: what follows its header, which is judged.
 pub fn code_of(file: &[u8]) -> &[u8]

@@ -3,15 +3,15 @@ ghost use mathlib.Core.Path.{_≡_};
 ghost use mathlib.Core.List.{_++_};
 ghost use Prim.Native.Nat.{_≤_};
 ghost use lib.ListN.{length, drop};
-ghost use Rattle.module.specs.Format as format;
+ghost use Rattle.module_judging.specs.Format as format;
 ghost use Rattle.module.specs.Answers as answers;
 use crate::Saved;
 use crate::copying::copy_at;
-use crate::judgement::judge_save;
 use cell::Address;
 use cell::CellCount;
 use cell::Judged;
 use cell::memory::store_at;
+use module_judging::judgement::judge_save;
 
 // The first twelve bytes of a module.
 fn write_header(order: u8, cells: CellCount, output: &mut [u8])

@@ -22,8 +22,8 @@ use Rattle.pack_layout.specs.Layout.{cur}
 use Rattle.pack_layout.specs.Image.{word, cells}
 use Rattle.pack_layout.specs.Rounds.{rounds, settle, settled}
 use Rattle.pack_layout.specs.Packing.{marks, image}
-use Rattle.module.specs.Format.{countOf}
-use Rattle.module.specs.Grounds.{judgeLoad}
+use Rattle.module_judging.specs.Format.{countOf}
+use Rattle.module_judging.specs.Grounds.{judgeLoad}
 use Rattle.module.specs.Copies.{copied}
 use Rattle.module.specs.Answers.{loadOf}
 use Rattle.worked.specs.Rows.{tableHolds}

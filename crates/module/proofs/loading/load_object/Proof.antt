@@ -5,7 +5,7 @@ use lib.ListN.{length-drop}
 use native.Mathlib.Omega.{arith}
 use mathlib.Core.Path.{sym, _∙_}
 use Rattle.module.proofs.AnswerLaws.{load-result}
-use Rattle.module.proofs.ConditionLaws.{load-good}
+use Rattle.module_judging.proofs.ConditionLaws.{load-good}
 use Rattle.module.specs.Answers as answers
 
 judge-load-requires : tie.Need-judge-load-requires

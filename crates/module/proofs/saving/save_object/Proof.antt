@@ -8,7 +8,7 @@ use native.Mathlib.Omega.{arith}
 use mathlib.Core.Path.{sym, _∙_}
 use Rattle.cell.specs.Memory as mem
 use Rattle.module.proofs.AnswerLaws.{save-result}
-use Rattle.module.proofs.ConditionLaws.{save-good}
+use Rattle.module_judging.proofs.ConditionLaws.{save-good}
 use Rattle.module.specs.Answers as answers
 
 judge-save-requires : tie.Need-judge-save-requires

@@ -8,8 +8,8 @@ use Rattle.cell.specs.Refusals.{Ground, judge, after, judgeMachine, memoryLengt
 use Rattle.cell.specs.declared.Refusal.{Refusal}
 use Rattle.cell.specs.declared.Judged.{Judged}
 use Rattle.cell.specs.declared.Judged.the-variants.{Refused}
-use Rattle.module.specs.Format.{countOf}
-use Rattle.module.specs.Grounds.{header, fileLength, outside, shortOutput, judgeFile, judgePlace, judgeLoad, judgeSave}
+use Rattle.module_judging.specs.Format.{countOf}
+use Rattle.module_judging.specs.Grounds.{header, fileLength, outside, shortOutput, judgeFile, judgePlace, judgeLoad, judgeSave}
 
 if-after : (t : Bool) (r : Refusal) (i j k : Judged) → k ≡ after i j → if t (Refused r) k ≡ after (if t (Refused r) i) j
 if-after true r i j k e = refl

@@ -1,12 +1,12 @@
 use borrow.Author.Needs.{needs}
-use Rattle.module.proofs.judgement.judge_load.Statement.{statement}
-use Rattle.module.proofs.judgement.judge_load.Tie as tie
+use Rattle.module_judging.proofs.judgement.judge_load.Statement.{statement}
+use Rattle.module_judging.proofs.judgement.judge_load.Tie as tie
 use Rattle.cell.specs.declared.CellCount.{CellCount}
-use Rattle.module.specs.Grounds as grounds
+use Rattle.module_judging.specs.Grounds as grounds
 use native.Mathlib.Omega.{arith}
 use mathlib.Core.Path.{ap, sym, _∙_}
-use Rattle.module.proofs.ConditionLaws.{file-good}
-use Rattle.module.proofs.JudgeLaws.{load-parts}
+use Rattle.module_judging.proofs.ConditionLaws.{file-good}
+use Rattle.module_judging.proofs.JudgeLaws.{load-parts}
 
 judge-machine-requires : tie.Need-judge-machine-requires
 judge-machine-requires c κs = search needs

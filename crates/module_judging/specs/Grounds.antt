@@ -8,7 +8,7 @@ use lib.ListN.{length, getD}
 use Rattle.cell.specs.Refusals.{Ground, judge, memoryLength, byteOrder, unaligned}
 use Rattle.cell.specs.declared.Refusal.the-variants.{Header, FileLength, Outside, ShortOutput}
 use Rattle.cell.specs.declared.Judged.{Judged}
-use Rattle.module.specs.Format.{title, orderOf, countOf}
+use Rattle.module_judging.specs.Format.{title, orderOf, countOf}
 
 -- the bytes of a file from `at` on are those of a list
 abbrev pub standsAt : List ℕ → ℕ → List ℕ → Bool

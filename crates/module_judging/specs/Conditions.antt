@@ -4,7 +4,7 @@ use mathlib.Core.List.{List}
 use Prim.Native.Nat.{ℕ, _+_, _*_, _%_, _≤_, _<_}
 use lib.ListN.{length, take}
 use Rattle.cell.specs.Refusals.{GoodMachine}
-use Rattle.module.specs.Format.{title, orderOf, countOf}
+use Rattle.module_judging.specs.Format.{title, orderOf, countOf}
 
 -- neither -2 nor -4103
 pub record GoodFile (file : List ℕ) : Type 0 where

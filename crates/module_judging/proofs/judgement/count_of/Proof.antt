@@ -1,9 +1,9 @@
 use borrow.Author.Needs.{needs}
-use Rattle.module.proofs.judgement.count_of.Statement.{statement}
-use Rattle.module.proofs.judgement.count_of.Tie as tie
+use Rattle.module_judging.proofs.judgement.count_of.Statement.{statement}
+use Rattle.module_judging.proofs.judgement.count_of.Tie as tie
 use mathlib.Core.Path.{ap}
 use Rattle.cell.specs.Memory.{cellCount}
-use Rattle.module.specs.Format as format
+use Rattle.module_judging.specs.Format as format
 
 shared-slice-read-load-at : tie.Need-shared-slice-read-load-at
 shared-slice-read-load-at c = search needs

@@ -13,10 +13,10 @@ use Rattle.cell.specs.declared.Refusal.the-variants.{Header, FileLength, Unalig
 use Rattle.cell.specs.declared.Judged.the-variants.{Passed}
 use Rattle.cell.proofs.BooleanLaws.{both-true, neither}
 use Rattle.cell.proofs.JudgementLaws.{both-pass, one-clear, machine-good}
-use Rattle.module.specs.Format.{title, orderOf, countOf}
-use Rattle.module.specs.Grounds.{standsAt, titled, header, fileLength, outside, shortOutput, judgeFile, judgePlace, judgeLoad, judgeSave}
-use Rattle.module.specs.Conditions.{GoodFile, GoodPlace, Loadable, Savable}
-use Rattle.module.proofs.JudgeLaws.{load-parts, save-parts}
+use Rattle.module_judging.specs.Format.{title, orderOf, countOf}
+use Rattle.module_judging.specs.Grounds.{standsAt, titled, header, fileLength, outside, shortOutput, judgeFile, judgePlace, judgeLoad, judgeSave}
+use Rattle.module_judging.specs.Conditions.{GoodFile, GoodPlace, Loadable, Savable}
+use Rattle.module_judging.proofs.JudgeLaws.{load-parts, save-parts}
 
 pub good-machine : (len order : ℕ) → GoodMachine len order → judgeMachine len order ≡ Passed
 unfolding judgeMachine

@@ -1,7 +1,7 @@
 use borrow.Author.Needs.{needs}
-use Rattle.module.proofs.judgement.judge_place.Statement.{statement}
-use Rattle.module.proofs.judgement.judge_place.Tie as tie
-use Rattle.module.specs.Grounds as grounds
+use Rattle.module_judging.proofs.judgement.judge_place.Statement.{statement}
+use Rattle.module_judging.proofs.judgement.judge_place.Tie as tie
+use Rattle.module_judging.specs.Grounds as grounds
 use borrow.Author.Tests.{lt-ltb, le-ltb, le-leb, lt-leb, eq-eqb, ne-eqb}
 
 returns : tie.Need-returns

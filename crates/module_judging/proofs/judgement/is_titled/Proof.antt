@@ -1,6 +1,6 @@
 use borrow.Author.Needs.{needs}
-use Rattle.module.proofs.judgement.is_titled.Statement.{statement}
-use Rattle.module.proofs.judgement.is_titled.Tie as tie
+use Rattle.module_judging.proofs.judgement.is_titled.Statement.{statement}
+use Rattle.module_judging.proofs.judgement.is_titled.Tie as tie
 use mathlib.Core.Path.{sym}
 use mathlib.Core.Bool.{and-true}
 use borrow.Author.Tests.{eq-eqb, ne-eqb}

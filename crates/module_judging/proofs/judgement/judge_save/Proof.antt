@@ -1,9 +1,9 @@
 use borrow.Author.Needs.{needs}
-use Rattle.module.proofs.judgement.judge_save.Statement.{statement}
-use Rattle.module.proofs.judgement.judge_save.Tie as tie
+use Rattle.module_judging.proofs.judgement.judge_save.Statement.{statement}
+use Rattle.module_judging.proofs.judgement.judge_save.Tie as tie
 use borrow.Author.Tests.{lt-ltb, le-ltb}
 use mathlib.Core.Path.{sym, _∙_}
-use Rattle.module.proofs.JudgeLaws.{save-parts}
+use Rattle.module_judging.proofs.JudgeLaws.{save-parts}
 
 judge-machine-requires : tie.Need-judge-machine-requires
 judge-machine-requires c κs = search needs

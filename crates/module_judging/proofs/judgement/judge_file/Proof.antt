@@ -1,10 +1,10 @@
 use borrow.Author.Needs.{needs}
-use Rattle.module.proofs.judgement.judge_file.Statement.{statement}
-use Rattle.module.proofs.judgement.judge_file.Tie as tie
+use Rattle.module_judging.proofs.judgement.judge_file.Statement.{statement}
+use Rattle.module_judging.proofs.judgement.judge_file.Tie as tie
 use borrow.Author.Tests.{lt-ltb, le-ltb, eq-eqb, ne-eqb, not-true, not-false}
 use mathlib.Core.Path.{ap, sym, _∙_}
 use Rattle.cell.specs.declared.CellCount.{CellCount}
-use Rattle.module.specs.Grounds as grounds
+use Rattle.module_judging.specs.Grounds as grounds
 
 returns : tie.Need-returns
 unfolding grounds.judgeFile
