@@ -15,7 +15,7 @@ use Rattle.machine.specs.Places.{fetchOf}
 use Rattle.machine.specs.Throws.{nextOf, handlerCell, memoryCell, badCell, addressCell}
 use Rattle.machine.specs.declared.Access.the-variants.{Stream}
 use Rattle.machine.specs.declared.Machine.{Machine}
-use Rattle.processor.specs.Cycles.{fourCells, startOf}
+use Rattle.processor.specs.Starting.{fourCells, startOf}
 use Rattle.processor.specs.Answers.{machineOf, startedTo, startAnswer}
 use Rattle.processor.specs.declared.Started.the-variants.{Ready}
 use Rattle.pack_layout.specs.Listing.{Listing}

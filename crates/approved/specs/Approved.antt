@@ -8,8 +8,9 @@ use lib.ListN.{length, getD}
 use Rattle.cell.specs.Memory.{Bytewise}
 use Rattle.cell.specs.Refusals.{judgeMachine, GoodMachine}
 use Rattle.cell.specs.declared.Judged.the-variants.{Passed}
-use Rattle.processor.specs.Answers.{machineOf, begun, startedTo, startAnswer}
-use Rattle.processor.specs.Cycles.{fourCells}
+use Rattle.cycles.specs.Counts.{begun}
+use Rattle.processor.specs.Answers.{machineOf, startedTo, startAnswer}
+use Rattle.processor.specs.Starting.{fourCells}
 use Rattle.processor.specs.declared.Started.the-variants.{Ready}
 use Rattle.pack_layout.specs.Listing.{Listing, listed}
 use Rattle.pack_layout.specs.File.{filed, fileBase}

@@ -22,7 +22,7 @@ use Rattle.instruction.specs.Taking.{Taking, branch, questionBranch, call, loop
 use Rattle.instruction.specs.declared.OperandForm as stream
 use Rattle.instruction.specs.declared.OperandForm.the-variants as stream-form
 use Rattle.instruction.specs.Dispatch.{decodeOf, plain, taking, operandClass, taken, executeOf}
-use Rattle.processor.specs.Cycles.{cycleOf}
+use Rattle.cycles.specs.Cycles.{cycleOf}
 use Rattle.pack_layout.specs.Kinds as kinds
 use Rattle.pack_layout.specs.declared.Class as kind
 use Rattle.pack_layout.specs.declared.Class.the-variants.{Plain, Literal, Branch, NoKind}

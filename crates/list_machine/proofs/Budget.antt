@@ -9,8 +9,9 @@ use Rattle.machine.specs.Throws.{CycleState}
 use Rattle.machine.specs.declared.Registers.{Registers}
 use Rattle.machine.specs.declared.Ended.{Ended}
 use Rattle.machine.specs.declared.Ended.the-variants.{Went, Threw, Stopped}
-use Rattle.processor.specs.Cycles.{cyclesOf}
-use Rattle.processor.specs.Answers.{machineOf, begun, ranAs, ranTo, runAnswer}
+use Rattle.cycles.specs.Cycles.{cyclesOf}
+use Rattle.cycles.specs.Counts.{begun}
+use Rattle.processor.specs.Answers.{machineOf, ranAs, ranTo, runAnswer}
 use Rattle.list_machine.specs.Runs.{Run, runOf, beginning}
 use Rattle.list_machine.specs.Demand3.{Stop, stopOf, firstRegisters, Agree, ranWith, RunAgrees, RunFollows}
 use Rattle.list_machine.proofs.Simulation.{demand3}

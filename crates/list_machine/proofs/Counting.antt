@@ -5,10 +5,10 @@ use Prim.Native.Nat.{ℕ, zero, suc, _+_}
 use native.Mathlib.Nat.{zero-add, suc-add}
 use Rattle.machine.specs.Throws.{CycleState}
 use Rattle.machine.specs.declared.Machine.{Machine}
-use Rattle.processor.specs.Cycles.{advance, cyclesOf}
-use Rattle.processor.specs.Answers.{isStop, doneOf}
-use Rattle.processor.proofs.CycleLaws.{stop-final}
-use Rattle.processor.proofs.RunLaws.{counted-goes, counted-first}
+use Rattle.cycles.specs.Cycles.{advance, cyclesOf}
+use Rattle.cycles.specs.Counts.{isStop, doneOf}
+use Rattle.cycles.proofs.CycleLaws.{stop-final}
+use Rattle.cycles.proofs.RunLaws.{counted-goes, counted-first}
 
 module _ (machine : Machine) where
   pub one-done : (s : CycleState) → doneOf machine 1 s ≡ 1

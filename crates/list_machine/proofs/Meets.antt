@@ -11,7 +11,7 @@ use Rattle.machine.specs.declared.Registers.{Registers}
 use Rattle.machine.specs.declared.Access.the-variants.{Stream}
 use Rattle.machine.specs.declared.Ended.{Ended}
 use Rattle.machine.specs.declared.Ended.the-variants.{Stopped}
-use Rattle.processor.specs.Answers.{isStop}
+use Rattle.cycles.specs.Counts.{isStop}
 use Rattle.pack_layout.specs.Listing.{Listing}
 use Rattle.pack_layout.specs.Layout.{opens}
 use Rattle.pack_layout.specs.Packing.{layout, addressOf, epValue, register, entryAt, Legal}

@@ -15,9 +15,9 @@ use Rattle.machine.specs.declared.Registers.{Registers}
 use Rattle.machine.specs.declared.Ended.{Ended}
 use Rattle.machine.specs.declared.Ended.the-variants.{Went, Threw, Stopped}
 use Rattle.instruction.specs.Dispatch.{decodeOf, executeOf}
-use Rattle.processor.specs.Cycles.{cycleOf, advance, cyclesOf}
-use Rattle.processor.specs.Answers.{isStop, begun, doneOf}
-use Rattle.processor.proofs.CycleLaws.{cycles-cut, goes}
+use Rattle.cycles.specs.Cycles.{cycleOf, advance, cyclesOf}
+use Rattle.cycles.specs.Counts.{isStop, begun, doneOf}
+use Rattle.cycles.proofs.CycleLaws.{cycles-cut, goes}
 use Rattle.pack_layout.specs.Listing.{Listing}
 use Rattle.pack_layout.specs.Layout.{cur, opens}
 use Rattle.pack_layout.specs.Packing.{layout, addressOf, epValue, register, Legal}

@@ -26,7 +26,7 @@ use Rattle.machine.specs.declared.Machine.{Machine}
 use Rattle.machine.specs.declared.Access.the-variants.{Stream, Push}
 use Rattle.machine.specs.declared.Ended.{Ended}
 use Rattle.machine.specs.declared.Ended.the-variants.{Went, Threw, Stopped}
-use Rattle.processor.specs.Answers.{isStop}
+use Rattle.cycles.specs.Counts.{isStop}
 use Rattle.processor_laws.proofs.LengthLaws.{noted-length}
 use Rattle.pack_layout.specs.Listing.{Listing}
 use Rattle.pack_layout.specs.Packing.{imageCells, epValue, Legal}

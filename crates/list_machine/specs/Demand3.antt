@@ -21,8 +21,9 @@ use Rattle.machine.specs.declared.Machine.{Machine}
 use Rattle.machine.specs.declared.Registers.{Registers}
 use Rattle.machine.specs.declared.Ended.{Ended}
 use Rattle.machine.specs.declared.Ended.the-variants as ended
-use Rattle.processor.specs.Cycles.{cyclesOf}
-use Rattle.processor.specs.Answers.{machineOf, begun, doneOf, ranTo, runAnswer}
+use Rattle.cycles.specs.Cycles.{cyclesOf}
+use Rattle.cycles.specs.Counts.{begun, doneOf}
+use Rattle.processor.specs.Answers.{machineOf, ranTo, runAnswer}
 use Rattle.processor.specs.declared.Ran.{Ran}
 use Rattle.processor.specs.declared.Ran.the-variants.{Spent, Stopped}
 use Rattle.pack_layout.specs.Listing.{Listing}

@@ -9,7 +9,8 @@ use Rattle.cell.specs.Refusals.{refusalNumber, after, judgeMachine}
 use Rattle.cell.specs.declared.Judged.{Judged}
 use Rattle.cell.specs.declared.Judged.the-variants as judged
 use Rattle.machine.specs.declared.Machine.{Machine}
-use Rattle.processor.specs.Answers.{machineOf, begun}
+use Rattle.cycles.specs.Counts.{begun}
+use Rattle.processor.specs.Answers.{machineOf}
 use Rattle.pack_layout.specs.Listing.{Listing, listed, judgedArrays}
 use Rattle.pack_layout.specs.Packing.{imageCells, judgedPlace}
 use Rattle.list_machine.specs.Outsides.{outsideNumber}

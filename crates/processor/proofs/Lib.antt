@@ -1,4 +1,2 @@
 -- Laws that belong to no one function.
-pub mod CycleLaws
-pub mod RunLaws
 pub mod EntryLaws

@@ -1,8 +1,6 @@
 -- What the three entry points leave and answer.
-use mathlib.Core.Bool.{Bool, true, false}
 use mathlib.Core.List.{List}
-use Prim.Native.Nat.{ℕ, zero, suc}
-use lib.Dec.{eqb}
+use Prim.Native.Nat.{ℕ}
 use lib.ListN.{length}
 use Rattle.cell.specs.Place.{faultCode}
 use Rattle.cell.specs.Refusals.{judgeMachine, refusalNumber}
@@ -10,12 +8,14 @@ use Rattle.cell.specs.declared.Fault.{Fault}
 use Rattle.cell.specs.declared.Fault.the-variants.{Range, Alignment, Divisor, Illegal, Library}
 use Rattle.cell.specs.declared.Judged.{Judged}
 use Rattle.cell.specs.declared.Judged.the-variants as judged
-use Rattle.machine.specs.Throws.{CycleState, cycleState}
+use Rattle.machine.specs.Throws.{CycleState}
 use Rattle.machine.specs.declared.Machine.{Machine}
 use Rattle.machine.specs.declared.Registers.{Registers}
 use Rattle.machine.specs.declared.Ended.{Ended}
 use Rattle.machine.specs.declared.Ended.the-variants.{Went, Threw, Stopped}
-use Rattle.processor.specs.Cycles.{cycleOf, advance, cyclesOf, startOf}
+use Rattle.cycles.specs.Cycles.{cycleOf, cyclesOf}
+use Rattle.cycles.specs.Counts.{begun, doneOf}
+use Rattle.processor.specs.Starting.{startOf}
 use Rattle.processor.specs.declared.Started.{Started}
 use Rattle.processor.specs.declared.Started.the-variants as started
 use Rattle.processor.specs.declared.Cycled.{Cycled}
@@ -145,27 +145,6 @@ cycleIf judged.Passed order m r =
 unfoldable pub cycleAnswer : ℕ → List ℕ → Registers → CycleAnswer
 cycleAnswer order m r = cycleIf (judgeMachine (length m) order) order m r
 
-abbrev pub isStop : Ended → Bool
-isStop Went = false
-isStop (Threw f) = false
-isStop (Stopped x) = true
-
--- a cycle that ends a run with so much of its budget left: a stop, or a throw in the last one
-abbrev pub isLast : Ended → ℕ → Bool
-isLast Went n = false
-isLast (Threw f) n = eqb n 0
-isLast (Stopped x) n = true
-
--- run: the cycles done within a budget, the stopping one counted
-abbrev pub counted : Ended → ℕ → ℕ
-counted Went n = suc n
-counted (Threw f) n = suc n
-counted (Stopped x) n = 1
-
-unfoldable pub doneOf : Machine → ℕ → CycleState → ℕ
-doneOf machine zero s = 0
-doneOf machine (suc b) s = counted (advance machine s .result .ended) (doneOf machine b (advance machine s))
-
 -- run: the number (0 spent, 1 stopped, or the refusal's), the reason of a stop, the registers (those given on a refusal), and the cycles: none on a
 -- refusal, the budget where it is spent, those done where it stopped. Document 01, The processor, on run: the budget is spent exactly if so many
 -- cycles passed without a stop
@@ -217,9 +196,6 @@ ranAs r n (Stopped x) = ran.Stopped r x n
 -- n cycles were done, and left t
 abbrev pub runFor : Registers → ℕ → ℕ → CycleState → RunAnswer
 runFor given budget n t = ranTo given budget (t .memory) (ranAs (t .result .registers) n (t .result .ended))
-
-abbrev pub begun : List ℕ → Registers → CycleState
-begun m r = cycleState m r Went
 
 abbrev pub runIf : Judged → ℕ → List ℕ → Registers → ℕ → RunAnswer
 runIf (judged.Refused n) order m r budget = ranTo r budget m (ran.Refused n)

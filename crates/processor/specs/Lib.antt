@@ -1,3 +1,3 @@
 -- What crate `processor` means.
-pub mod Cycles
+pub mod Starting
 pub mod Answers

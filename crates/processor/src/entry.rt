@@ -4,17 +4,17 @@ ghost use Prim.Native.Nat.{_≤_, _-_};
 ghost use lib.ListN.{length};
 ghost use Rattle.machine.specs.Places as places;
 ghost use Rattle.machine.specs.Throws as throws;
-ghost use Rattle.processor.specs.Cycles as cycles;
+ghost use Rattle.processor.specs.Starting as starting;
 ghost use Rattle.processor.specs.Answers as answers;
 use crate::Cycled;
 use crate::Ran;
 use crate::Started;
-use crate::cycling::Progress;
-use crate::cycling::run_cycles;
 use cell::Address;
 use cell::Judged;
 use cell::judgement::judge_machine;
 use cell::memory::store;
+use cycles::running::Progress;
+use cycles::running::run_cycles;
 use machine::CycleResult;
 use machine::Ended;
 use machine::Machine;
@@ -30,7 +30,7 @@ fn begin(machine: Machine, memory: &mut [u8], ep: Address, handler: Address) -> 
     requires { ⌜ places.Whole (now memory) ⌝ }
     requires { ⌜ 1024 ≤ length (now memory) ⌝ }
     requires { ⌜ length (now memory) ≤ 16777216 ⌝ }
-    ensures { λ t. ⌜ throws.withResult (now (memory .exit)) t ≡ cycles.startOf machine (now (memory .entry)) (ep .0) (handler .0) ⌝ }
+    ensures { λ t. ⌜ throws.withResult (now (memory .exit)) t ≡ starting.startOf machine (now (memory .entry)) (ep .0) (handler .0) ⌝ }
 {
     let length = memory.len() as u32;
     store(machine.order, memory, HANDLER_CELL, handler.0);

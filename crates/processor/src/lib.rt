@@ -1,5 +1,4 @@
 // The processor: start, cycle and run.
-pub mod cycling;
 pub mod entry;
 
 use cell::Fault;

@@ -12,7 +12,7 @@ use Rattle.instruction.specs.Plain.{plainAt}
 use Rattle.instruction.specs.Taking.{takingAt}
 use Rattle.instruction.specs.declared.Instruction.{Instruction}
 use Rattle.instruction.specs.Dispatch.{OperandClass, next, plain, taking, operandClass, executed, executeOf, decodeOf}
-use Rattle.processor.specs.Cycles.{shifted, cycleOf, advanced, advance, cyclesOf}
+use Rattle.cycles.specs.Cycles.{shifted, cycleOf, advanced, advance, cyclesOf}
 use Rattle.processor_laws.proofs.LengthLaws.{commit-length, finish-length}
 
 module _ (machine : Machine) where

@@ -2,7 +2,7 @@
 use borrow.Author.Needs.{needs}
 use Rattle.processor.proofs.entry.begin.Statement.{statement}
 use Rattle.processor.proofs.entry.begin.Tie as tie
-use Rattle.processor.specs.Cycles as cycles
+use Rattle.processor.specs.Starting as starting
 
 cast-length : tie.Need-cast-length
 cast-length c = search needs
@@ -29,7 +29,7 @@ same-length : tie.Need-same-length
 same-length c = search needs
 
 returns : tie.Need-returns
-unfolding cycles.startOf
+unfolding starting.startOf
 returns c =
     rw (←
     c .before .before .before .before .before .before .before .before .before .before .before .before .before .before .before .before .before .before .store .ensures)

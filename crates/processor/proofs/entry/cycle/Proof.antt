@@ -2,7 +2,7 @@
 use borrow.Author.Needs.{needs}
 use Rattle.processor.proofs.entry.cycle.Statement.{statement}
 use Rattle.processor.proofs.entry.cycle.Tie as tie
-use Rattle.processor.proofs.RunLaws.{one-cycle}
+use Rattle.cycles.proofs.RunLaws.{one-cycle}
 use Rattle.processor.proofs.EntryLaws.{passed}
 use Rattle.processor.specs.Answers as answers
 use denote.Ref.{now}

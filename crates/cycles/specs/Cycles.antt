@@ -1,10 +1,8 @@
 -- A cycle, and any number of them.
 use mathlib.Core.List.{List}
-use Prim.Native.Nat.{ℕ, zero, suc, _-_, _%_}
-use lib.ListN.{length}
-use Rattle.cell.specs.Memory.{storeCell}
+use Prim.Native.Nat.{ℕ, zero, suc, _%_}
 use Rattle.cell.specs.Shift.{asr8}
-use Rattle.machine.specs.Throws.{CycleState, finishOf, nextOf, handlerCell, memoryCell, badCell, addressCell}
+use Rattle.machine.specs.Throws.{CycleState, finishOf}
 use Rattle.machine.specs.declared.Machine.{Machine}
 use Rattle.machine.specs.declared.Registers.{Registers}
 use Rattle.machine.specs.declared.Ended.{Ended}
@@ -31,17 +29,3 @@ advance machine s = advanced machine s (s .result .ended)
 unfoldable pub cyclesOf : Machine → ℕ → CycleState → CycleState
 cyclesOf machine zero s = s
 cyclesOf machine (suc n) s = cyclesOf machine n (advance machine s)
-
--- a start sets 'THROW to the handler, MEMORY to the length, and 'BAD and -ADDRESS to FFFFFFFFh
-abbrev pub fourCells : Machine → List ℕ → ℕ → List ℕ
-fourCells machine m handler =
-    storeCell (machine .order)
-    (storeCell (machine .order) (storeCell (machine .order) (storeCell (machine .order) m handlerCell handler) memoryCell (length m)) badCell
-    0xFFFFFFFF)
-    addressCell
-    0xFFFFFFFF
-
--- the return stack begins at the end of memory, the data stack 100h below it, and NEXT fetches the first cell
-unfoldable pub startOf : Machine → List ℕ → ℕ → ℕ → CycleState
-startOf machine m ep handler =
-    nextOf machine (fourCells machine m handler) (record { ep = ep; a = 0; sp = length m - 0x100; rp = length m })

@@ -14,10 +14,10 @@ use Rattle.machine.specs.declared.Step.{Step}
 use Rattle.machine.specs.declared.Outcome.the-variants as outcome
 use Rattle.machine.specs.declared.Ended.{Ended}
 use Rattle.machine.specs.declared.Ended.the-variants.{Went, Threw, Stopped}
-use Rattle.processor.specs.Cycles.{cycleOf, advance, cyclesOf}
-use Rattle.processor.specs.Answers.{isStop, isLast, counted, doneOf, begun}
+use Rattle.cycles.specs.Cycles.{cycleOf, advance, cyclesOf}
+use Rattle.cycles.specs.Counts.{isStop, isLast, counted, doneOf, begun}
 use Rattle.machine.specs.declared.Registers.{Registers}
-use Rattle.processor.proofs.CycleLaws.{cycles-suc, goes}
+use Rattle.cycles.proofs.CycleLaws.{cycles-suc, goes}
 
 pub record Running (machine : Machine) (m0 : List ℕ) (t0 : CycleResult) (budget : ℕ) (m : List ℕ) (t : CycleResult) (left : ℕ) : Type 0 where
   pub within : left ≤ budget

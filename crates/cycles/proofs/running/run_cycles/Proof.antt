@@ -1,11 +1,11 @@
 -- `run_cycles` meets its contract. The invariant is `Looping`; the measure is the budget left.
 use borrow.Author.Needs.{needs}
-use Rattle.processor.proofs.cycling.run_cycles.Statement.{statement}
-use Rattle.processor.proofs.cycling.run_cycles.Tie as tie
+use Rattle.cycles.proofs.running.run_cycles.Statement.{statement}
+use Rattle.cycles.proofs.running.run_cycles.Tie as tie
 use native.Mathlib.Omega.{arith}
 use mathlib.Core.Path.{_∙_, sym, refl}
 use mathlib.Core.Logic.{⊎-elim}
-use Rattle.processor.proofs.RunLaws.{Looping, loop-begins, stops-at, loops-at, ends-at, went}
+use Rattle.cycles.proofs.RunLaws.{Looping, loop-begins, stops-at, loops-at, ends-at, went}
 use denote.Ref.{now}
 
 abbrev Inv-loop : tie.InvT-loop

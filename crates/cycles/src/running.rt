@@ -5,8 +5,8 @@ ghost use lib.ListN.{length};
 ghost use Rattle.machine.specs.Commits as commits;
 ghost use Rattle.machine.specs.Places as places;
 ghost use Rattle.machine.specs.Throws as throws;
-ghost use Rattle.processor.specs.Cycles as cycles;
-ghost use Rattle.processor.specs.Answers as answers;
+ghost use Rattle.cycles.specs.Cycles as cycles;
+ghost use Rattle.cycles.specs.Counts as counts;
 use cell::Address;
 use cell::Fetched;
 use cell::number::add;
@@ -80,7 +80,7 @@ fn execute(machine: Machine, memory: &mut [u8], r: Registers) -> Step
 
 // Whether a run ends with this cycle: it stopped, or it threw and the budget is spent.
 fn is_last(ended: Ended, left: u32) -> bool
-    ensures { λ t. ⌜ t ≡ answers.isLast ended left ⌝ }
+    ensures { λ t. ⌜ t ≡ counts.isLast ended left ⌝ }
 {
     match ended {
         Ended::Went => false,
@@ -94,8 +94,8 @@ fn is_last(ended: Ended, left: u32) -> bool
 pub fn run_cycles(machine: Machine, memory: &mut [u8], r: Registers, budget: u32) -> Progress
     requires { ⌜ places.Whole (now memory) ⌝ }
     requires { ⌜ 16 ≤ length (now memory) ⌝ }
-    ensures { λ t. ⌜ t .left + answers.doneOf machine budget (answers.begun (now (memory .entry)) r) ≡ budget ⌝ }
-    ensures { λ t. ⌜ throws.withResult (now (memory .exit)) (t .result) ≡ cycles.cyclesOf machine (answers.doneOf machine budget (answers.begun (now (memory .entry)) r)) (answers.begun (now (memory .entry)) r) ⌝ }
+    ensures { λ t. ⌜ t .left + counts.doneOf machine budget (counts.begun (now (memory .entry)) r) ≡ budget ⌝ }
+    ensures { λ t. ⌜ throws.withResult (now (memory .exit)) (t .result) ≡ cycles.cyclesOf machine (counts.doneOf machine budget (counts.begun (now (memory .entry)) r)) (counts.begun (now (memory .entry)) r) ⌝ }
 {
     let mut registers = r;
     let mut left = budget;

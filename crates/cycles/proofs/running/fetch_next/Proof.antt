@@ -1,7 +1,7 @@
 -- `fetch_next` meets its contract: where the instruction asks for NEXT, by the fetch at EP.
 use borrow.Author.Needs.{needs}
-use Rattle.processor.proofs.cycling.fetch_next.Statement.{statement}
-use Rattle.processor.proofs.cycling.fetch_next.Tie as tie
+use Rattle.cycles.proofs.running.fetch_next.Statement.{statement}
+use Rattle.cycles.proofs.running.fetch_next.Tie as tie
 use Rattle.machine.specs.Throws as throws
 use mathlib.Core.Path.{sym, _∙_}
 

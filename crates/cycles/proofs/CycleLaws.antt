@@ -7,8 +7,8 @@ use Rattle.machine.specs.Throws.{CycleState}
 use Rattle.machine.specs.declared.Machine.{Machine}
 use Rattle.machine.specs.declared.Ended.{Ended}
 use Rattle.machine.specs.declared.Ended.the-variants.{Went, Threw, Stopped}
-use Rattle.processor.specs.Cycles.{cycleOf, advanced, advance, cyclesOf}
-use Rattle.processor.specs.Answers.{isStop}
+use Rattle.cycles.specs.Cycles.{cycleOf, advanced, advance, cyclesOf}
+use Rattle.cycles.specs.Counts.{isStop}
 
 module _ (machine : Machine) where
   -- one cycle more, at the end

@@ -1,7 +1,7 @@
 -- `is_last` meets its contract, by how the cycle ended.
 use borrow.Author.Needs.{needs}
-use Rattle.processor.proofs.cycling.is_last.Statement.{statement}
-use Rattle.processor.proofs.cycling.is_last.Tie as tie
+use Rattle.cycles.proofs.running.is_last.Statement.{statement}
+use Rattle.cycles.proofs.running.is_last.Tie as tie
 
 enum-told : tie.Need-enum-told
 enum-told c = search needs

@@ -1,8 +1,8 @@
 -- `execute` meets its contract: the shift, the instruction, and NEXT's fetch.
 use borrow.Author.Needs.{needs}
-use Rattle.processor.proofs.cycling.execute.Statement.{statement}
-use Rattle.processor.proofs.cycling.execute.Tie as tie
-use Rattle.processor.specs.Cycles as cycles
+use Rattle.cycles.proofs.running.execute.Statement.{statement}
+use Rattle.cycles.proofs.running.execute.Tie as tie
+use Rattle.cycles.specs.Cycles as cycles
 use Rattle.machine.specs.Throws as throws
 use mathlib.Core.Path.{_∙_, ap}
 

@@ -1,0 +1,3 @@
+-- What crate `cycles` means.
+pub mod Cycles
+pub mod Counts

@@ -1,0 +1,2 @@
+// Cycles of the processor, one after the other.
+pub mod running;

@@ -1,0 +1,21 @@
+-- A start.
+use mathlib.Core.List.{List}
+use Prim.Native.Nat.{ℕ, _-_}
+use lib.ListN.{length}
+use Rattle.cell.specs.Memory.{storeCell}
+use Rattle.machine.specs.Throws.{CycleState, nextOf, handlerCell, memoryCell, badCell, addressCell}
+use Rattle.machine.specs.declared.Machine.{Machine}
+
+-- a start sets 'THROW to the handler, MEMORY to the length, and 'BAD and -ADDRESS to FFFFFFFFh
+abbrev pub fourCells : Machine → List ℕ → ℕ → List ℕ
+fourCells machine m handler =
+    storeCell (machine .order)
+    (storeCell (machine .order) (storeCell (machine .order) (storeCell (machine .order) m handlerCell handler) memoryCell (length m)) badCell
+    0xFFFFFFFF)
+    addressCell
+    0xFFFFFFFF
+
+-- the return stack begins at the end of memory, the data stack 100h below it, and NEXT fetches the first cell
+unfoldable pub startOf : Machine → List ℕ → ℕ → ℕ → CycleState
+startOf machine m ep handler =
+    nextOf machine (fourCells machine m handler) (record { ep = ep; a = 0; sp = length m - 0x100; rp = length m })
