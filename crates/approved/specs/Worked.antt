@@ -4,7 +4,7 @@ use mathlib.Core.List.{List, [], _∷_}
 use Prim.Native.Nat.{ℕ, _*_}
 use lib.ListN.{replicate, take}
 use lib.Seq.{sets}
-use Rattle.processor.specs.Answers.{StartAnswer, startAnswer, RunAnswer, runAnswer}
+use Rattle.processor.specs.Answers.{StartAnswer, startAnswer, RunAnswer, givenOf, runAnswer}
 use Rattle.packer.specs.Pack.{PackResult, packOf}
 use Rattle.module.specs.Answers.{SaveResult, saveOf, LoadResult, loadOf}
 use Rattle.module.specs.Theorems.{savedFile}
@@ -30,7 +30,7 @@ abbrev pub ready : ℕ → ℕ → StartAnswer
 ready theirs ours = startAnswer ours (loaded theirs ours .memory) 0x10 0
 
 abbrev pub ran : ℕ → ℕ → RunAnswer
-ran theirs ours = runAnswer ours (ready theirs ours .memory) (ready theirs ours .registers) 100
+ran theirs ours = runAnswer (givenOf ours (ready theirs ours .memory) (ready theirs ours .registers) 100)
 
 -- packed to three cells, saved, loaded and started, each with the number 0; stopped, with reason 5, in the fourth cycle
 abbrev pub seen : ℕ → ℕ → List ℕ

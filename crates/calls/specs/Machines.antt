@@ -7,7 +7,7 @@ use Rattle.cell.specs.Refusals.{judgeMachine, refusalNumber}
 use Rattle.cell.specs.declared.Judged.{Judged}
 use Rattle.cell.specs.declared.Judged.the-variants as judged
 use Rattle.machine.specs.declared.Registers.{Registers}
-use Rattle.processor.specs.Answers.{startNumber, startReason, startRegisters, startAnswer, cycleNumber, cycleReason, cycleRegisters, cycleAnswer, runNumber, runReason, runRegisters, runCount, runAnswer}
+use Rattle.processor.specs.Answers.{startNumber, startReason, startRegisters, startAnswer, cycleNumber, cycleReason, cycleRegisters, cycleAnswer, runNumber, runReason, runRegisters, runCount, Given, runAnswer}
 use Rattle.processor.specs.declared.Started.{Started}
 use Rattle.processor.specs.declared.Started.the-variants as started
 use Rattle.processor.specs.declared.Cycled.{Cycled}
@@ -87,12 +87,16 @@ unfoldable pub cycleCall : ℕ → List ℕ → List ℕ → List ℕ → Called
 cycleCall order m registers out =
     cycleIf (judgeCall (length m) order (length registers) (length out) 1) order m registers out
 
-abbrev pub runIf : Judged → ℕ → List ℕ → List ℕ → ℕ → List ℕ → Called
-runIf (judged.Refused n) order m registers budget out = called m registers out (refusalNumber n)
-runIf judged.Passed order m registers budget out =
-    let s = runAnswer order m (registersOf registers) budget in
-    record { memory = s .memory; told = runTold registers out budget (s .answer) }
+-- what a run is given, once its registers are read from the lent array
+abbrev pub asRead : Given (List ℕ) → Given Registers
+asRead g = record { setting = g .setting; memory = g .memory; registers = registersOf (g .registers); budget = g .budget }
 
-unfoldable pub runCall : ℕ → List ℕ → List ℕ → ℕ → List ℕ → Called
-runCall order m registers budget out =
-    runIf (judgeCall (length m) order (length registers) (length out) 2) order m registers budget out
+abbrev pub runIf : Judged → Given (List ℕ) → List ℕ → Called
+runIf (judged.Refused n) g out = called (g .memory) (g .registers) out (refusalNumber n)
+runIf judged.Passed g out =
+    let s = runAnswer (asRead g) in
+    record { memory = s .memory; told = runTold (g .registers) out (g .budget) (s .answer) }
+
+unfoldable pub runCall : Given (List ℕ) → List ℕ → Called
+runCall g out =
+    runIf (judgeCall (length (g .memory)) (g .setting .order) (length (g .registers)) (length out) 2) g out

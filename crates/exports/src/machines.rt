@@ -1,6 +1,7 @@
 // The processor's calls. Each judges first, and writes nothing that was lent where it refuses.
 ghost use mathlib.Core.Path.{_≡_};
 ghost use Rattle.calls.specs.Machines as machines;
+ghost use Rattle.processor.specs.Answers as answers;
 use calls::lending::read_registers;
 use calls::machines::judge_call;
 use calls::machines::tell_cycled;
@@ -59,7 +60,7 @@ pub extern "C" fn beetle_run(
     budget: u32,
     out: &mut [u32],
 ) -> u32
-    ensures { λ n. ⌜ machines.called (now (memory .exit)) (now (registers .exit)) (now (out .exit)) n ≡ machines.runCall order (now (memory .entry)) (now (registers .entry)) budget (now (out .entry)) ⌝ }
+    ensures { λ n. ⌜ machines.called (now (memory .exit)) (now (registers .exit)) (now (out .exit)) n ≡ machines.runCall (answers.givenOf order (now (memory .entry)) (now (registers .entry)) budget) (now (out .entry)) ⌝ }
 {
     match judge_call(memory.len(), order, registers.len(), out.len(), 2) {
         Judged::Refused(n) => refusal_number(n),

@@ -23,7 +23,7 @@ use Rattle.machine.specs.declared.Ended.{Ended}
 use Rattle.machine.specs.declared.Ended.the-variants as ended
 use Rattle.cycles.specs.Cycles.{cyclesOf}
 use Rattle.cycles.specs.Counts.{begun, doneOf}
-use Rattle.processor.specs.Answers.{machineOf, ranTo, runAnswer}
+use Rattle.processor.specs.Answers.{machineOf, ranTo, givenOf, runAnswer}
 use Rattle.processor.specs.declared.Ran.{Ran}
 use Rattle.processor.specs.declared.Ran.the-variants.{Spent, Stopped}
 use Rattle.pack_layout.specs.Listing.{Listing}
@@ -87,7 +87,7 @@ ranWith (stoppedWith x) r n = Stopped r x n
 pub record RunAgrees (order base : ℕ) (m : List ℕ) (sp rp : ℕ) (r : Run) : Type 0 where
   pub registers : Registers
   pub answer :
-      runAnswer order m (firstRegisters (machineOf order) base m sp rp) (r .cycles)
+      runAnswer (givenOf order m (firstRegisters (machineOf order) base m sp rp) (r .cycles))
       ≡ ranTo (firstRegisters (machineOf order) base m sp rp) (r .cycles) (r .position .memory)
       (ranWith (stopIn (r .course)) registers (r .cycles))
   pub sp-is : registers .sp ≡ r .position .sp

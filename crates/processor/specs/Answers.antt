@@ -197,11 +197,35 @@ ranAs r n (Stopped x) = ran.Stopped r x n
 abbrev pub runFor : Registers → ℕ → ℕ → CycleState → RunAnswer
 runFor given budget n t = ranTo given budget (t .memory) (ranAs (t .result .registers) n (t .result .ended))
 
-abbrev pub runIf : Judged → ℕ → List ℕ → Registers → ℕ → RunAnswer
-runIf (judged.Refused n) order m r budget = ranTo r budget m (ran.Refused n)
-runIf judged.Passed order m r budget =
-    let n = doneOf (machineOf order) budget (begun m r) in
-    runFor r budget n (cyclesOf (machineOf order) n (begun m r))
+-- what holds through a whole run, whatever its cycles do: the machine's byte order
+pub record Setting : Type 0 where
+  pub order : ℕ
 
-unfoldable pub runAnswer : ℕ → List ℕ → Registers → ℕ → RunAnswer
-runAnswer order m r budget = runIf (judgeMachine (length m) order) order m r budget
+-- all that a run is given: the setting, memory, registers and budget. R is the form in which the registers come: as read, or in a lent array. What is
+-- claimed over this record is claimed of whatever stands in the setting
+pub record Given (R : Type 0) : Type 0 where
+  pub setting : Setting
+  pub memory : List ℕ
+  pub registers : R
+  pub budget : ℕ
+
+abbrev pub givenOf : {R : Type 0} → ℕ → List ℕ → R → ℕ → Given R
+givenOf order m r budget = record { setting = record { order = order }; memory = m; registers = r; budget = budget }
+
+abbrev pub machineIn : Setting → Machine
+machineIn setting = machineOf (setting .order)
+
+-- what it is judged by: -4101 and -4102
+abbrev pub judgeRun : {R : Type 0} → Given R → Judged
+judgeRun g = judgeMachine (length (g .memory)) (g .setting .order)
+
+abbrev pub runIf : Judged → Given Registers → RunAnswer
+runIf (judged.Refused n) g = ranTo (g .registers) (g .budget) (g .memory) (ran.Refused n)
+runIf judged.Passed g =
+    let machine = machineIn (g .setting) in
+    let s = begun (g .memory) (g .registers) in
+    let n = doneOf machine (g .budget) s in
+    runFor (g .registers) (g .budget) n (cyclesOf machine n s)
+
+unfoldable pub runAnswer : Given Registers → RunAnswer
+runAnswer g = runIf (judgeRun g) g

@@ -111,7 +111,7 @@ fn ran_as(t: Progress, budget: u32) -> Ran
 }
 
 pub fn run(order: u8, memory: &mut [u8], r: Registers, budget: u32) -> Ran
-    ensures { λ a. ⌜ answers.ranTo r budget (now (memory .exit)) a ≡ answers.runAnswer order (now (memory .entry)) r budget ⌝ }
+    ensures { λ a. ⌜ answers.ranTo r budget (now (memory .exit)) a ≡ answers.runAnswer (answers.givenOf order (now (memory .entry)) r budget) ⌝ }
 {
     match judge_machine(memory.len(), order) {
         Judged::Refused(n) => Ran::Refused(n),

@@ -2,7 +2,7 @@
 use mathlib.Core.List.{List, [], _∷_, map}
 use Prim.Native.Nat.{ℕ, _+_}
 use Rattle.cell.specs.Memory.{storeCell}
-use Rattle.processor.specs.Answers.{StartAnswer, startAnswer, RunAnswer, runAnswer}
+use Rattle.processor.specs.Answers.{StartAnswer, startAnswer, RunAnswer, givenOf, runAnswer}
 use Rattle.pack_layout.specs.Worked as packed
 use Rattle.worked.specs.Rows.{Row, numbers, lists}
 use Rattle.worked.specs.Processor.{blank}
@@ -27,7 +27,7 @@ ready order = startAnswer order (laid order blank 0x10 (firstImage packed.worked
 
 -- and run: reason 5, four cycles
 abbrev pub ranFirst : ℕ → RunAnswer
-ranFirst order = runAnswer order (ready order .memory) (ready order .registers) 100
+ranFirst order = runAnswer (givenOf order (ready order .memory) (ready order .registers) 100)
 
 abbrev pub runRows : ℕ → List Row
 runRows order =
