@@ -6,7 +6,6 @@ pub mod Meets
 pub mod Throwing
 pub mod Carrying
 pub mod Agreement
-pub mod Counting
 pub mod Within
 pub mod Lengths
 pub mod Cutting

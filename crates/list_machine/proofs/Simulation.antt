@@ -29,7 +29,7 @@ use Rattle.list_machine.specs.Demand3.{Holds, firstRegisters, Agree, Dem
 use Rattle.list_machine.proofs.Image.{atItem, next-enters}
 use Rattle.list_machine.proofs.Meets.{Meets, GoesOn, Stops, Sound, standing, registersFor}
 use Rattle.list_machine.proofs.Agreement.{item-meets}
-use Rattle.list_machine.proofs.Counting.{one-done, two-done, done-cut}
+use Rattle.processor_laws.proofs.DoneLaws.{one-done, two-done, done-cut}
 
 stands-sp : (b : Bool) (base : ℕ) (l : Listing) (p : Position) → standing b base l p .sp ≡ p .sp
 stands-sp true base l p = refl

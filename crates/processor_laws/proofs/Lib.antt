@@ -1,4 +1,4 @@
--- Laws of iterated cycles: memory keeps its length (CycleLength), a sound machine stays sound (CycleSound).
+-- Laws of iterated cycles: memory keeps its length (CycleLength), a sound machine stays sound (CycleSound), and a budget can be cut (BudgetLaws).
 pub mod LengthLaws
 pub mod CycleLength
 pub mod NumberBounds
@@ -7,3 +7,5 @@ pub mod PlainBounds
 pub mod TakingBounds
 pub mod SoundLaws
 pub mod CycleSound
+pub mod DoneLaws
+pub mod BudgetLaws

@@ -29,11 +29,26 @@ ready order = startAnswer order (laid order blank 0x10 (firstImage packed.worked
 abbrev pub ranFirst : ℕ → RunAnswer
 ranFirst order = runAnswer (givenOf order (ready order .memory) (ready order .registers) 100)
 
+-- the same run cut after three cycles: spent, and carried on it stops in the first. Document 02, (m)
+abbrev pub cutFirst : ℕ → RunAnswer
+cutFirst order = runAnswer (givenOf order (ready order .memory) (ready order .registers) 3)
+
+abbrev pub cutThen : ℕ → RunAnswer
+cutThen order = runAnswer (givenOf order (cutFirst order .memory) (cutFirst order .registers) 97)
+
 abbrev pub runRows : ℕ → List Row
 runRows order =
     (numbers (ready order .number) 0
     ∷ numbers (ranFirst order .number) 1
     ∷ numbers (ranFirst order .reason) 5
     ∷ numbers (ranFirst order .count) 4
+    ∷ [])
+    ∷ (numbers (cutFirst order .number) 0
+    ∷ numbers (cutFirst order .reason) 0
+    ∷ numbers (cutFirst order .count) 3
+    ∷ numbers (cutThen order .number) 1
+    ∷ numbers (cutThen order .reason) 5
+    ∷ numbers (cutThen order .count) 1
+    ∷ lists (cutThen order .memory) (ranFirst order .memory)
     ∷ [])
     ∷ []
