@@ -1,15 +1,17 @@
 -- Room in lent arrays.
 use mathlib.Core.Path.{_≡_}
-use mathlib.Core.List.{[], _∷_}
+use mathlib.Core.List.{List, [], _∷_}
 use Prim.Native.Nat.{ℕ, _≤_}
 use borrow.Author.Tests.{ltb-false}
+use native.Mathlib.Omega.{arith}
 use lib.Dec.{ltb}
+use lib.ListN.{length, length-append, length-drop}
 use Rattle.cell.specs.Refusals.{judge, judgeMachine}
 use Rattle.cell.specs.declared.Refusal.the-variants.{ShortOutput}
 use Rattle.cell.specs.declared.Judged.{Judged}
 use Rattle.cell.specs.declared.Judged.the-variants.{Passed}
 use Rattle.cell.proofs.JudgementLaws.{both-pass, one-clear}
-use Rattle.calls.specs.Lending.{shortArray, withRoom}
+use Rattle.calls.specs.Lending.{written, shortArray, withRoom}
 use Rattle.calls.specs.Machines.{judgeCall}
 
 pub record Roomy (j : Judged) (size needed : ℕ) : Type 0 where
@@ -20,6 +22,15 @@ pub roomy : (j : Judged) (size needed : ℕ) → withRoom j size needed ≡ Pass
 roomy j size needed e =
     let p = both-pass j (judge (shortArray size needed ∷ [])) e in
     record { passed = p .0; room = ltb-false size needed (one-clear (ltb size needed) ShortOutput Passed (p .1) .0) }
+
+-- an array keeps its length where there is room for what is written
+pub written-length : (xs lent : List ℕ) → length xs ≤ length lent → length (written xs lent) ≡ length lent
+written-length xs lent h = simp (length-append, length-drop) (omega (arith, h))
+
+pub call-passed : (len order registers out needed : ℕ) → judgeCall len order registers out needed ≡ Passed → judgeMachine len order ≡ Passed
+unfolding judgeCall
+call-passed len order registers out needed e =
+    roomy (judgeMachine len order) registers 4 (roomy (withRoom (judgeMachine len order) registers 4) out needed e .passed) .passed
 
 pub call-roomy : (len order registers out needed : ℕ) → judgeCall len order registers out needed ≡ Passed
     → (4 ≤ registers) × (needed ≤ out)
