@@ -1,6 +1,7 @@
 /// A wrong implementation: the reference with one edit.
 pub struct Mutant {
-    /// The group of suites that finds it, or demand3: a packer and processor that break demand 3.
+    /// The group of suites that finds it; or demand3, budgets: what it breaks by itself, with no
+    /// second implementation to compare.
     pub group: &'static str,
     pub name: &'static str,
     pub file: &'static str,
@@ -134,6 +135,18 @@ pub const MUTANTS: &[Mutant] = &[
         "    (outcome, done)\n}", "    (outcome, if outcome == Outcome::WentOn { done } else { done - 1 })\n}"),
     mutant("processor", "run does one cycle too few", "processor.rs",
         "    let mut done = 0;\n", "    let budget = budget.saturating_sub(1);\n    let mut done = 0;\n"),
+    // Budgets: these break what is claimed of a cut or a larger budget
+    mutant("budgets", "one cycle is lost at each cut", "processor.rs",
+        "    let mut done = 0;\n", "    let budget = if budget > 1 { budget - 1 } else { budget };\n    let mut done = 0;\n"),
+    mutant("budgets", "a spent run counts nothing", "calls.rs",
+        "out[..2].copy_from_slice(&[reason, done]);", "out[..2].copy_from_slice(&[reason, if answer == 0 { 0 } else { done }]);"),
+    mutant("budgets", "a stop does not count the cycles before the last throw", "processor.rs",
+        "        let mut m = lent.again();\n", "        let budget = budget - done;\n        done = 0;\n        let mut m = lent.again();\n"),
+    mutant("budgets", "a larger budget runs past a stop", "processor.rs",
+        "while done < budget && outcome == Outcome::WentOn {", "while done < budget {"),
+    mutant("budgets", "a run that is spent leaves the registers it was given", "calls.rs",
+        "        write_registers(registers, &r);\n        let (answer, reason) = told(outcome);\n        out[..2]",
+        "        let (answer, reason) = told(outcome);\n        if answer == 1 {\n            write_registers(registers, &r);\n        }\n        out[..2]"),
     mutant("processor", "-4102 before -4101", "calls.rs",
         "    number((|| {\n        memory_length(memory)?;\n        let order = byte_order(order)?;\n        room(registers, 4)?;\n        room(out, 2)?;",
         "    number((|| {\n        let order = byte_order(order)?;\n        memory_length(memory)?;\n        room(registers, 4)?;\n        room(out, 2)?;"),

@@ -2,6 +2,7 @@
 
 use std::collections::BTreeMap;
 
+use crate::budgets::{self, Budgets};
 use crate::call::{agree, perform, Call, Implementation};
 use crate::cases::{listings, modules, processor, rules};
 use crate::cuts;
@@ -155,6 +156,23 @@ pub fn try_cuts(implementation: &Implementation, rules: u32) -> Result<u32, Diff
                     call: Box::new(call),
                 })
             }
+        }
+    }
+    Ok(tally)
+}
+
+/// Cuts and raises the budgets of runs; the error is the first that shows it.
+pub fn try_budgets(implementation: &Implementation, runs: u32) -> Result<Budgets, Difference> {
+    let mut random = Random::new(5);
+    let mut tally = Budgets::default();
+    for index in 0..runs {
+        let call = processor::run(&mut random, index);
+        if budgets::try_run(implementation, &mut random, &call, &mut tally).is_err() {
+            return Err(Difference {
+                name: "budgets",
+                index,
+                call: Box::new(call),
+            });
         }
     }
     Ok(tally)

@@ -1,5 +1,6 @@
 //! Tests beside the proofs: a second implementation, and its comparison with the library.
 
+pub mod budgets;
 pub mod call;
 pub mod cases;
 pub mod compare;

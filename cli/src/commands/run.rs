@@ -83,7 +83,8 @@ pub fn carry_out(words: &[String], out: &mut dyn Write) -> Result<u8, Failure> {
     tell(out, &ended, &state)
 }
 
-/// Runs in slices until a stop or the end of the budget.
+/// Runs in slices until a stop or the end of the budget. Slices do together what one run would have
+/// done (`CutCall`, crate `calls`), so a budget may be larger than the library takes at once.
 fn run_on(
     order: u8,
     memory: &mut [u8],

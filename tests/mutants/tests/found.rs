@@ -2,7 +2,8 @@
 //! the default number of cases, and the reference is not told from itself.
 
 use beetle_tests::call::{reference, Implementation};
-use beetle_tests::compare::{compare, explain, try_cuts, try_rules, Difference, RULES, SUITES};
+use beetle_tests::compare::{compare, explain, try_budgets, try_cuts, try_rules};
+use beetle_tests::compare::{Difference, RULES, SUITES};
 use beetle_tests::implementation;
 
 /// Its group, its name, and its calls.
@@ -12,8 +13,10 @@ include!(concat!(env!("OUT_DIR"), "/mutants.rs"));
 
 /// What tells the mutant from the reference, if anything does.
 fn found(group: &str, mutant: &Implementation) -> Option<Difference> {
-    if group == "demand3" {
-        return try_rules(mutant, RULES).err();
+    match group {
+        "demand3" => return try_rules(mutant, RULES).err(),
+        "budgets" => return try_budgets(mutant, RULES).err(),
+        _ => {}
     }
     let suites = || SUITES.iter().filter(|suite| suite.group == group);
     // The start of each suite first, as most are found there.
@@ -59,6 +62,20 @@ fn the_reference_agrees_with_itself() {
 fn runs_of_the_reference_can_be_cut() {
     let cut = try_cuts(&reference(), RULES / 4).ok().expect("a cut run");
     assert!(cut > RULES / 16);
+}
+
+#[test]
+fn budgets_of_the_reference_can_be_cut_and_raised() {
+    let runs = try_budgets(&reference(), RULES / 4).ok().expect("budgets");
+    println!("{runs:?}");
+    for kind in [
+        runs.spent_twice,
+        runs.stopped_later,
+        runs.stopped_at_once,
+        runs.refused,
+    ] {
+        assert!(kind > RULES / 400);
+    }
 }
 
 #[test]

@@ -4,7 +4,9 @@ use std::process::ExitCode;
 use std::time::Instant;
 
 use beetle_tests::call::{library, reference, Implementation};
-use beetle_tests::compare::{compare, explain, explain_rule, raised, try_cuts, try_rules};
+use beetle_tests::compare::{
+    compare, explain, explain_rule, raised, try_budgets, try_cuts, try_rules,
+};
 use beetle_tests::compare::{RULES, SUITES};
 use beetle_tests::shrink::call_text;
 
@@ -33,10 +35,19 @@ fn cuts(name: &str, implementation: &Implementation) -> bool {
     report(&format!("cuts, {name}"), since, result)
 }
 
+/// Budgets cut in two and raised.
+fn budgets(name: &str, implementation: &Implementation) -> bool {
+    let since = Instant::now();
+    let result = try_budgets(implementation, raised(RULES));
+    let result = result.map_err(|difference| call_text(&difference.call));
+    report(&format!("budgets, {name}"), since, result)
+}
+
 fn main() -> ExitCode {
     let (reference, library) = (reference(), library());
     let mut good = demand_3("reference", &reference);
     good &= cuts("reference", &reference);
+    good &= budgets("reference", &reference);
     for suite in &SUITES {
         let since = Instant::now();
         let result = compare(suite, &reference, &library, raised(suite.cases));
@@ -45,6 +56,7 @@ fn main() -> ExitCode {
     }
     good &= demand_3("library", &library);
     good &= cuts("library", &library);
+    good &= budgets("library", &library);
     if good {
         ExitCode::SUCCESS
     } else {

@@ -124,7 +124,7 @@ pub fn start(random: &mut Random, _: u32) -> Call {
 }
 
 /// A budget, seldom a long one.
-fn budget(random: &mut Random) -> u32 {
+pub fn budget(random: &mut Random) -> u32 {
     match random.below(12) {
         0 => 0,
         1 => 1,
@@ -185,7 +185,7 @@ fn run_of_rule(random: &mut Random) -> Call {
 }
 
 /// Where the run stops, a budget about the cycles it takes, or a very large one.
-fn close_budget(random: &mut Random, call: &mut Call) {
+pub fn close_budget(random: &mut Random, call: &mut Call) {
     let mut run = call.clone();
     run.numbers[0] = 20_000;
     let returned = perform(&reference(), &run);
