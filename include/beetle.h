@@ -66,7 +66,10 @@ int32_t beetle_cycle(
     uint32_t *registers, size_t registers_length,
     uint32_t *out, size_t out_length);
 
-/* Cycles until a stop, at most `budget` of them. out: [reason, or 0; cycles done]. */
+/* Cycles until a stop, at most `budget` of them. out: [reason, or 0; cycles done]. A spent run (the
+ * answer is 0) goes on if it is called again with the arrays as it left them: runs of b and of c
+ * cycles do what one of b + c would have done, their cycles added. A run that stops does and answers
+ * the same under every larger budget. */
 int32_t beetle_run(
     uint8_t order,
     uint8_t *memory, size_t memory_length,
