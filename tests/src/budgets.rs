@@ -21,19 +21,47 @@ fn with_budget(run: &Call, budget: u32) -> Call {
     run
 }
 
-/// What a spent run left, carried on for some cycles more, often about as many as it takes to a stop.
-fn carried_on(random: &mut Random, first: &Returned) -> Call {
-    let most = u32::MAX - first.lent.numbers[0];
-    let mut call = with_budget(&first.lent, budget(random));
+/// The most cycles to run where it is not known that the run stops.
+const MOST: u32 = 40_000;
+
+/// How many cycles to carry a spent run on for, often about as many as it takes to a stop.
+fn cycles_more(random: &mut Random, left: &Call) -> u32 {
+    let mut call = with_budget(left, budget(random));
     if random.one_in(2) {
         close_budget(random, &mut call);
     }
-    call.numbers[0] = call.numbers[0].min(most);
-    call
+    call.numbers[0].min(MOST)
 }
 
-/// What differs between two returns of the same run, the budgets aside.
-fn difference(one: &Returned, other: &Returned) -> Result<(), String> {
+/// A spent run carried on for so many cycles, against the run of both budgets; the second part.
+fn carry_on(
+    implementation: &Implementation,
+    run: &Call,
+    first: &Returned,
+    more: u32,
+) -> Result<Returned, String> {
+    let before = run.numbers[0];
+    let mut second = perform(implementation, &with_budget(&first.lent, more));
+    second.lent.out[1] = second.lent.out[1].wrapping_add(before);
+    let whole = perform(implementation, &with_budget(run, before + more));
+    difference(format!("carried on for {more}"), &whole, &second)?;
+    Ok(second)
+}
+
+/// A run that is not spent, against the same with so much more budget.
+fn raise(
+    implementation: &Implementation,
+    run: &Call,
+    first: &Returned,
+    more: u32,
+) -> Result<(), String> {
+    let larger = with_budget(run, run.numbers[0].saturating_add(more));
+    let how = format!("budget {}", larger.numbers[0]);
+    difference(how, first, &perform(implementation, &larger))
+}
+
+/// What differs between two returns of the same run, the budgets aside; `how` says what was tried.
+fn difference(how: String, one: &Returned, other: &Returned) -> Result<(), String> {
     let (a, b) = (&one.lent, &other.lent);
     let parts = [
         ("answer", one.answer == other.answer),
@@ -43,37 +71,37 @@ fn difference(one: &Returned, other: &Returned) -> Result<(), String> {
         ("a margin", one.margins_kept && other.margins_kept),
     ];
     match parts.iter().find(|(_, same)| !same) {
-        Some((part, _)) => Err((*part).to_string()),
+        Some((part, _)) => Err(format!("{how}: {part}")),
         None => Ok(()),
     }
 }
 
 /// Tries a run: cut if its budget is spent, with a larger budget if not. The error says what differs.
+/// Large budgets come last: what breaks a claim is found before it can run on for long.
 pub fn try_run(
     implementation: &Implementation,
     random: &mut Random,
     run: &Call,
     tally: &mut Budgets,
 ) -> Result<(), String> {
-    let before = run.numbers[0];
+    let before = run.numbers[0].min(MOST);
+    let run = &with_budget(run, before);
     let first = perform(implementation, run);
     if first.answer != 0 {
-        let more = if random.one_in(8) {
-            u32::MAX
-        } else {
-            budget(random)
-        };
-        let larger = with_budget(run, before.saturating_add(more));
-        let again = perform(implementation, &larger);
         tally.stopped_at_once += u32::from(first.answer == 1);
         tally.refused += u32::from(first.answer != 1);
-        return difference(&first, &again);
+        raise(implementation, run, &first, 1 + budget(random))?;
+        return raise(implementation, run, &first, u32::MAX);
     }
-    let next = carried_on(random, &first);
-    let mut second = perform(implementation, &next);
-    second.lent.out[1] = second.lent.out[1].wrapping_add(before);
+    let more = cycles_more(random, &first.lent);
+    let second = carry_on(implementation, run, &first, more)?;
     tally.spent_twice += u32::from(second.answer == 0);
     tally.stopped_later += u32::from(second.answer == 1);
-    let whole = with_budget(run, before + next.numbers[0]);
-    difference(&perform(implementation, &whole), &second)
+    if second.answer == 1 && random.one_in(4) {
+        let next = with_budget(&first.lent, more);
+        let stopped = perform(implementation, &next);
+        raise(implementation, &next, &stopped, 1 + budget(random))?;
+        carry_on(implementation, run, &first, u32::MAX - before)?;
+    }
+    Ok(())
 }

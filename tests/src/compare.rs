@@ -76,6 +76,11 @@ pub struct Difference {
     pub call: Box<Call>,
 }
 
+/// A case that breaks a claim about runs in parts, told with what differs.
+fn broken(name: &str, index: u32, why: &str, call: &Call) -> String {
+    format!("{name}, case {index}: {why}\n{}", call_text(call))
+}
+
 /// Compares on a suite; the error is the first case that differs.
 pub fn compare(
     suite: &Suite,
@@ -141,39 +146,27 @@ pub fn try_rules(implementation: &Implementation, rules: u32) -> Result<Rules, D
 }
 
 /// Cuts rules in two; the error is the first that is not the whole run again. How many were cut.
-pub fn try_cuts(implementation: &Implementation, rules: u32) -> Result<u32, Difference> {
+pub fn try_cuts(implementation: &Implementation, rules: u32) -> Result<u32, String> {
     let mut random = Random::new(4);
     let mut tally = 0;
     for index in 0..rules {
         let call = rules::rule(&mut random);
         let at = random.below(60);
-        match cuts::cut(implementation, &call, at) {
-            Ok(was_cut) => tally += u32::from(was_cut),
-            Err(_) => {
-                return Err(Difference {
-                    name: "cuts",
-                    index,
-                    call: Box::new(call),
-                })
-            }
-        }
+        let was_cut = cuts::cut(implementation, &call, at)
+            .map_err(|why| broken("cuts", index, &format!("at {at}: {why}"), &call))?;
+        tally += u32::from(was_cut);
     }
     Ok(tally)
 }
 
 /// Cuts and raises the budgets of runs; the error is the first that shows it.
-pub fn try_budgets(implementation: &Implementation, runs: u32) -> Result<Budgets, Difference> {
+pub fn try_budgets(implementation: &Implementation, runs: u32) -> Result<Budgets, String> {
     let mut random = Random::new(5);
     let mut tally = Budgets::default();
     for index in 0..runs {
         let call = processor::run(&mut random, index);
-        if budgets::try_run(implementation, &mut random, &call, &mut tally).is_err() {
-            return Err(Difference {
-                name: "budgets",
-                index,
-                call: Box::new(call),
-            });
-        }
+        budgets::try_run(implementation, &mut random, &call, &mut tally)
+            .map_err(|why| broken("budgets", index, &why, &call))?;
     }
     Ok(tally)
 }

@@ -8,7 +8,6 @@ use beetle_tests::compare::{
     compare, explain, explain_rule, raised, try_budgets, try_cuts, try_rules,
 };
 use beetle_tests::compare::{RULES, SUITES};
-use beetle_tests::shrink::call_text;
 
 /// Prints what a part came to; whether it was good.
 fn report<T: std::fmt::Debug>(name: &str, since: Instant, result: Result<T, String>) -> bool {
@@ -31,7 +30,6 @@ fn demand_3(name: &str, implementation: &Implementation) -> bool {
 fn cuts(name: &str, implementation: &Implementation) -> bool {
     let since = Instant::now();
     let result = try_cuts(implementation, raised(RULES));
-    let result = result.map_err(|difference| call_text(&difference.call));
     report(&format!("cuts, {name}"), since, result)
 }
 
@@ -39,7 +37,6 @@ fn cuts(name: &str, implementation: &Implementation) -> bool {
 fn budgets(name: &str, implementation: &Implementation) -> bool {
     let since = Instant::now();
     let result = try_budgets(implementation, raised(RULES));
-    let result = result.map_err(|difference| call_text(&difference.call));
     report(&format!("budgets, {name}"), since, result)
 }
 
