@@ -12,9 +12,9 @@ use Rattle.pack_layout.specs.Listing.{Listing}
 use Rattle.pack_layout.specs.Packing.{image, imageCells, Legal}
 use Rattle.packer.specs.Pack.{PackResult}
 use Rattle.module.specs.Answers.{saveOf, loadOf}
-use Rattle.module.specs.Theorems.{savedFile}
+use Rattle.module_laws.specs.Theorems.{savedFile}
 use Rattle.module_judging.proofs.ConditionLaws.{good-machine}
-use Rattle.module.proofs.Theorems.{saved-loads}
+use Rattle.module_laws.proofs.Theorems.{saved-loads}
 use Rattle.list_machine.specs.Demand3.{Holds}
 use Rattle.list_machine.proofs.Simulation.{demand3}
 use Rattle.list_machine.proofs.Budget.{run-follows}

@@ -18,7 +18,7 @@ use Rattle.packer.specs.Pack.{PackResult, packOf}
 use Rattle.pack_files.specs.Files.{packFileOf}
 use Rattle.module.specs.Answers.{saveOf, LoadResult, loadOf}
 use Rattle.module_judging.specs.Conditions.{GoodPlace}
-use Rattle.module.specs.Theorems.{savedFile}
+use Rattle.module_laws.specs.Theorems.{savedFile}
 use Rattle.list_machine.specs.Runs.{runOf, beginning}
 use Rattle.list_machine.specs.Demand3.{firstRegisters, Agree, RunAgrees}
 

@@ -7,7 +7,7 @@ use lib.Seq.{sets}
 use Rattle.processor.specs.Answers.{StartAnswer, startAnswer, RunAnswer, givenOf, runAnswer}
 use Rattle.packer.specs.Pack.{PackResult, packOf}
 use Rattle.module.specs.Answers.{SaveResult, saveOf, LoadResult, loadOf}
-use Rattle.module.specs.Theorems.{savedFile}
+use Rattle.module_laws.specs.Theorems.{savedFile}
 
 abbrev pub blank : List ℕ
 blank = replicate 0x400 0

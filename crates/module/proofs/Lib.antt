@@ -3,5 +3,3 @@ pub mod CopyLaws
 pub mod HeaderLaws
 pub mod SameLaws
 pub mod AnswerLaws
-pub mod FileLaws
-pub mod Theorems

@@ -11,17 +11,17 @@ use Rattle.cell.specs.Refusals.{GoodMachine}
 use Rattle.cell.proofs.JudgementLaws.{refusal-some}
 use Rattle.cell.specs.declared.Judged.{Judged}
 use Rattle.cell.specs.declared.Judged.the-variants as judged
 use Rattle.module.specs.declared.Saved.the-variants.{Bytes}
 use Rattle.module_judging.specs.Format.{orderOf, countOf, codeOf, headerOf, moduleOf}
 use Rattle.module_judging.specs.Grounds.{judgeLoad, judgeSave}
 use Rattle.module.specs.Copies.{copied}
 use Rattle.module.specs.Answers.{loadIf, loadOf, saveIf, savedTo, saveOf}
 use Rattle.module_judging.specs.Conditions.{GoodPlace, Loadable, Savable}
-use Rattle.module.specs.Theorems.{AcceptedExactly, SavedExactly, savedFile, SameCells, SavedLoads, LoadedSaves}
+use Rattle.module_laws.specs.Theorems.{AcceptedExactly, SavedExactly, savedFile, SameCells, SavedLoads, LoadedSaves}
 use Rattle.module_judging.proofs.ConditionLaws.{load-good, good-load, save-good, good-save}
 use Rattle.module.proofs.CopyLaws.{copied-length, copied-apart, copied-cell}
 use Rattle.module.proofs.SameLaws.{copied-same, drop-bytewise, take-bytewise}
-use Rattle.module.proofs.FileLaws.{module-length, module-code, module-order, module-count, module-good, module-cell, header-back}
+use Rattle.module_laws.proofs.FileLaws.{module-length, module-code, module-order, module-count, module-good, module-cell, header-back}
 
 load-passed : (order : ℕ) (m file : List ℕ) (a : ℕ) (j : Judged) → loadIf j order m file a .number ≡ 0 → j ≡ judged.Passed
 load-passed order m file a judged.Passed e = refl

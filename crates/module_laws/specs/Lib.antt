@@ -1,0 +1,2 @@
+-- What is claimed of loads and saves together.
+pub mod Theorems

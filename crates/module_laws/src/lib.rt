@@ -1,0 +1,1 @@
+// The theorems about modules stand in proofs/; there is no code.
