@@ -6,13 +6,12 @@ use borrow.Author.Tests.{ltb-false}
 use native.Mathlib.Omega.{arith}
 use lib.Dec.{ltb}
 use lib.ListN.{length, length-append, length-drop}
-use Rattle.cell.specs.Refusals.{judge, judgeMachine}
+use Rattle.cell.specs.Refusals.{judge}
 use Rattle.cell.specs.declared.Refusal.the-variants.{ShortOutput}
 use Rattle.cell.specs.declared.Judged.{Judged}
 use Rattle.cell.specs.declared.Judged.the-variants.{Passed}
 use Rattle.cell.proofs.JudgementLaws.{both-pass, one-clear}
 use Rattle.calls.specs.Lending.{written, shortArray, withRoom}
-use Rattle.calls.specs.Machines.{judgeCall}
 
 pub record Roomy (j : Judged) (size needed : ℕ) : Type 0 where
   pub passed : j ≡ Passed
@@ -26,15 +25,3 @@ roomy j size needed e =
 -- an array keeps its length where there is room for what is written
 pub written-length : (xs lent : List ℕ) → length xs ≤ length lent → length (written xs lent) ≡ length lent
 written-length xs lent h = simp (length-append, length-drop) (omega (arith, h))
-
-pub call-passed : (len order registers out needed : ℕ) → judgeCall len order registers out needed ≡ Passed → judgeMachine len order ≡ Passed
-unfolding judgeCall
-call-passed len order registers out needed e =
-    roomy (judgeMachine len order) registers 4 (roomy (withRoom (judgeMachine len order) registers 4) out needed e .passed) .passed
-
-pub call-roomy : (len order registers out needed : ℕ) → judgeCall len order registers out needed ≡ Passed
-    → (4 ≤ registers) × (needed ≤ out)
-unfolding judgeCall
-call-roomy len order registers out needed e =
-    let last = roomy (withRoom (judgeMachine len order) registers 4) out needed e in
-    (roomy (judgeMachine len order) registers 4 (last .passed) .room, last .room)

@@ -2,7 +2,7 @@
 ghost use mathlib.Core.Path.{_≡_};
 ghost use mathlib.Core.Bool.{not};
 ghost use lib.Dec.{eqb};
-ghost use Rattle.calls.specs.Machines as machines;
+ghost use Rattle.processor_calls.specs.Machines as machines;
 ghost use Rattle.list_calls.specs.Lists as lists;
 use cell::Address;
 use list_calls::lists::resume_list;

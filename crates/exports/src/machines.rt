@@ -1,18 +1,18 @@
 // The processor's calls. Each judges first, and writes nothing that was lent where it refuses.
 ghost use mathlib.Core.Path.{_≡_};
-ghost use Rattle.calls.specs.Machines as machines;
+ghost use Rattle.processor_calls.specs.Machines as machines;
 ghost use Rattle.processor.specs.Answers as answers;
 use calls::lending::read_registers;
-use calls::machines::judge_call;
-use calls::machines::tell_cycled;
-use calls::machines::tell_ran;
-use calls::machines::tell_started;
 use cell::Address;
 use cell::Judged;
 use cell::judgement::refusal_number;
 use processor::entry::cycle;
 use processor::entry::run;
 use processor::entry::start;
+use processor_calls::machines::judge_call;
+use processor_calls::machines::tell_cycled;
+use processor_calls::machines::tell_ran;
+use processor_calls::machines::tell_started;
 
 #[no_mangle]
 pub extern "C" fn beetle_start(

@@ -6,12 +6,12 @@ use Prim.Native.Nat.{ℕ, _/_, _%_, _^_, _≤_}
 use lib.ListN.{length, getD}
 use Rattle.cell.specs.declared.Judged.{Judged}
 use Rattle.cell.specs.declared.Judged.the-variants.{Passed}
-use Rattle.list_judging.specs.declared.Stand.{Stand}
+use Rattle.list_proposing.specs.declared.Stand.{Stand}
 use Rattle.list_run.specs.Follow.{FollowResult, followedTo, standAt, resumeIn}
 use Rattle.list_run.specs.declared.Followed.{Followed}
 use Rattle.list_run.specs.declared.Followed.the-variants as followed
 use Rattle.calls.specs.Lending.{written, withRoom}
-use Rattle.calls.specs.Machines.{Told, told, Called}
+use Rattle.processor_calls.specs.Machines.{Told, told, Called}
 
 -- `pointers` takes SP, RP; `out` the reason, the item reached, the items done, and the low and high half of the cycles counted
 abbrev pub valuesTold : List ℕ → List ℕ → FollowResult → Told

@@ -19,11 +19,11 @@ use Rattle.list_effects.proofs.Alone.{Alone, raises, plain-alone, taking-alone}
 use Rattle.list_tables.specs.Tables.{immediateIn, rows, entryBelow, Settled}
 use Rattle.list_tables.specs.declared.Image.{Image}
 use Rattle.list_tables.proofs.TableLaws.{rows-is, immediate-is, finds}
-use Rattle.list_judging.specs.Stands.{positionOf}
+use Rattle.list_proposing.specs.Stands.{positionOf}
 use Rattle.list_judging.specs.Ways.{intentOf, performed}
-use Rattle.list_judging.specs.declared.Stand.{Stand}
+use Rattle.list_proposing.specs.declared.Stand.{Stand}
 use Rattle.list_judging.specs.declared.Intent.{Intent}
-use Rattle.list_judging.proofs.ProposeLaws.{regs, regs-is}
+use Rattle.list_proposing.proofs.ProposeLaws.{regs, regs-is}
 use Rattle.list_items.proofs.IntentLaws.{intent-is}
 
 -- an effect moves only the stack pointers, and none of them where it raises or throws

@@ -19,8 +19,8 @@ use Rattle.list_machine.proofs.Cutting.{run-cut, run-over}
 use Rattle.list_tables.specs.Tables.{opensIn, Settled}
 use Rattle.list_tables.specs.declared.Image.{Image}
 use Rattle.list_tables.proofs.TableLaws.{open-is}
-use Rattle.list_judging.specs.Stands.{positionOf}
-use Rattle.list_judging.specs.declared.Stand.{Stand}
+use Rattle.list_proposing.specs.Stands.{positionOf}
+use Rattle.list_proposing.specs.declared.Stand.{Stand}
 use Rattle.list_items.specs.Outcomes.{carriedAs, Left, left, leaves, memoryAfter, courseOf, runAs, begun, counted, isOver}
 use Rattle.list_items.specs.declared.Carried as code
 use Rattle.list_items.specs.declared.Carried.the-variants.{On, Stopped, Outside}

@@ -7,8 +7,8 @@ use Rattle.cell.specs.Choice.{if}
 use Rattle.list_machine.specs.declared.Outside.the-variants.{PastEnd}
 use Rattle.list_machine.specs.ListMachine as lists
 use Rattle.list_machine.specs.Runs as runs
-use Rattle.list_judging.specs.Stands.{positionOf}
-use Rattle.list_judging.specs.declared.Stand.{Stand}
+use Rattle.list_proposing.specs.Stands.{positionOf}
+use Rattle.list_proposing.specs.declared.Stand.{Stand}
 use Rattle.list_items.specs.declared.Carried.{Carried}
 use Rattle.list_items.specs.declared.Carried.the-variants.{On, Stopped, Outside}
 use Rattle.list_items.specs.declared.Ending.{Ending}

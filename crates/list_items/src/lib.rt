@@ -2,8 +2,8 @@
 pub mod carrying;
 pub mod running;
 
-use list_judging::Stand;
 use list_machine::Outside;
+use list_proposing::Stand;
 
 // What an item comes to: in front of the next, stopped by a reason, or not carried out.
 pub enum Carried {

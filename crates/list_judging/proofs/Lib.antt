@@ -1,5 +1,3 @@
 -- Laws that belong to no one function.
 mod EntryLaws
-mod KindLaws
 mod JudgeLaws
-pub mod ProposeLaws

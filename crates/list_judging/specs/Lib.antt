@@ -1,3 +1,2 @@
 -- What crate `list_judging` means.
-pub mod Stands
 pub mod Ways

@@ -15,8 +15,8 @@ use Rattle.pack_layout.specs.Listing.{Listing, listed}
 use Rattle.list_machine.specs.Runs.{Course, goesOn, stoppedBy, stoodOutside, isOver, Run, runOf, resuming}
 use Rattle.list_machine.proofs.Lengths.{run-long}
 use Rattle.list_machine.proofs.Cutting.{cut-in-two, stays-over}
-use Rattle.list_judging.specs.Stands.{positionOf}
-use Rattle.list_judging.specs.declared.Stand.{Stand}
+use Rattle.list_proposing.specs.Stands.{positionOf}
+use Rattle.list_proposing.specs.declared.Stand.{Stand}
 use Rattle.list_run.specs.Follow.{judgeFollow, endingNumber, followedTo, endingOf, ranOf, followIf, resumeIn}
 use Rattle.list_run.specs.Cutting.{joinedTo, Cut}
 use Rattle.list_run.specs.declared.Followed.the-variants as followed

@@ -23,8 +23,8 @@ use Rattle.list_machine.specs.Runs.{Course, goesOn, stoppedBy, stoodOutside, Ru
 use Rattle.list_machine.proofs.Simulation.{demand3}
 use Rattle.list_tables.specs.Tables.{Rows, Settled}
 use Rattle.list_tables.specs.declared.Image.{Image}
-use Rattle.list_judging.specs.Stands.{positionOf}
-use Rattle.list_judging.specs.declared.Stand.{Stand}
+use Rattle.list_proposing.specs.Stands.{positionOf}
+use Rattle.list_proposing.specs.declared.Stand.{Stand}
 use Rattle.list_items.specs.Outcomes.{courseOf, runAs}
 use Rattle.list_items.specs.declared.Ending.{Ending}
 use Rattle.list_items.specs.declared.Ending.the-variants as ending

@@ -3,7 +3,7 @@ use mathlib.Core.Path.{_≡_}
 use mathlib.Core.Logic.{_≢_}
 use mathlib.Core.List.{List}
 use Prim.Native.Nat.{ℕ, _+_}
-use Rattle.list_judging.specs.declared.Stand.{Stand}
+use Rattle.list_proposing.specs.declared.Stand.{Stand}
 use Rattle.list_run.specs.declared.Followed.{Followed}
 use Rattle.list_run.specs.declared.Followed.the-variants as followed
 use Rattle.list_run.specs.Follow.{FollowResult, followedTo, resumeOf}

@@ -17,8 +17,8 @@ use Rattle.list_machine.specs.Outsides.{outsideNumber}
 use Rattle.list_machine.specs.ListMachine.{Position}
 use Rattle.list_machine.specs.Runs.{Course, goesOn, stoppedBy, stoodOutside, Run, runOf, resuming}
 use Rattle.list_machine.specs.Demand3.{Holds, firstRegisters, Agree}
-use Rattle.list_judging.specs.Stands.{positionOf}
-use Rattle.list_judging.specs.declared.Stand.{Stand}
+use Rattle.list_proposing.specs.Stands.{positionOf}
+use Rattle.list_proposing.specs.declared.Stand.{Stand}
 use Rattle.list_items.specs.Outcomes.{runAs}
 use Rattle.list_items.specs.declared.Ending.{Ending}
 use Rattle.list_items.specs.declared.Ending.the-variants as ending

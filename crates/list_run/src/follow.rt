@@ -13,7 +13,7 @@ use crate::judgement::judge_image;
 use cell::Address;
 use cell::Judged;
 use list_items::running::run_items;
-use list_judging::Stand;
+use list_proposing::Stand;
 use list_tables::Image;
 use list_tables::TABLE_NUMBERS;
 use list_tables::settle::settle_table;

@@ -1,7 +1,7 @@
 -- `beetle_cycle` meets its contract: a refusal, or the processor's answer told.
 use borrow.Author.Needs.{needs}
-use Rattle.calls.proofs.LendingLaws.{call-roomy}
-use Rattle.calls.specs.Machines as machines
+use Rattle.processor_calls.proofs.CallLaws.{call-roomy}
+use Rattle.processor_calls.specs.Machines as machines
 use mathlib.Core.Path.{_∙_, sym}
 use Rattle.exports.proofs.machines.beetle_cycle.Statement.{statement}
 use Rattle.exports.proofs.machines.beetle_cycle.Tie as tie

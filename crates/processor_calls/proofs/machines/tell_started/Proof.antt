@@ -1,7 +1,7 @@
 -- `tell_started` meets its contract, by the answer.
 use borrow.Author.Needs.{needs}
-use Rattle.calls.proofs.machines.tell_started.Statement.{statement}
-use Rattle.calls.proofs.machines.tell_started.Tie as tie
+use Rattle.processor_calls.proofs.machines.tell_started.Statement.{statement}
+use Rattle.processor_calls.proofs.machines.tell_started.Tie as tie
 
 enum-known-answer : tie.Need-enum-known-answer
 enum-known-answer c = search needs

@@ -3,8 +3,8 @@ use mathlib.Core.Path.{ap}
 use native.Mathlib.Omega.{arith}
 use Rattle.cell.specs.declared.CellCount.{CellCount}
 use borrow.Author.Needs.{needs}
-use Rattle.list_judging.proofs.proposing.registers_at.Statement.{statement}
-use Rattle.list_judging.proofs.proposing.registers_at.Tie as tie
+use Rattle.list_proposing.proofs.proposing.registers_at.Statement.{statement}
+use Rattle.list_proposing.proofs.proposing.registers_at.Tie as tie
 
 next-of-requires : tie.Need-next-of-requires
 next-of-requires c κs = search needs

@@ -1,7 +1,7 @@
 -- `tell_cycled` meets its contract, by the answer.
 use borrow.Author.Needs.{needs}
-use Rattle.calls.proofs.machines.tell_cycled.Statement.{statement}
-use Rattle.calls.proofs.machines.tell_cycled.Tie as tie
+use Rattle.processor_calls.proofs.machines.tell_cycled.Statement.{statement}
+use Rattle.processor_calls.proofs.machines.tell_cycled.Tie as tie
 
 enum-known-answer : tie.Need-enum-known-answer
 enum-known-answer c = search needs

@@ -2,11 +2,11 @@
 ghost use mathlib.Core.Path.{_≡_};
 ghost use Prim.Native.Nat.{_≤_};
 ghost use lib.ListN.{length};
-ghost use Rattle.calls.specs.Machines as machines;
-use crate::lending::with_room;
-use crate::lending::write_one;
-use crate::lending::write_registers;
-use crate::lending::write_two;
+ghost use Rattle.processor_calls.specs.Machines as machines;
+use calls::lending::with_room;
+use calls::lending::write_one;
+use calls::lending::write_registers;
+use calls::lending::write_two;
 use cell::Judged;
 use cell::judgement::judge_machine;
 use cell::judgement::refusal_number;

@@ -24,9 +24,9 @@ use Rattle.list_effects.specs.declared.Shape.{Shape}
 use Rattle.list_tables.specs.Tables.{placeIn, nextIn, behindIn, Settled}
 use Rattle.list_tables.specs.declared.Image.{Image}
 use Rattle.list_tables.proofs.TableLaws.{room, place-low, behind-room, next-is, behind-is, target-in, target-is}
-use Rattle.list_judging.specs.Stands.{positionOf, registersFor}
-use Rattle.list_judging.specs.declared.Stand.{Stand}
-use Rattle.list_judging.proofs.KindLaws.{lands, plain-effect, literal-effect, branch-effect}
+use Rattle.list_proposing.specs.Stands.{positionOf, registersFor}
+use Rattle.list_proposing.specs.declared.Stand.{Stand}
+use Rattle.list_proposing.proofs.KindLaws.{lands, plain-effect, literal-effect, branch-effect}
 
 module _ (kinds operands table : List ℕ) (image : Image) (s : Settled kinds operands table image) (machine : Machine) (m : List ℕ)
     (st : Stand) (h : st .item .0 < length kinds) where

@@ -16,10 +16,11 @@ use Rattle.processor.specs.declared.Ran.{Ran}
 use Rattle.processor.specs.declared.Ran.the-variants as ran
 use Rattle.processor_laws.specs.Budgets.{withBudget, carriedOn, laterStop}
 use Rattle.processor_laws.proofs.BudgetLaws.{its-registers, run-keeps-length, number-is, Accepted, accepted, cut-budget, larger-budget}
 use Rattle.calls.specs.Lending.{written, registersOf, registerList}
-use Rattle.calls.specs.Machines.{Told, told, called, judgeCall, runTold, asRead, runIf, runCall}
-use Rattle.calls.specs.Budgets.{withCycles, CutCall, LargerCall}
-use Rattle.calls.proofs.LendingLaws.{written-length, call-passed, call-roomy}
+use Rattle.processor_calls.specs.Machines.{Told, told, called, judgeCall, runTold, asRead, runIf, runCall}
+use Rattle.processor_calls.specs.Budgets.{withCycles, CutCall, LargerCall}
+use Rattle.calls.proofs.LendingLaws.{written-length}
+use Rattle.processor_calls.proofs.CallLaws.{call-passed, call-roomy}
 
 -- what is told of a run in two calls is what is told of the one
 told-cut : (m registers out : List ℕ) (first r : Registers) (b c n : ℕ) (e : Ended)

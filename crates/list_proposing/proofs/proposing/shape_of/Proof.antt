@@ -6,11 +6,11 @@ use lib.ListN.{getD}
 use Rattle.pack_layout.specs.Listing.{listed}
 use Rattle.pack_layout.proofs.Listing.{is-kind}
 use Rattle.list_tables.proofs.TableLaws.{in-rows, next-near, behind-near, target-in}
-use Rattle.list_judging.proofs.KindLaws.{plain-some}
-use Rattle.list_judging.proofs.ProposeLaws.{asks-plain, asks-literal, asks-branch}
+use Rattle.list_proposing.proofs.KindLaws.{plain-some}
+use Rattle.list_proposing.proofs.ProposeLaws.{asks-plain, asks-literal, asks-branch}
 use borrow.Author.Needs.{needs}
-use Rattle.list_judging.proofs.proposing.shape_of.Statement.{statement}
-use Rattle.list_judging.proofs.proposing.shape_of.Tie as tie
+use Rattle.list_proposing.proofs.proposing.shape_of.Statement.{statement}
+use Rattle.list_proposing.proofs.proposing.shape_of.Tie as tie
 
 cast-i : tie.Need-cast-i
 cast-i c = search needs

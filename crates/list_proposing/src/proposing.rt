@@ -7,7 +7,7 @@ ghost use Rattle.pack_layout.specs.Listing.{listed};
 ghost use Rattle.list_machine.specs.ListMachine as lists;
 ghost use Rattle.list_effects.specs.Shapes as shapes;
 ghost use Rattle.list_tables.specs.Tables as tables;
-ghost use Rattle.list_judging.specs.Stands as stands;
+ghost use Rattle.list_proposing.specs.Stands as stands;
 use crate::Stand;
 use cell::Address;
 use cell::place::address_at;

@@ -5,7 +5,7 @@ use Prim.Native.Nat.{ℕ}
 use Rattle.machine.specs.declared.Registers.{Registers}
 use Rattle.pack_layout.specs.declared.ItemNumber.{ItemNumber}
 use Rattle.list_machine.specs.ListMachine as lists
-use Rattle.list_judging.specs.declared.Stand.{Stand}
+use Rattle.list_proposing.specs.declared.Stand.{Stand}
 
 -- where the machine stands, with the memory m
 abbrev pub positionOf : List ℕ → Stand → lists.Position

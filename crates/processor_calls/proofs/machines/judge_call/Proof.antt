@@ -1,8 +1,8 @@
 -- `judge_call` meets its contract: three judgements, one after the other.
 use borrow.Author.Needs.{needs}
-use Rattle.calls.specs.Machines as machines
-use Rattle.calls.proofs.machines.judge_call.Statement.{statement}
-use Rattle.calls.proofs.machines.judge_call.Tie as tie
+use Rattle.processor_calls.specs.Machines as machines
+use Rattle.processor_calls.proofs.machines.judge_call.Statement.{statement}
+use Rattle.processor_calls.proofs.machines.judge_call.Tie as tie
 
 judge-machine-requires : tie.Need-judge-machine-requires
 judge-machine-requires c κs = search needs

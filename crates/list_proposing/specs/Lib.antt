@@ -1,0 +1,2 @@
+-- What crate `list_proposing` means.
+pub mod Stands

@@ -1,0 +1,3 @@
+-- What crate `processor_calls` means.
+pub mod Machines
+pub mod Budgets
