@@ -85,6 +85,18 @@ int32_t beetle_load(
     uint32_t address,
     uint32_t *out, size_t out_length);
 
+/* The same, halted after `cells` cells: the module is judged whole, its first cells go in, each in the
+ * machine's order, and every other byte of memory keeps its value. A module of no more cells goes in
+ * whole. A later load of the same file to the same address, of no fewer cells, leaves what it would
+ * have left without this one. out: [cells that went in]. */
+int32_t beetle_load_first(
+    uint8_t order,
+    uint8_t *memory, size_t memory_length,
+    const uint8_t *file, size_t file_length,
+    uint32_t address,
+    uint32_t cells,
+    uint32_t *out, size_t out_length);
+
 /* Saves a number of cells from a byte address as a module of 12 + 4 * cells bytes. out: [bytes]. */
 int32_t beetle_save(
     uint8_t order,

@@ -1,4 +1,4 @@
--- What `beetle_load` and `beetle_save` leave and answer.
+-- What `beetle_load`, `beetle_load_first` and `beetle_save` leave and answer.
 use mathlib.Core.List.{List, [], _∷_}
 use Prim.Native.Nat.{ℕ}
 use lib.ListN.{length}
@@ -6,7 +6,7 @@ use Rattle.cell.specs.Refusals.{refusalNumber}
 use Rattle.cell.specs.declared.Judged.{Judged}
 use Rattle.cell.specs.declared.Judged.the-variants as judged
 use Rattle.module_judging.specs.Grounds.{judgeLoad, judgeSave}
-use Rattle.module.specs.Answers.{loadOf, saveOf}
+use Rattle.module.specs.Answers.{LoadResult, loadOf, loadFirstOf, saveOf}
 use Rattle.module.specs.declared.Loaded.{Loaded}
 use Rattle.module.specs.declared.Loaded.the-variants as loaded
 use Rattle.module.specs.declared.Saved.{Saved}
@@ -38,15 +38,18 @@ abbrev pub saveNoted : List ℕ → Saved → Noted
 saveNoted out (saved.Refused r) = noted out (refusalNumber r)
 saveNoted out (saved.Bytes n) = noted (written (n ∷ []) out) 0
 
-abbrev pub loadIf : Judged → ℕ → List ℕ → List ℕ → ℕ → List ℕ → Moved
-loadIf (judged.Refused n) order m file a out = moved m out (refusalNumber n)
-loadIf judged.Passed order m file a out =
-    let s = loadOf order m file a in
-    record { bytes = s .memory; noted = loadNoted out (s .answer) }
+-- a load where the judgement is no refusal
+abbrev pub loadIf : Judged → LoadResult → List ℕ → List ℕ → Moved
+loadIf (judged.Refused n) s m out = moved m out (refusalNumber n)
+loadIf judged.Passed s m out = record { bytes = s .memory; noted = loadNoted out (s .answer) }
 
 unfoldable pub loadCall : ℕ → List ℕ → List ℕ → ℕ → List ℕ → Moved
 loadCall order m file a out =
-    loadIf (withRoom (judgeLoad (length m) order file a) (length out) 1) order m file a out
+    loadIf (withRoom (judgeLoad (length m) order file a) (length out) 1) (loadOf order m file a) m out
+
+unfoldable pub loadFirstCall : ℕ → List ℕ → List ℕ → ℕ → ℕ → List ℕ → Moved
+loadFirstCall order m file a k out =
+    loadIf (withRoom (judgeLoad (length m) order file a) (length out) 1) (loadFirstOf order m file a k) m out
 
 abbrev pub saveIf : Judged → ℕ → List ℕ → ℕ → ℕ → List ℕ → List ℕ → Moved
 saveIf (judged.Refused n) order m a l output out = moved output out (refusalNumber n)

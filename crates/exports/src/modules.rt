@@ -8,6 +8,7 @@ use cell::Address;
 use cell::CellCount;
 use cell::Judged;
 use cell::judgement::refusal_number;
+use module::loading::load_first;
 use module::loading::load_object;
 use module::saving::save_object;
 use module_judging::judgement::judge_load;
@@ -27,6 +28,27 @@ pub extern "C" fn beetle_load(
     match with_room(judged, out.len(), 1) {
         Judged::Refused(n) => refusal_number(n),
         Judged::Passed => note_loaded(load_object(order, memory, file, Address(address)), out),
+    }
+}
+
+#[no_mangle]
+pub extern "C" fn beetle_load_first(
+    order: u8,
+    memory: &mut [u8],
+    file: &[u8],
+    address: u32,
+    cells: u32,
+    out: &mut [u32],
+) -> u32
+    ensures { λ n. ⌜ modules.moved (now (memory .exit)) (now (out .exit)) n ≡ modules.loadFirstCall order (now (memory .entry)) (now (file .entry)) address cells (now (out .entry)) ⌝ }
+{
+    let judged = judge_load(memory.len(), order, file, Address(address));
+    match with_room(judged, out.len(), 1) {
+        Judged::Refused(n) => refusal_number(n),
+        Judged::Passed => {
+            let answer = load_first(order, memory, file, Address(address), CellCount(cells));
+            note_loaded(answer, out)
+        }
     }
 }
 

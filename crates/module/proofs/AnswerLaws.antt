@@ -1,12 +1,14 @@
--- What the two calls leave and answer, from what their parts do.
+-- What the calls leave and answer, from what their parts do.
 use mathlib.Core.Path.{_≡_, refl, sym, ap, _∙_}
 use mathlib.Core.List.{List, _++_}
-use Prim.Native.Nat.{ℕ, zero, suc, _+_, _*_}
+use Prim.Native.Nat.{ℕ, zero, suc, _+_, _*_, _^_, _≤_, _<_, min}
+use native.Mathlib.Nat.{min-eq-right}
 use native.Mathlib.Omega.{arith}
 use lib.ListN.{length, drop, length-append, length-drop}
 use lib.Seq.{paste, take-at, drop-append-add, drop-drop}
 use Rattle.cell.specs.Memory.{Bytewise, cellCount}
 use Rattle.cell.specs.declared.CellCount.{CellCount}
+use Rattle.cell.proofs.MemoryLaws.{cell-below}
 use Rattle.cell.specs.declared.Judged.the-variants.{Passed}
 use Rattle.module.specs.declared.Loaded.the-variants as loaded
 use Rattle.module.specs.declared.Saved.the-variants as saved
@@ -15,13 +17,25 @@ use Rattle.module_judging.specs.Grounds.{judgeLoad, judgeSave}
 use Rattle.module.specs.Copies.{copied}
 use Rattle.module_judging.proofs.ConditionLaws.{save-good}
 use Rattle.module.proofs.SameLaws.{copied-same, drop-bytewise}
-use Rattle.module.specs.Answers.{loadedTo, loadOf, savedTo, saveOf}
+use Rattle.module.specs.Answers.{loadedTo, loadOf, loadFirstOf, savedTo, saveOf}
 
-pub load-result : (order : ℕ) (m file : List ℕ) (a : ℕ) (cells : CellCount) (code next : List ℕ)
-    → judgeLoad (length m) order file a ≡ Passed → cells ≡ cellCount (countOf file) → code ≡ codeOf file
-    → next ≡ copied (orderOf file) order code m a (cells .0) → loadedTo next (loaded.Cells cells) ≡ loadOf order m file a
-unfolding loadOf
-load-result order m file a cells code next j e k q = rw (j, q, e, k)
+-- the smaller of k and the count is counted and copied
+pub first-result : (order : ℕ) (m file : List ℕ) (a k : ℕ) (cells : CellCount) (code next : List ℕ)
+    → judgeLoad (length m) order file a ≡ Passed → cells ≡ cellCount (min k (countOf file)) → code ≡ codeOf file
+    → next ≡ copied (orderOf file) order code m a (cells .0)
+    → loadedTo next (loaded.Cells cells) ≡ loadFirstOf order m file a k
+unfolding loadFirstOf
+first-result order m file a k cells code next j e c q = rw (j, q, e, c)
+
+-- a count is one of a cell
+pub count-below : (file : List ℕ) → Bytewise file → countOf file < 2 ^ 32
+unfolding countOf
+count-below file low = cell-below (orderOf file) file 8 low
+
+-- a halt at or after the last cell is none
+pub first-whole : (order : ℕ) (m file : List ℕ) (a k : ℕ) → countOf file ≤ k → loadFirstOf order m file a k ≡ loadOf order m file a
+unfolding loadFirstOf loadOf
+first-whole order m file a k h = rw (min-eq-right h)
 
 -- a module's header has twelve bytes
 pub header-length : (order l : ℕ) → length (headerOf order l) ≡ 12
@@ -53,7 +67,7 @@ save-result order m a l out code head next j low k e q =
     length-append (headerOf order l) (drop 12 out) ∙ rw (header-length order l, length-drop 12 out) (omega (arith, g .room))
     in
     let s : copied order order (drop a m) (headerOf order l ++ drop 12 out) 12 l ≡ moduleOf order m a l ++ drop (12 + 4 * l) out =
-    copied-same (headerOf order l ++ drop 12 out) 12 (drop a m) order (drop-bytewise a m low) l (omega (arith, h, g .room)) (simp length-drop (omega (arith, g .place .room)))
+    copied-same order (drop a m) (drop-bytewise a m low) (headerOf order l ++ drop 12 out) 12 l (omega (arith, h, g .room)) (simp length-drop (omega (arith, g .place .room)))
     ∙ module-pasted order m a l out
     in
     rw (j, q, e, k, s)

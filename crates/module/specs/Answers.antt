@@ -1,7 +1,7 @@
--- What load_object and save_object leave and answer. Document 01, Turned back for the state: a refusal has a number and a count of
+-- What load_object, load_first and save_object leave and answer. Document 01, Turned back for the state: a refusal has a number and a count of
 -- 0 and leaves everything lent; a success changes its own bytes alone. The number of a success is 0, document 001, section 4.3.
 use mathlib.Core.List.{List, _++_}
-use Prim.Native.Nat.{ℕ, _+_, _*_}
+use Prim.Native.Nat.{ℕ, _+_, _*_, min}
 use lib.ListN.{length, drop}
 use Rattle.cell.specs.Memory.{cellCount}
 use Rattle.cell.specs.Refusals.{refusalNumber}
@@ -34,14 +34,20 @@ pub record LoadResult : Type 0 where
 abbrev pub loadedTo : List ℕ → Loaded → LoadResult
 loadedTo m a = record { memory = m; answer = a; number = loadNumber a; count = loadCount a }
 
-abbrev pub loadIf : Judged → ℕ → List ℕ → List ℕ → ℕ → LoadResult
-loadIf (judged.Refused r) order m file a = loadedTo m (loaded.Refused r)
-loadIf judged.Passed order m file a =
-    loadedTo (copied (orderOf file) order (codeOf file) m a (countOf file)) (loaded.Cells (cellCount (countOf file)))
+-- where the judgement is no refusal, the first n cells of the file go in
+abbrev pub loadIf : Judged → ℕ → List ℕ → List ℕ → ℕ → ℕ → LoadResult
+loadIf (judged.Refused r) order m file a n = loadedTo m (loaded.Refused r)
+loadIf judged.Passed order m file a n =
+    loadedTo (copied (orderOf file) order (codeOf file) m a n) (loaded.Cells (cellCount n))
 
--- load_object on a machine of a byte order, with its memory, a file and a byte address
+-- load_object on a machine of a byte order, with its memory, a file and a byte address: all cells of the file
 unfoldable pub loadOf : ℕ → List ℕ → List ℕ → ℕ → LoadResult
-loadOf order m file a = loadIf (judgeLoad (length m) order file a) order m file a
+loadOf order m file a = loadIf (judgeLoad (length m) order file a) order m file a (countOf file)
+
+-- load_first, told to halt after k cells (document 02, (c)): it is judged as load_object is, and a file of fewer cells goes in whole
+unfoldable pub loadFirstOf : ℕ → List ℕ → List ℕ → ℕ → ℕ → LoadResult
+loadFirstOf order m file a k =
+    loadIf (judgeLoad (length m) order file a) order m file a (min k (countOf file))
 
 -- the number and the count of each answer of a save: 0 and the bytes written, or the refusal's number and 0
 abbrev pub saveNumber : Saved → ℕ

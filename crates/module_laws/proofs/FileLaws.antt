@@ -1,6 +1,6 @@
 -- A module as a file: what a saved one says, and what a good one is made of.
 use mathlib.Core.Path.{_≡_, refl, sym, ap, _∙_}
-use mathlib.Core.List.{List, [], _∷_, _++_}
+use mathlib.Core.List.{List, _∷_, _++_}
 use Prim.Native.Nat.{ℕ, zero, suc, _+_, _*_, _^_, _≤_, _<_}
 use native.Mathlib.Omega.{arith}
 use lib.ListN.{length, getD, take, drop, length-append, length-drop}
@@ -10,7 +10,7 @@ use Rattle.cell.proofs.BytesLaws.{join-bytes}
 use Rattle.module_judging.specs.Format.{title, orderOf, countOf, codeOf, headerOf, moduleOf}
 use Rattle.module_judging.specs.Conditions.{GoodFile}
 use Rattle.module.proofs.AnswerLaws.{header-length}
-use Rattle.module.proofs.SameLaws.{bytes-back}
+use Rattle.module.proofs.SameLaws.{cell-bytes}
 
 module _ (order : ℕ) (m : List ℕ) (b l : ℕ) where
   pub module-length : b + 4 * l ≤ length m → length (moduleOf order m b l) ≡ 12 + 4 * l
@@ -56,17 +56,12 @@ module-cell order m b l i h =
     shift : (n : ℕ) → b + (4 * i + n) ≡ b + 4 * i + n
     shift n = omega arith
 
--- five bytes from byte 7 on
-five : (file : List ℕ) → 12 ≤ length file
-    → take 5 (drop 7 file) ≡ getD file 7 0 ∷ getD file 8 0 ∷ getD file 9 0 ∷ getD file 10 0 ∷ getD file 11 0 ∷ []
-five file h =
-    rw (drop-cons file 7 0 (omega arith), drop-cons file 8 0 (omega arith), drop-cons file 9 0 (omega arith), drop-cons file 10 0 (omega arith), drop-cons file 11 0 (omega arith))
-
 -- the header of a good file is the one that a save would write
 pub header-back : (file : List ℕ) → GoodFile file → Bytewise file → headerOf (orderOf file) (countOf file) ≡ take 12 file
 unfolding headerOf countOf
 header-back file g low =
-    ap (λ (r : List ℕ). title ++ (orderOf file ∷ r)) (bytes-back (orderOf file) file 8 low)
-    ∙ ap (λ (r : List ℕ). title ++ r) (sym (five file (omega (arith, g .whole))))
+    let h : 12 ≤ length file = omega (arith, g .whole) in
+    ap (λ (r : List ℕ). title ++ (orderOf file ∷ r)) (cell-bytes (orderOf file) file low 8 h)
+    ∙ ap (λ (r : List ℕ). title ++ take 5 r) (sym (drop-cons file 7 0 (omega (arith, h))))
     ∙ ap (λ (r : List ℕ). r ++ take 5 (drop 7 file)) (sym (g .titled))
     ∙ sym (take-add 7 5 file)

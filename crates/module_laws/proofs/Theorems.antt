@@ -1,31 +1,34 @@
 -- The theorems of specs/Theorems.antt.
-use mathlib.Core.Path.{_≡_, refl, sym, ap, _∙_}
+use mathlib.Core.Path.{_≡_, refl, sym, ap, subst, _∙_}
 use mathlib.Core.List.{List, _++_, append-assoc}
 use mathlib.Core.Logic.{inl, inr}
-use Prim.Native.Nat.{ℕ, _+_, _*_, _^_, _≤_, _<_}
+use Prim.Native.Nat.{ℕ, _+_, _*_, _^_, _≤_, _<_, min}
 use native.Mathlib.Omega.{arith}
 use lib.ListN.{length, take, drop, take-append-drop, length-drop}
 use lib.Seq.{paste, take-at, drop-at, take-all, length-take-le}
-use Rattle.cell.specs.Memory.{Bytewise}
+use Rattle.cell.specs.Memory.{Bytewise, cellCount}
 use Rattle.cell.specs.Refusals.{GoodMachine}
 use Rattle.cell.proofs.JudgementLaws.{refusal-some}
 use Rattle.cell.specs.declared.Judged.{Judged}
 use Rattle.cell.specs.declared.Judged.the-variants as judged
+use Rattle.module.specs.declared.Loaded.the-variants as loaded
 use Rattle.module.specs.declared.Saved.the-variants.{Bytes}
 use Rattle.module_judging.specs.Format.{orderOf, countOf, codeOf, headerOf, moduleOf}
 use Rattle.module_judging.specs.Grounds.{judgeLoad, judgeSave}
 use Rattle.module.specs.Copies.{copied}
-use Rattle.module.specs.Answers.{loadIf, loadOf, saveIf, savedTo, saveOf}
+use Rattle.module.specs.Answers.{LoadResult, loadedTo, loadIf, loadOf, loadFirstOf, saveIf, savedTo, saveOf}
 use Rattle.module_judging.specs.Conditions.{GoodPlace, Loadable, Savable}
 use Rattle.module_laws.specs.Theorems.{AcceptedExactly, SavedExactly, savedFile, SameCells, SavedLoads, LoadedSaves}
+use Rattle.module_laws.specs.Firsts.{SavedLoadsFirst}
+use Rattle.module.proofs.AnswerLaws.{first-whole}
 use Rattle.module_judging.proofs.ConditionLaws.{load-good, good-load, save-good, good-save}
 use Rattle.module.proofs.CopyLaws.{copied-length, copied-apart, copied-cell}
 use Rattle.module.proofs.SameLaws.{copied-same, drop-bytewise, take-bytewise}
 use Rattle.module_laws.proofs.FileLaws.{module-length, module-code, module-order, module-count, module-good, module-cell, header-back}
 
-load-passed : (order : ℕ) (m file : List ℕ) (a : ℕ) (j : Judged) → loadIf j order m file a .number ≡ 0 → j ≡ judged.Passed
-load-passed order m file a judged.Passed e = refl
-load-passed order m file a (judged.Refused r) e = absurd (refusal-some r e)
+load-passed : (order : ℕ) (m file : List ℕ) (a n : ℕ) (j : Judged) → loadIf j order m file a n .number ≡ 0 → j ≡ judged.Passed
+load-passed order m file a n judged.Passed e = refl
+load-passed order m file a n (judged.Refused r) e = absurd (refusal-some r e)
 
 save-passed : (order : ℕ) (m : List ℕ) (a l : ℕ) (out : List ℕ) (j : Judged) → saveIf j order m a l out .number ≡ 0 → j ≡ judged.Passed
 save-passed order m a l out judged.Passed e = refl
@@ -37,7 +40,7 @@ unfolding loadOf
 accepted-exactly order m file a =
     record {
       if = λ (g : Loadable order m file a). rw (good-load order m file a g);
-      only = λ (e : loadOf order m file a .number ≡ 0). load-good order m file a (load-passed order m file a (judgeLoad (length m) order file a) e);
+      only = λ (e : loadOf order m file a .number ≡ 0). load-good order m file a (load-passed order m file a (countOf file) (judgeLoad (length m) order file a) e);
     }
 
 pub saved-exactly : SavedExactly
@@ -62,45 +65,60 @@ saved-whole : (order : ℕ) (m : List ℕ) (a l : ℕ) (out file : List ℕ) →
 unfolding saveOf
 saved-whole order m a l out file g e w = rw (good-save order m a l out g, e, w)
 
--- a good file that is loaded
+-- a good file that is loaded, whole or in part
 module _ (order : ℕ) (m file : List ℕ) (a : ℕ) (g : Loadable order m file a) where
-  load-memory : loadOf order m file a .memory ≡ copied (orderOf file) order (codeOf file) m a (countOf file)
+  pub load-memory : loadOf order m file a .memory ≡ copied (orderOf file) order (codeOf file) m a (countOf file)
   unfolding loadOf
   load-memory = rw (good-load order m file a g)
 
-  load-count : loadOf order m file a .count ≡ countOf file
-  unfolding loadOf
-  load-count = rw (good-load order m file a g)
+  pub first-loads : (k : ℕ)
+      → loadFirstOf order m file a k
+      ≡ loadedTo (copied (orderOf file) order (codeOf file) m a (min k (countOf file))) (loaded.Cells (cellCount (min k (countOf file))))
+  unfolding loadFirstOf
+  first-loads k = rw (good-load order m file a g)
 
--- the module of the l cells from b on, loaded
+-- the first cells of the module of the l cells from b on, loaded
 module-loads : (theirs : ℕ) (m : List ℕ) (b l : ℕ) → Bytewise m → theirs ≤ 1 → l < 2 ^ 32 → b + 4 * l ≤ length m
-    → (ours : ℕ) (lent : List ℕ) (a : ℕ) → GoodMachine (length lent) ours → GoodPlace (length lent) a l
-    → SameCells theirs m b l ours lent a (loadOf ours lent (moduleOf theirs m b l) a)
-module-loads theirs m b l low o h r ours lent a machine place =
-    let file : List ℕ = moduleOf theirs m b l in
+    → (ours : ℕ) (lent : List ℕ) (a k : ℕ) → GoodMachine (length lent) ours → GoodPlace (length lent) a l
+    → SameCells theirs m b (min k l) ours lent a (loadFirstOf ours lent (moduleOf theirs m b l) a k)
+module-loads theirs m b l low o h r ours lent a k machine place =
     let n : countOf (moduleOf theirs m b l) ≡ l = module-count theirs m b l h in
     let g : Loadable ours lent (moduleOf theirs m b l) a =
     record { machine = machine; format = module-good theirs m b l o h r; place = rw n place } in
-    let e : loadOf ours lent (moduleOf theirs m b l) a .memory ≡ copied theirs ours (take (4 * l) (drop b m)) lent a l =
-    load-memory ours lent (moduleOf theirs m b l) a g ∙ rw (n, module-order theirs m b l, module-code theirs m b l) in
-    record {
-      accepted = accepted-exactly ours lent (moduleOf theirs m b l) a .if g;
-      counted = load-count ours lent (moduleOf theirs m b l) a g ∙ n;
+    let e : loadFirstOf ours lent (moduleOf theirs m b l) a k
+    ≡ loadedTo (copied theirs ours (take (4 * l) (drop b m)) lent a (min k l)) (loaded.Cells (cellCount (min k l))) =
+    first-loads ours lent (moduleOf theirs m b l) a g k ∙ rw (n, module-order theirs m b l, module-code theirs m b l) in
+    rw e
+    (record {
+      accepted = refl;
+      counted = refl;
       cells =
-          λ (i : ℕ) (k : i < l). rw e
-          (copied-cell theirs ours (take (4 * l) (drop b m)) lent a (take-bytewise (4 * l) (drop b m) (drop-bytewise b m low)) l (place .room) i k
-          ∙ module-cell theirs m b l i k);
-      long = ap length e ∙ copied-length theirs ours (take (4 * l) (drop b m)) lent a l;
-      below = rw e (copied-apart theirs ours (take (4 * l) (drop b m)) lent a 0 a l (inr (omega arith)));
-      above = rw e (copied-apart theirs ours (take (4 * l) (drop b m)) lent a (a + 4 * l) (length lent) l (inl (omega arith)));
-    }
+          λ (i : ℕ) (j : i < min k l).
+          copied-cell theirs ours (take (4 * l) (drop b m)) lent a (take-bytewise (4 * l) (drop b m) (drop-bytewise b m low)) (min k l)
+          (omega (arith, place .room)) i j
+          ∙ module-cell theirs m b l i (omega (arith, j));
+      long = copied-length theirs ours (take (4 * l) (drop b m)) lent a (min k l);
+      below = copied-apart theirs ours (take (4 * l) (drop b m)) lent a 0 a (min k l) (inr (omega arith));
+      above = copied-apart theirs ours (take (4 * l) (drop b m)) lent a (a + 4 * min k l) (length lent) (min k l) (inl (omega arith));
+    })
+
+-- the first cells of a saved module, loaded on a machine of either byte order, are those that were saved
+pub saved-loads-first : SavedLoadsFirst
+saved-loads-first theirs m b l out low e ours lent a k machine place =
+    let g = saved-exactly theirs m b l out .only e in
+    rw (saved-file theirs m b l out g)
+    (module-loads theirs m b l low (g .machine .known) (omega (arith, g .place .room, g .machine .lent .most)) (g .place .room) ours lent a k machine place)
 
 -- a saved module loaded on a machine of either byte order, at any address where it fits, gives the same cells
 pub saved-loads : SavedLoads
 saved-loads theirs m b l out low e ours lent a machine place =
-    let g = saved-exactly theirs m b l out .only e in
-    rw (saved-file theirs m b l out g)
-    (module-loads theirs m b l low (g .machine .known) (omega (arith, g .place .room, g .machine .lent .most)) (g .place .room) ours lent a machine place)
+    let file : List ℕ = savedFile (saveOf theirs m b l out) in
+    let k : ℕ = l + countOf file in
+    let n : min k l ≡ l = omega arith in
+    let w : loadFirstOf ours lent file a k ≡ loadOf ours lent file a = first-whole ours lent file a k (omega arith) in
+    subst (λ (r : LoadResult). SameCells theirs m b l ours lent a r) w
+    (subst (λ (i : ℕ). SameCells theirs m b i ours lent a (loadFirstOf ours lent file a k)) n
+    (saved-loads-first theirs m b l out low e ours lent a k machine place))
 
 -- the part of memory that a copy of the machine's own order filled is the code part
 own-part : (m : List ℕ) (a : ℕ) (code : List ℕ) (n : ℕ) → a ≤ length m → length code ≡ n
@@ -118,7 +136,7 @@ own-module order m file a low g o =
     let s : loadOf order m file a .memory ≡ paste m a (codeOf file) (4 * countOf file) =
     load-memory order m file a g
     ∙ ap (λ (t : ℕ). copied t order (codeOf file) m a (countOf file)) o
-    ∙ copied-same m a (codeOf file) order (drop-bytewise 12 file low) (countOf file) (g .place .room) (omega (arith, w)) in
+    ∙ copied-same order (codeOf file) (drop-bytewise 12 file low) m a (countOf file) (g .place .room) (omega (arith, w)) in
     rw (s, own-part m a (codeOf file) (4 * countOf file) (omega (arith, g .place .inside)) w)
     (ap (λ (t : ℕ). headerOf t (countOf file) ++ codeOf file) (sym o)
     ∙ ap (λ (t : List ℕ). t ++ codeOf file) (header-back file (g .format) low)

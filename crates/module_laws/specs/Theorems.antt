@@ -1,4 +1,4 @@
--- What is proved of the two calls together. The proofs stand in proofs/Theorems.antt: accepted-exactly, saved-exactly, saved-loads,
+-- What is proved of loads and saves together. The proofs stand in proofs/Theorems.antt: accepted-exactly, saved-exactly, saved-loads,
 -- loaded-saves. A list of numbers stands for lent bytes where each is below 256 (Bytewise).
 use mathlib.Core.Path.{_≡_}
 use mathlib.Core.List.{List, _++_}

@@ -1,9 +1,10 @@
-// Loads modules that are cut short, run on or are damaged, loads and saves at places that do not serve, and prints what each call answers: the
-// paper's number, and the count. After some of them it prints the first bytes of the memory or the output.
+// Loads modules that are cut short, run on or are damaged, loads and saves at places that do not serve, halts loads, and prints what each call
+// answers: the paper's number, and the count. After some of them it prints the first bytes of the memory or the output.
 mod printing;
 
 use cell::Address;
 use cell::CellCount;
+use module::loading::load_first;
 use module::loading::load_object;
 use module::saving::save_object;
 use printing::print_front;
@@ -35,6 +36,15 @@ fn place(order: u8, memory: &mut [u8], file: &[u8], n: usize, address: Address) 
     if n <= memory.len() {
         print_label(b"address ", address.0 as usize);
         print_loaded(load_object(order, &mut memory[0..n], file, address));
+    }
+}
+
+// A load of the first n bytes of a file, on a machine of order 1, that halts after a number of cells.
+fn halt(memory: &mut [u8], file: &[u8], n: usize, cells: CellCount) {
+    if n <= file.len() {
+        print_label(b"first ", cells.0 as usize);
+        print_loaded(load_first(1, memory, &file[0..n], Address(0), cells));
+        print_front(memory);
     }
 }
 
@@ -80,6 +90,15 @@ fn places(memory: &mut [u8; 1024], file: &[u8; 20]) {
     place(0, memory, file, 1024, Address(0xFFFFFFFC));
     place(1, memory, file, 1024, Address(16));
     print_front(memory);
+}
+
+// Into a memory of 5Ah.
+fn halts(file: &[u8; 20]) {
+    let mut memory = [0x5Au8; 1024];
+    halt(&mut memory, file, 20, CellCount(0));
+    halt(&mut memory, file, 20, CellCount(1));
+    halt(&mut memory, file, 20, CellCount(3));
+    halt(&mut memory, file, 19, CellCount(0));
 }
 
 fn saves(memory: &[u8; 1024], output: &mut [u8; 24]) {
@@ -155,5 +174,6 @@ fn main() {
     cuts(&mut memory, &long);
     damages(&mut memory, &mut file);
     places(&mut memory, &file);
+    halts(&file);
     saves(&memory, &mut output);
 }

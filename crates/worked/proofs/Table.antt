@@ -27,12 +27,12 @@ use Rattle.pack_layout.specs.Packing.{marks, image}
 use Rattle.module_judging.specs.Format.{countOf}
 use Rattle.module_judging.specs.Grounds.{judgeLoad}
 use Rattle.module.specs.Copies.{copied}
-use Rattle.module.specs.Answers.{loadOf}
+use Rattle.module.specs.Answers.{loadOf, loadFirstOf}
 use Rattle.worked.specs.Rows.{tableHolds}
 use Rattle.worked.specs.Table.{table}
 
 pub worked-on-paper : tableHolds table ≡ true
 unfolding tableHolds cellAt storeCell sum difference negated symmetricOf flooredOf asr8 placeOf fetchOf placesOf storedOf commitOf handlerOf throwOf
     nextOf finishOf plainOf plusEnds takingOf decodeOf executeOf cycleOf advance cyclesOf startOf judgeMachine startAnswer cycleAnswer doneOf runAnswer classOf
-    fits pack any entry judgedFrom judgedListing judgedArrays cur word cells rounds settle settled marks image countOf judgeLoad copied loadOf
+    fits pack any entry judgedFrom judgedListing judgedArrays cur word cells rounds settle settled marks image countOf judgeLoad copied loadOf loadFirstOf
 worked-on-paper = refl

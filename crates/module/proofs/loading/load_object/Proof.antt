@@ -1,86 +1,23 @@
 use borrow.Author.Needs.{needs}
 use Rattle.module.proofs.loading.load_object.Statement.{statement}
 use Rattle.module.proofs.loading.load_object.Tie as tie
-use lib.ListN.{length-drop}
 use native.Mathlib.Omega.{arith}
-use mathlib.Core.Path.{sym, _∙_}
-use Rattle.module.proofs.AnswerLaws.{load-result}
-use Rattle.module_judging.proofs.ConditionLaws.{load-good}
-use Rattle.module.specs.Answers as answers
+use mathlib.Core.Path.{_∙_}
+use Rattle.cell.specs.Memory as mem
+use Rattle.module.proofs.AnswerLaws.{count-below, first-whole}
 
-judge-load-requires : tie.Need-judge-load-requires
-judge-load-requires c κs = search needs
-
-enum-known-r : tie.Need-enum-known-r
-enum-known-r c = search needs
-
-enum-told : tie.Need-enum-told
-enum-told c = search needs
-
-count-of-requires : tie.Need-count-of-requires
-count-of-requires c κs =
-    let g = load-good (c .before .before .before .before .before .args .order) (c .before .before .before .before .before .args .memory .now)
-    (c .before .before .before .before .before .args .file .now) (c .before .before .before .before .before .args .address .0) (sym
-    (c .before .before .judge-load .ensures) ∙ c .enum-told .given .1) in omega (arith, g .format .whole)
-
-shared-slice-read-copy-cells : tie.Need-shared-slice-read-copy-cells
-shared-slice-read-copy-cells c =
-    let g = load-good (c .before .before .before .before .before .before .before .args .order)
-    (c .before .before .before .before .before .before .before .args .memory .now) (c .before .before .before .before .before .before .before .args .file .now)
-    (c .before .before .before .before .before .before .before .args .address .0) (sym (c .before .before .before .before .judge-load .ensures) ∙
-    c .before .before .enum-told .given .1) in omega (arith, g .format .whole)
-
-code-of-requires : tie.Need-code-of-requires
-code-of-requires c κs =
-    let g = load-good (c .before .before .before .before .before .before .before .args .order)
-    (c .before .before .before .before .before .before .before .args .memory .now) (c .before .before .before .before .before .before .before .args .file .now)
-    (c .before .before .before .before .before .before .before .args .address .0) (sym (c .before .before .before .before .judge-load .ensures) ∙
-    c .before .before .enum-told .given .1) in omega (arith, g .format .whole)
-
-copy-cells-requires : tie.Need-copy-cells-requires
-copy-cells-requires c κs =
-    let g = load-good (c .before .before .before .before .before .before .before .before .before .args .order)
-    (c .before .before .before .before .before .before .before .before .before .args .memory .now)
-    (c .before .before .before .before .before .before .before .before .before .args .file .now)
-    (c .before .before .before .before .before .before .before .before .before .args .address .0) (sym
-    (c .before .before .before .before .before .before .judge-load .ensures) ∙ c .before .before .before .before .enum-told .given .1) in rw
-    (c .before .before .before .count-of .ensures, c .before .code-of .ensures) (
-      simp length-drop (omega (arith, g .format .whole)),
-      omega (
-        arith,
-        g .place .room,
-      ),
-    )
-
-returns : tie.Need-returns
-unfolding answers.loadOf
-returns c = rw (sym (c .before .before .before .judge-load .ensures) ∙ c .before .r .given .1)
+load-first-requires : tie.Need-load-first-requires
+load-first-requires c κs = search needs
 
 same-length : tie.Need-same-length
 same-length c = search needs
 
-returns-2 : tie.Need-returns-2
-returns-2 c =
-    load-result (c .before .before .before .before .before .before .before .before .before .before .before .before .args .order)
-    (c .before .before .before .before .before .before .before .before .before .before .before .before .args .memory .now)
-    (c .before .before .before .before .before .before .before .before .before .before .before .before .args .file .now)
-    (c .before .before .before .before .before .before .before .before .before .before .before .before .args .address .0)
-    (c .before .before .before .before .before .before .count-of .result) _ _ (sym
-    (c .before .before .before .before .before .before .before .before .before .judge-load .ensures) ∙
-    c .before .before .before .before .before .before .before .enum-told .given .1) (c .before .before .before .before .before .before .count-of .ensures)
-    (c .before .before .before .before .code-of .ensures) (c .before .before .copy-cells .ensures)
+returns : tie.Need-returns
+unfolding mem.Bytewise
+returns c =
+    let x = c .before .before .before .before .before .before .args in
+    let h = count-below (x .file .now) (λ i. c .before .before .before .before .shared-slice-known .given i .fits) in
+    c .before .before .load-first .ensures ∙ first-whole (x .order) (x .memory .now) (x .file .now) (x .address .0) 0xFFFFFFFF (omega (arith, h))
 
 pub load-object-spec : {M : Type 1} → statement M
-load-object-spec =
-    tie.close
-    (tie.spec
-    judge-load-requires
-    enum-known-r
-    enum-told
-    count-of-requires
-    shared-slice-read-copy-cells
-    code-of-requires
-    copy-cells-requires
-    returns
-    same-length
-    returns-2)
+load-object-spec = tie.close (tie.spec load-first-requires same-length returns)
