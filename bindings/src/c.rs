@@ -41,6 +41,17 @@ extern "C" {
         out: *mut u32,
         out_length: usize,
     ) -> u32;
+    pub fn beetle_load_first(
+        order: u8,
+        memory: *mut u8,
+        memory_length: usize,
+        file: *const u8,
+        file_length: usize,
+        address: u32,
+        cells: u32,
+        out: *mut u32,
+        out_length: usize,
+    ) -> u32;
     pub fn beetle_save(
         order: u8,
         memory: *const u8,

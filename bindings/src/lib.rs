@@ -49,6 +49,21 @@ pub fn load(order: u8, memory: &mut [u8], file: &[u8], address: u32, out: &mut [
     unsafe { c::beetle_load(order, m, m_length, f, f_length, address, o, o_length) }
 }
 
+pub fn load_first(
+    order: u8,
+    memory: &mut [u8],
+    file: &[u8],
+    address: u32,
+    cells: u32,
+    out: &mut [u32],
+) -> u32 {
+    let (m, m_length) = (memory.as_mut_ptr(), memory.len());
+    let (f, f_length) = (file.as_ptr(), file.len());
+    let (o, o_length) = (out.as_mut_ptr(), out.len());
+    // SAFETY: as above.
+    unsafe { c::beetle_load_first(order, m, m_length, f, f_length, address, cells, o, o_length) }
+}
+
 pub fn save(
     order: u8,
     memory: &[u8],

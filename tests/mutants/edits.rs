@@ -1,7 +1,7 @@
 /// A wrong implementation: the reference with one edit.
 pub struct Mutant {
-    /// The group of suites that finds it; or demand3, budgets: what it breaks by itself, with no
-    /// second implementation to compare.
+    /// The group of suites that finds it; or demand3, budgets, firsts: what it breaks by itself, with
+    /// no second implementation to compare.
     pub group: &'static str,
     pub name: &'static str,
     pub file: &'static str,
@@ -163,7 +163,7 @@ pub const MUTANTS: &[Mutant] = &[
     mutant("modules", "the count's size wraps", "module.rs",
         "let length = 12 + 4 * u64::from(cells);", "let length = u64::from(12_u32.wrapping_add(cells.wrapping_mul(4)));"),
     mutant("modules", "a count in the machine's order", "calls.rs",
-        "let module = module::read(file)?;\n        let cells = module.code.len() / 4;", "let module = module::read(file)?;\n        let cells = order.cell_of([file[8], file[9], file[10], file[11]]) as usize;\n        demand(12 + 4 * cells as u64 == file.len() as u64, Refusal::FileLength)?;"),
+        "let module = module::read(file)?;\n        let all = module.code.len() / 4;", "let module = module::read(file)?;\n        let all = order.cell_of([file[8], file[9], file[10], file[11]]) as usize;\n        demand(12 + 4 * all as u64 == file.len() as u64, Refusal::FileLength)?;"),
     mutant("modules", "an empty module at MEMORY is taken", "module.rs",
         "let inside = address < length && address", "let inside = address"),
     mutant("modules", "-1 before -4104", "module.rs",
@@ -177,6 +177,25 @@ pub const MUTANTS: &[Mutant] = &[
         "output[..file.len()].copy_from_slice(&file);", "output[..file.len()].copy_from_slice(&file);\n        output[file.len()..].fill(0);"),
     mutant("modules", "save always in order 0", "module.rs",
         "file.push(order.number());", "file.push(0);"),
+    // Loads that halt
+    mutant("modules", "a load that halts clears the cells after it", "calls.rs",
+        "        let first = all.min(cells as usize);", "        let first = all.min(cells as usize);\n        memory[at + 4 * first..at + 4 * all].fill(0);"),
+    mutant("modules", "out asked for only where a cell goes in", "calls.rs",
+        "        room(out, 1)?;\n        let first = all.min(cells as usize);\n        module::copy_in(order, memory, &module, at, first);\n        out[0] = first as u32;",
+        "        let first = all.min(cells as usize);\n        if first == 0 {\n            out.iter_mut().take(1).for_each(|count| *count = 0);\n            return Ok(WENT_ON);\n        }\n        room(out, 1)?;\n        module::copy_in(order, memory, &module, at, first);\n        out[0] = first as u32;"),
+    mutant("firsts", "one cell too many", "calls.rs",
+        "module::copy_in(order, memory, &module, at, first);", "module::copy_in(order, memory, &module, at, first + 1);"),
+    mutant("firsts", "the last cell first", "module.rs",
+        "    let first = module.code.chunks(4).take(cells);\n    for (to, from) in memory[at..].chunks_mut(4).zip(first) {",
+        "    let skipped = module.code.len() / 4 - cells;\n    let first = module.code.chunks(4).skip(skipped);\n    for (to, from) in memory[at + 4 * skipped..].chunks_mut(4).zip(first) {"),
+    mutant("firsts", "the cells asked for answered", "calls.rs",
+        "out[0] = first as u32;", "out[0] = if all > 0 { cells } else { 0 };"),
+    mutant("firsts", "a load of no cell is not refused", "calls.rs",
+        "        let module = module::read(file)?;\n        let all", "        if cells == 0 && !out.is_empty() {\n            out[0] = 0;\n            return Ok(WENT_ON);\n        }\n        let module = module::read(file)?;\n        let all"),
+    mutant("firsts", "the place judged for the cells that go in", "calls.rs",
+        "module::place(memory, address, all as u64)?", "module::place(memory, address, u64::from(cells).min(all as u64))?"),
+    mutant("firsts", "cells turned after the last one has gone in", "module.rs",
+        "if module.order != order {", "if module.order != order && 4 * cells == module.code.len() {"),
     // The packer and the list machine
     mutant("packer", "a branch measured from its own cell", "packer.rs",
         "target - layout.placements[item].ep as i64", "target - layout.placements[item].cell as i64"),

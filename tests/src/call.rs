@@ -9,13 +9,14 @@ pub type ListRun = fn(u8, &[u8], &[u32], u32, &mut [u8], &mut [u32], u32, &mut [
 pub type ListResume =
     fn(u8, &[u8], &[u32], u32, &mut [u8], u32, u8, &mut [u32], u32, &mut [u32]) -> u32;
 
-/// The nine calls of the interface.
+/// The ten calls of the interface.
 #[derive(Clone, Copy)]
 pub struct Implementation {
     pub start: fn(u8, &mut [u8], u32, u32, &mut [u32], &mut [u32]) -> u32,
     pub cycle: fn(u8, &mut [u8], &mut [u32], &mut [u32]) -> u32,
     pub run: fn(u8, &mut [u8], &mut [u32], u32, &mut [u32]) -> u32,
     pub load: fn(u8, &mut [u8], &[u8], u32, &mut [u32]) -> u32,
+    pub load_first: fn(u8, &mut [u8], &[u8], u32, u32, &mut [u32]) -> u32,
     pub save: fn(u8, &[u8], u32, u32, &mut [u8], &mut [u32]) -> u32,
     pub pack: fn(u8, &[u8], &[u32], u32, &mut [u8], &mut [u32]) -> u32,
     pub pack_file: fn(u8, &[u8], &mut [u8], &mut [u32]) -> u32,
@@ -32,6 +33,7 @@ macro_rules! implementation {
             cycle: $($module)::+::cycle,
             run: $($module)::+::run,
             load: $($module)::+::load,
+            load_first: $($module)::+::load_first,
             save: $($module)::+::save,
             pack: $($module)::+::pack,
             pack_file: $($module)::+::pack_file,
@@ -58,6 +60,7 @@ pub enum Entry {
     Cycle,
     Run,
     Load,
+    LoadFirst,
     Save,
     Pack,
     PackFile,
@@ -70,7 +73,7 @@ pub enum Entry {
 pub struct Call {
     pub entry: Entry,
     pub order: u8,
-    /// start: EP, handler; run: budget; load: address; save: address, cells; pack: base;
+    /// start: EP, handler; run: budget; load: address; load_first, save: address, cells; pack: base;
     /// list_run: base, items; list_resume: base, items, item, ran (its low byte).
     pub numbers: [u32; 4],
     pub memory: Vec<u8>,
@@ -178,6 +181,7 @@ impl Arrays {
             Entry::Cycle => (to.cycle)(order, m, r, o),
             Entry::Run => (to.run)(order, m, r, x, o),
             Entry::Load => (to.load)(order, m, f, x, o),
+            Entry::LoadFirst => (to.load_first)(order, m, f, x, y, o),
             Entry::Save => (to.save)(order, m, x, y, w, o),
             Entry::Pack => (to.pack)(order, k, v, x, w, o),
             Entry::PackFile => (to.pack_file)(order, f, w, o),

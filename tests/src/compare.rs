@@ -7,6 +7,7 @@ use crate::call::{agree, perform, Call, Implementation};
 use crate::cases::{listings, modules, processor, rules};
 use crate::cuts;
 use crate::demand3::follow;
+use crate::firsts::{self, Firsts};
 use crate::random::Random;
 use crate::shrink::{call_text, returned_text, smallest};
 
@@ -33,12 +34,13 @@ const fn suite(
     }
 }
 
-pub const SUITES: [Suite; 13] = [
+pub const SUITES: [Suite; 14] = [
     suite("cycles", "processor", 400_000, processor::cycle),
     suite("starts", "processor", 20_000, processor::start),
     suite("runs", "processor", 40_000, processor::run),
     suite("large memories", "processor", 24, processor::large),
     suite("loads", "modules", 60_000, modules::load),
+    suite("first cells", "modules", 60_000, modules::load_first),
     suite("saves", "modules", 60_000, modules::save),
     suite("large modules", "modules", 24, modules::large),
     suite("packs", "packer", 20_000, listings::pack),
@@ -76,7 +78,7 @@ pub struct Difference {
     pub call: Box<Call>,
 }
 
-/// A case that breaks a claim about runs in parts, told with what differs.
+/// A case that breaks a claim about runs or loads in parts, told with what differs.
 fn broken(name: &str, index: u32, why: &str, call: &Call) -> String {
     format!("{name}, case {index}: {why}\n{}", call_text(call))
 }
@@ -167,6 +169,18 @@ pub fn try_budgets(implementation: &Implementation, runs: u32) -> Result<Budgets
         let call = processor::run(&mut random, index);
         budgets::try_run(implementation, &mut random, &call, &mut tally)
             .map_err(|why| broken("budgets", index, &why, &call))?;
+    }
+    Ok(tally)
+}
+
+/// Holds loads that halt against the whole loads; the error is the first that shows a difference.
+pub fn try_firsts(implementation: &Implementation, loads: u32) -> Result<Firsts, String> {
+    let mut random = Random::new(6);
+    let mut tally = Firsts::default();
+    for index in 0..loads {
+        let call = modules::load_first(&mut random, index);
+        firsts::try_load(implementation, &mut random, &call, &mut tally)
+            .map_err(|why| broken("halts", index, &why, &call))?;
     }
     Ok(tally)
 }

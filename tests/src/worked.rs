@@ -130,6 +130,31 @@ pub fn counting(calls: &Implementation) {
     assert_eq!(counted(calls, 0, 0x10, 0x10), None);
 }
 
+/// Two cells of a file of order 0, a load told to halt after so many: the count, and eight bytes.
+fn halted(calls: &Implementation, order: u8, cells: u32) -> (u32, Vec<u8>) {
+    let mut memory = vec![0x5A; 0x400];
+    let file = b"BEETLE\0\0\x02\0\0\0\x55\0\0\0\x04\x03\x02\x01";
+    let mut out = [0xFFFF_FFFF];
+    let answer = (calls.load_first)(order, &mut memory, file, 0x10, cells, &mut out);
+    assert_eq!(answer, 0, "the module is loaded");
+    (out[0], memory[0x10..0x18].to_vec())
+}
+
+pub fn halting(calls: &Implementation) {
+    let lent = [0x5A; 4];
+    let in_order = [
+        (0, [0x55, 0, 0, 0], [4, 3, 2, 1]),
+        (1, [0, 0, 0, 0x55], [1, 2, 3, 4]),
+    ];
+    for (order, first, second) in in_order {
+        assert_eq!(halted(calls, order, 0), (0, [lent, lent].concat()));
+        assert_eq!(halted(calls, order, 1), (1, [first, lent].concat()));
+        for cells in [2, 3, u32::MAX] {
+            assert_eq!(halted(calls, order, cells), (2, [first, second].concat()));
+        }
+    }
+}
+
 pub fn loading(calls: &Implementation) {
     let mut memory = vec![0xFF; 0x400];
     let file = b"BEETLE\0\0\x01\0\0\0\x55\0\0\0";

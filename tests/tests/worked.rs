@@ -7,6 +7,7 @@ fn all_rows(implementation: &Implementation) {
     worked::running(implementation);
     worked::counting(implementation);
     worked::loading(implementation);
+    worked::halting(implementation);
     worked::packing(implementation);
 }
 

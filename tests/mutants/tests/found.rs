@@ -2,7 +2,7 @@
 //! the default number of cases, and the reference is not told from itself.
 
 use beetle_tests::call::{reference, Implementation};
-use beetle_tests::compare::{compare, explain, try_budgets, try_cuts, try_rules};
+use beetle_tests::compare::{compare, explain, try_budgets, try_cuts, try_firsts, try_rules};
 use beetle_tests::compare::{Difference, RULES, SUITES};
 use beetle_tests::implementation;
 
@@ -31,6 +31,7 @@ fn every_mutant_is_found() {
     for (group, name, mutant) in mutants() {
         let by = match group {
             "budgets" => try_budgets(&mutant, RULES).err(),
+            "firsts" => try_firsts(&mutant, RULES).err(),
             _ => found(group, &mutant).map(|by| format!("{}, case {}", by.name, by.index)),
         };
         match by {
@@ -62,13 +63,13 @@ fn the_reference_agrees_with_itself() {
 
 #[test]
 fn runs_of_the_reference_can_be_cut() {
-    let cut = try_cuts(&reference(), RULES / 4).ok().expect("a cut run");
+    let cut = try_cuts(&reference(), RULES / 4).expect("a cut run");
     assert!(cut > RULES / 16);
 }
 
 #[test]
 fn budgets_of_the_reference_can_be_cut_and_raised() {
-    let runs = try_budgets(&reference(), RULES / 4).ok().expect("budgets");
+    let runs = try_budgets(&reference(), RULES / 4).expect("budgets");
     println!("{runs:?}");
     for kind in [
         runs.spent_twice,
@@ -76,6 +77,15 @@ fn budgets_of_the_reference_can_be_cut_and_raised() {
         runs.stopped_at_once,
         runs.refused,
     ] {
+        assert!(kind > RULES / 400);
+    }
+}
+
+#[test]
+fn loads_of_the_reference_can_halt() {
+    let loads = try_firsts(&reference(), RULES / 4).expect("halts");
+    println!("{loads:?}");
+    for kind in [loads.halted, loads.whole, loads.refused] {
         assert!(kind > RULES / 400);
     }
 }

@@ -5,7 +5,7 @@ use std::time::Instant;
 
 use beetle_tests::call::{library, reference, Implementation};
 use beetle_tests::compare::{
-    compare, explain, explain_rule, raised, try_budgets, try_cuts, try_rules,
+    compare, explain, explain_rule, raised, try_budgets, try_cuts, try_firsts, try_rules,
 };
 use beetle_tests::compare::{RULES, SUITES};
 
@@ -40,11 +40,19 @@ fn budgets(name: &str, implementation: &Implementation) -> bool {
     report(&format!("budgets, {name}"), since, result)
 }
 
+/// Loads that halt, and loads further.
+fn halts(name: &str, implementation: &Implementation) -> bool {
+    let since = Instant::now();
+    let result = try_firsts(implementation, raised(RULES));
+    report(&format!("halts, {name}"), since, result)
+}
+
 fn main() -> ExitCode {
     let (reference, library) = (reference(), library());
     let mut good = demand_3("reference", &reference);
     good &= cuts("reference", &reference);
     good &= budgets("reference", &reference);
+    good &= halts("reference", &reference);
     for suite in &SUITES {
         let since = Instant::now();
         let result = compare(suite, &reference, &library, raised(suite.cases));
@@ -54,6 +62,7 @@ fn main() -> ExitCode {
     good &= demand_3("library", &library);
     good &= cuts("library", &library);
     good &= budgets("library", &library);
+    good &= halts("library", &library);
     if good {
         ExitCode::SUCCESS
     } else {

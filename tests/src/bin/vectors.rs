@@ -1,9 +1,12 @@
 //! Checks the reference, and the library where it is linked, against vectors: those of the folder
-//! `vectors`, or a file that is named: `vectors cycles FILE`, `vectors listings FILE`.
+//! `vectors`, or a file that is named: `vectors cycles FILE`, `vectors listings FILE`,
+//! `vectors firsts FILE`.
 //!
 //! A cycle is a line of order, EP, A, SP, RP and memory, `=`, the answer (`on`, or `stop` and the
 //! reason in decimal), the registers afterwards, and each changed byte as `address:byte`. A listing
-//! is a line of a file's bytes (`-` for none), `=`, and the cells or the refusal's number.
+//! is a line of a file's bytes (`-` for none), `=`, and the cells or the refusal's number. A load that
+//! halts is a line of order, length of a memory of 5Ah, file, address and cells, `=`, and `refused` with
+//! the number, or the cells loaded and each changed byte.
 
 #[cfg(feature = "library")]
 use beetle_tests::call::library;
@@ -16,7 +19,7 @@ struct Kind {
     agrees: fn(&Implementation, &str) -> bool,
 }
 
-const KINDS: [Kind; 2] = [
+const KINDS: [Kind; 3] = [
     Kind {
         name: "cycles",
         files: &["cycles.txt", "plusloops.txt"],
@@ -26,6 +29,11 @@ const KINDS: [Kind; 2] = [
         name: "listings",
         files: &["listings.txt"],
         agrees: listing_agrees,
+    },
+    Kind {
+        name: "firsts",
+        files: &["firsts.txt"],
+        agrees: first_agrees,
     },
 ];
 
@@ -38,6 +46,23 @@ fn bytes(word: &str) -> Vec<u8> {
     digits
         .map(|pair| std::str::from_utf8(pair).expect("two digits"))
         .map(|pair| u8::from_str_radix(pair, 16).expect("a hexadecimal byte"))
+        .collect()
+}
+
+/// The bytes of a word, `-` for none.
+fn bytes_or_none(word: &str) -> Vec<u8> {
+    if word == "-" {
+        Vec::new()
+    } else {
+        bytes(word)
+    }
+}
+
+/// Each byte that changed, after its address.
+fn changes(before: &[u8], after: &[u8]) -> Vec<String> {
+    let changed = (0..after.len()).filter(|at| after[*at] != before[*at]);
+    changed
+        .map(|at| format!("{at:X}:{:02X}", after[at]))
         .collect()
 }
 
@@ -62,18 +87,13 @@ fn cycle_agrees(calls: &Implementation, line: &str) -> bool {
         refusal => vec![(refusal as i32).to_string()],
     };
     told.extend(registers.iter().map(|register| format!("{register:X}")));
-    let changed = (0..memory.len()).filter(|at| memory[*at] != before[*at]);
-    told.extend(changed.map(|at| format!("{at:X}:{:02X}", memory[at])));
+    told.extend(changes(&before, &memory));
     told == expected
 }
 
 fn listing_agrees(calls: &Implementation, line: &str) -> bool {
     let (given, expected) = sides(line);
-    let file = if given[0] == "-" {
-        Vec::new()
-    } else {
-        bytes(given[0])
-    };
+    let file = bytes_or_none(given[0]);
     let mut output = vec![0; 4 * 8192];
     let mut out = [0];
     let answer = (calls.pack_file)(0, &file, &mut output, &mut out);
@@ -86,6 +106,24 @@ fn listing_agrees(calls: &Implementation, line: &str) -> bool {
     } else {
         vec![(answer as i32).to_string()]
     };
+    told == expected
+}
+
+fn first_agrees(calls: &Implementation, line: &str) -> bool {
+    let (given, expected) = sides(line);
+    let order = hexadecimal(given[0]) as u8;
+    let before = vec![0x5A; hexadecimal(given[1]) as usize];
+    let file = bytes_or_none(given[2]);
+    let (address, cells) = (hexadecimal(given[3]), hexadecimal(given[4]));
+    let mut memory = before.clone();
+    let mut out = [0];
+    let answer = (calls.load_first)(order, &mut memory, &file, address, cells, &mut out);
+    let mut told = if answer == 0 {
+        vec![format!("{:X}", out[0])]
+    } else {
+        vec!["refused".to_string(), (answer as i32).to_string()]
+    };
+    told.extend(changes(&before, &memory));
     told == expected
 }
 
@@ -137,7 +175,7 @@ fn check_all(name: &str, calls: &Implementation, files: &[(&Kind, String)]) -> b
 fn main() {
     let words: Vec<String> = std::env::args().skip(1).collect();
     let Some(files) = chosen(&words) else {
-        eprintln!("usage: vectors [cycles FILE | listings FILE]");
+        eprintln!("usage: vectors [cycles FILE | listings FILE | firsts FILE]");
         std::process::exit(2);
     };
     let good = check_all("reference", &reference(), &files);

@@ -62,14 +62,28 @@ fn corrupt(random: &mut Random, file: &mut Vec<u8>) {
     }
 }
 
-/// A load: of a good module, or of one that was cut, extended or corrupted.
-pub fn load(random: &mut Random, _: u32) -> Call {
-    let mut call = Call::new(Entry::Load);
+/// How many cells of so many go in before a load is told to halt.
+fn halt(random: &mut Random, cells: u32) -> u32 {
+    match random.below(8) {
+        0 => 0,
+        1 => cells,
+        2 => cells.wrapping_sub(1),
+        3 => cells + 1,
+        4 => random.choose(&[0xFFFF_FFFF, 0x4000_0000, 0x4000_0001, 0x8000_0000]),
+        5 => random.cell(),
+        _ => random.below(cells.max(1)),
+    }
+}
+
+/// A load of a good module, or of one that was cut, extended or corrupted, told where to halt.
+pub fn load_first(random: &mut Random, _: u32) -> Call {
+    let mut call = Call::new(Entry::LoadFirst);
     call.order = random.below(2) as u8;
     let length = memory_length(random);
     fill_memory(random, &mut call, length);
     let cells = cell_count(random, length as u32);
     call.numbers[0] = address(random, length as u32, cells);
+    call.numbers[1] = halt(random, cells);
     call.file = b"BEETLE\0".to_vec();
     let order = random.below(2) as u8;
     call.file.push(order);
@@ -85,6 +99,14 @@ pub fn load(random: &mut Random, _: u32) -> Call {
     if random.one_in(10) {
         damage(random, &mut call);
     }
+    call
+}
+
+/// The same with no halt.
+pub fn load(random: &mut Random, index: u32) -> Call {
+    let mut call = load_first(random, index);
+    call.entry = Entry::Load;
+    call.numbers[1] = 0;
     call
 }
 
@@ -123,10 +145,10 @@ pub fn save(random: &mut Random, _: u32) -> Call {
 
 /// Loads and saves at the end of the greatest memory, or of one just too long.
 pub fn large(random: &mut Random, index: u32) -> Call {
-    let mut call = if index.is_multiple_of(2) {
-        load(random, index)
-    } else {
-        save(random, index)
+    let mut call = match index % 3 {
+        0 => load(random, index),
+        1 => load_first(random, index),
+        _ => save(random, index),
     };
     let old = call.memory.len() as u32;
     let length = if index % 8 < 6 {

@@ -1,4 +1,4 @@
-//! The nine calls of the C interface: refusals in document 01's order, -4105 last; what is lent
+//! The ten calls of the C interface: refusals in document 01's order, -4105 last; what is lent
 //! is written on success only.
 
 use super::instructions::Registers;
@@ -124,15 +124,28 @@ pub fn run(
 }
 
 pub fn load(order: u8, memory: &mut [u8], file: &[u8], address: u32, out: &mut [u32]) -> u32 {
+    load_first(order, memory, file, address, u32::MAX, out)
+}
+
+/// A load that is told to halt after a number of cells (document 02, (c)).
+pub fn load_first(
+    order: u8,
+    memory: &mut [u8],
+    file: &[u8],
+    address: u32,
+    cells: u32,
+    out: &mut [u32],
+) -> u32 {
     number((|| {
         memory_length(memory)?;
         let order = byte_order(order)?;
         let module = module::read(file)?;
-        let cells = module.code.len() / 4;
-        let at = module::place(memory, address, cells as u64)?;
+        let all = module.code.len() / 4;
+        let at = module::place(memory, address, all as u64)?;
         room(out, 1)?;
-        module::copy_in(order, memory, &module, at);
-        out[0] = cells as u32;
+        let first = all.min(cells as usize);
+        module::copy_in(order, memory, &module, at, first);
+        out[0] = first as u32;
         Ok(WENT_ON)
     })())
 }

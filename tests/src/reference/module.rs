@@ -37,10 +37,10 @@ pub fn place(memory: &[u8], address: u32, cells: u64) -> Result<usize, Refusal> 
     Ok(address as usize)
 }
 
-/// Copies the code to its place, each cell reversed where the orders differ.
-pub fn copy_in(order: Order, memory: &mut [u8], module: &Module<'_>, at: usize) {
-    let target = &mut memory[at..at + module.code.len()];
-    for (to, from) in target.chunks_mut(4).zip(module.code.chunks(4)) {
+/// Copies the first cells of the code to their place, each reversed where the orders differ.
+pub fn copy_in(order: Order, memory: &mut [u8], module: &Module<'_>, at: usize, cells: usize) {
+    let first = module.code.chunks(4).take(cells);
+    for (to, from) in memory[at..].chunks_mut(4).zip(first) {
         to.copy_from_slice(from);
         if module.order != order {
             to.reverse();
