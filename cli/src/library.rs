@@ -124,6 +124,20 @@ pub fn load(order: u8, memory: &mut [u8], file: &[u8], address: u32) -> Result<u
     Ok(out[0])
 }
 
+/// Loads at most so many cells of a module, first cell first: their number.
+pub fn load_first(
+    order: u8,
+    memory: &mut [u8],
+    file: &[u8],
+    address: u32,
+    cells: u32,
+) -> Result<u32, Failure> {
+    let mut out = [0];
+    let answer = beetle_bindings::load_first(order, memory, file, address, cells, &mut out);
+    accepted(answer)?;
+    Ok(out[0])
+}
+
 /// Saves cells from an address on: the module's file.
 pub fn save(order: u8, memory: &[u8], address: u32, cells: u32) -> Result<Vec<u8>, Failure> {
     let (mut file, mut out) = (vec![0; 12 + memory.len()], [0]);

@@ -29,7 +29,7 @@ beetle COMMAND ..
   show RULE.lst                   the listing and its packed cells, side by side
   pack RULE.lst                   the packed cells
   save RULE.lst -o RULE.mod       the packed cells as an object module
-  load MODULE                     the cells of a module
+  load MODULE                     the cells of a module, all or the first of them
   run MODULE                      a module, run until it stops
   follow RULE.lst                 the listing, carried out item by item
 

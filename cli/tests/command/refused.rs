@@ -84,6 +84,7 @@ fn cut_and_misplaced_modules() {
         let number = if length < 8 { "-2" } else { "-4103" };
         let error = format!("refused with {number}: ");
         is_refused(&folder, "load cut.mod", 1, &error);
+        is_refused(&folder, "load cut.mod --first 0", 1, &error);
         is_refused(&folder, "run cut.mod", 1, &error);
     }
     let rows = [
@@ -97,6 +98,12 @@ fn cut_and_misplaced_modules() {
     for (words, number) in rows {
         let error = format!("refused with {number}: ");
         is_refused(&folder, &format!("run rule.mod {words}"), 1, &error);
+        is_refused(
+            &folder,
+            &format!("load rule.mod --first 1 {words}"),
+            1,
+            &error,
+        );
     }
 }
 

@@ -68,6 +68,26 @@ fn bytes_in_both_orders() {
 }
 
 #[test]
+fn a_load_that_halts() {
+    let folder = Folder::new("halts");
+    folder.rule("2 3 + HALT");
+    let whole = "3 cells at 10h\n00000010  00000253 00000353 0000551E\n";
+    assert_eq!(folder.done("load rule.mod"), whole);
+    for order in [0, 1] {
+        let first =
+            |cells: &str| folder.done(&format!("load rule.mod --order {order} --first {cells}"));
+        assert_eq!(first("0"), "0 of 3 cells at 10h\n");
+        assert_eq!(
+            first("2"),
+            "2 of 3 cells at 10h\n00000010  00000253 00000353\n"
+        );
+        for all in ["3", "4", "0FFFFFFFFh"] {
+            assert_eq!(first(all), format!("3 of {whole}"));
+        }
+    }
+}
+
+#[test]
 fn divisions() {
     let folder = Folder::new("divisions");
     for (text, left) in [("-7 2 /MOD 0 HALT", "-4"), ("-7 2 S/REM 0 HALT", "-3")] {
