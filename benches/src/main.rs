@@ -14,14 +14,19 @@ use std::process::ExitCode;
 
 use sides::Side;
 
-/// `count SIDE LOOP CYCLES`: runs a loop and nothing else, for callgrind to count.
+/// `count SIDE loop AT CYCLES` runs a loop, `count SIDE module AT TIMES` loads or saves, and does
+/// nothing else, for callgrind to count.
 fn count(words: &[String]) -> Option<()> {
-    let [_, side, at, cycles] = words else {
+    let [_, side, what, at, amount] = words else {
         return None;
     };
     let calls = Side::named(side)?.calls();
-    let looping = loops::LOOPS.get(at.parse::<usize>().ok()?)?;
-    loops::run(&calls, looping, cycles.parse().ok()?);
+    let (at, amount) = (at.parse().ok()?, amount.parse().ok()?);
+    match what.as_str() {
+        "loop" => drop(loops::run(&calls, loops::LOOPS.get(at)?, amount)),
+        "module" => modules::repeat(&calls, at, amount)?,
+        _ => return None,
+    }
     Some(())
 }
 
@@ -31,7 +36,7 @@ fn main() -> ExitCode {
         None => {
             cycles::table();
             packing::table();
-            modules::table();
+            modules::tables();
             Some(())
         }
         Some("count") => count(&words),

@@ -22,24 +22,23 @@ pub fn nanoseconds<const N: usize>(mut acts: [impl FnMut(); N]) -> [f64; N] {
     shortest
 }
 
-/// Two budgets: their difference in instructions is that of the cycles alone.
-const BUDGETS: [u32; 2] = [100_000, 1_100_000];
-
-/// Instructions a cycle of a loop, if valgrind is installed.
-pub fn instructions(side: Side, at: usize) -> Option<f64> {
-    let [few, many] = BUDGETS;
-    let fewer = counted(side, at, few)?;
-    let more = counted(side, at, many)?;
+/// Instructions a cycle of a loop, or a load or save of a module, if valgrind is installed: the
+/// difference between two amounts, so that what is done once does not count.
+pub fn instructions(side: Side, what: &str, at: usize, amounts: [u32; 2]) -> Option<f64> {
+    let [few, many] = amounts;
+    let fewer = counted(side, what, at, few)?;
+    let more = counted(side, what, at, many)?;
     Some((more - fewer) as f64 / f64::from(many - few))
 }
 
-/// The instructions of a child process that runs a loop for so many cycles; none without valgrind.
-fn counted(side: Side, at: usize, cycles: u32) -> Option<u64> {
+/// The instructions of a child process that does so much; none without valgrind.
+fn counted(side: Side, what: &str, at: usize, amount: u32) -> Option<u64> {
     let program = env::current_exe().expect("this program's own file");
     let output = Command::new("valgrind")
         .args(["--tool=callgrind", "--callgrind-out-file=/dev/null"])
         .arg(program)
-        .args(["count", side.name(), &at.to_string(), &cycles.to_string()])
+        .args(["count", side.name(), what])
+        .args([&at.to_string(), &amount.to_string()])
         .output()
         .ok()?;
     let text = String::from_utf8_lossy(&output.stderr);

@@ -1,18 +1,39 @@
-//! Loading and saving a megabyte.
+//! Loading and saving modules of a megabyte, and of the greatest memory.
 
 use std::hint::black_box;
 
 use beetle_tests::call::Implementation;
 
-use crate::measure::nanoseconds;
+use crate::measure::{instructions, nanoseconds};
+use crate::sides::Side;
 use crate::tables::{both, head, SIDES};
 
-/// The bytes of the module that is loaded and saved.
-const CODE: usize = 1 << 20;
+/// What is done with a module; a load with the byte order of its file. The machine's order is 0.
+#[derive(Clone, Copy)]
+enum Act {
+    Load(u8),
+    /// All cells, by the load that can halt.
+    First(u8),
+    Save,
+}
 
-/// A module file of a megabyte, in an order.
-fn module(order: u8) -> Vec<u8> {
-    let cells = (CODE / 4) as u32;
+const ACTS: [(&str, Act); 5] = [
+    ("load, same byte order", Act::Load(0)),
+    ("load, other byte order", Act::Load(1)),
+    ("load_first of all cells, same byte order", Act::First(0)),
+    ("load_first of all cells, other byte order", Act::First(1)),
+    ("save", Act::Save),
+];
+
+/// The cells of the modules: a megabyte, and what the greatest memory holds from 10h on.
+const SIZES: [u32; 2] = [1 << 18, (1 << 22) - 4];
+
+/// The cells of the module whose instructions are counted, and how often it is loaded or saved.
+const COUNTED: u32 = 20_000;
+const TIMES: [u32; 2] = [1, 11];
+
+/// A module file of so many cells, in an order.
+fn module(order: u8, cells: u32) -> Vec<u8> {
     let mut file = b"BEETLE\0".to_vec();
     file.push(order);
     file.extend(if order == 0 {
@@ -20,73 +41,87 @@ fn module(order: u8) -> Vec<u8> {
     } else {
         cells.to_be_bytes()
     });
-    file.extend((0..CODE).map(|at| (at % 251) as u8));
+    file.extend((0..4 * cells).map(|at| (at % 251) as u8));
     file
 }
 
+/// The act on a module of so many cells at 10h.
+fn doing(calls: Implementation, act: Act, cells: u32) -> impl FnMut() {
+    let mut memory = vec![7; 16 + 4 * cells as usize];
+    let mut file = match act {
+        Act::Load(order) | Act::First(order) => module(order, cells),
+        Act::Save => vec![0; 12 + 4 * cells as usize],
+    };
+    move || {
+        let (memory, file, out) = (&mut memory[..], &mut file[..], &mut [0][..]);
+        let answer = match act {
+            Act::Load(_) => (calls.load)(0, memory, file, 0x10, out),
+            Act::First(_) => (calls.load_first)(0, memory, file, 0x10, cells, out),
+            Act::Save => (calls.save)(0, memory, 0x10, cells, file, out),
+        };
+        assert_eq!(black_box(answer), 0, "the call is accepted");
+    }
+}
+
+/// Does the act with this number so many times.
+pub fn repeat(calls: &Implementation, at: usize, times: u32) -> Option<()> {
+    let (_, act) = ACTS.get(at)?;
+    let mut act = doing(*calls, *act, COUNTED);
+    (0..times).for_each(|_| act());
+    Some(())
+}
+
 /// The shortest time of an act in microseconds. Each is timed by itself, with its bytes in the
-/// host's caches, so that a plain copy can be held against it.
+/// host's caches where they fit, so that a plain copy can be held against it.
 fn microseconds(act: impl FnMut()) -> f64 {
     let [time] = nanoseconds([act]);
     time / 1000.0
 }
 
-/// A load of a module of this order on a machine of order 0.
-fn load(calls: &Implementation, order: u8) -> f64 {
-    let (file, mut memory) = (module(order), vec![0; 2 * CODE]);
-    microseconds(|| {
-        let answer = (calls.load)(0, &mut memory, &file, 0x10, &mut [0]);
-        assert_eq!(black_box(answer), 0, "the module is loaded");
-    })
-}
-
-/// A save.
-fn save(calls: &Implementation) -> f64 {
-    let (memory, mut output) = (vec![7; 2 * CODE], vec![0; 12 + CODE]);
-    let cells = (CODE / 4) as u32;
-    microseconds(|| {
-        let answer = (calls.save)(0, &memory, 0x10, cells, &mut output, &mut [0]);
-        assert_eq!(black_box(answer), 0, "the module is saved");
-    })
-}
-
 /// A plain copy of as many bytes.
-fn copy() -> f64 {
-    let (from, mut to) = (vec![7_u8; CODE], vec![0_u8; CODE]);
+fn copy(cells: u32) -> f64 {
+    let bytes = 4 * cells as usize;
+    let (from, mut to) = (vec![7_u8; bytes], vec![0_u8; bytes]);
     microseconds(|| black_box(&mut to).copy_from_slice(black_box(&from)))
 }
 
-/// The calls of both sides.
-fn calls() -> [Implementation; 2] {
-    SIDES.map(|side| side.calls())
+/// The lines of the acts on a module of so many cells.
+fn lines(cells: u32) {
+    let copy = copy(cells);
+    for (name, act) in ACTS {
+        let times = SIDES.map(|side| microseconds(doing(side.calls(), act, cells)));
+        let against = times[0] / copy;
+        println!(
+            "| {cells} | {name} | {} | {against:.2} |",
+            both(times.map(Some))
+        );
+    }
+    println!("| {cells} | plain copy | {copy:.1} | | | 1.00 |");
 }
 
-/// A line for each act.
-pub fn table() {
+/// Two tables: times, and instructions.
+pub fn tables() {
     let columns = [
-        "a megabyte",
+        "cells",
+        "act",
         "microseconds, proved",
         "independent",
         "ratio",
         "proved against a copy",
     ];
-    head("Modules by beetle_load and beetle_save", &columns);
-    let copy = copy();
-    let rows = [
-        (
-            "load, same byte order",
-            calls().map(|calls| load(&calls, 0)),
-        ),
-        (
-            "load, other byte order",
-            calls().map(|calls| load(&calls, 1)),
-        ),
-        ("save", calls().map(|calls| save(&calls))),
-    ];
-    for (name, times) in rows {
-        let against = times[0] / copy;
-        println!("| {name} | {} | {against:.2} |", both(times.map(Some)));
+    head(
+        "Modules by beetle_load, beetle_load_first and beetle_save",
+        &columns,
+    );
+    SIZES.into_iter().for_each(lines);
+    println!();
+    let columns = ["act", "instructions a cell, proved"];
+    head("Instructions a cell", &columns);
+    for (at, (name, _)) in ACTS.iter().enumerate() {
+        let count = instructions(Side::Proved, "module", at, TIMES);
+        let count = count.map(|count| count / f64::from(COUNTED));
+        let count = count.map_or("-".to_string(), |count| format!("{count:.2}"));
+        println!("| {name} | {count} |");
     }
-    println!("| plain copy | {copy:.1} | | | 1.00 |");
     println!();
 }
