@@ -4,4 +4,5 @@ pub mod BytesLaws
 pub mod NumberLaws
 pub mod PlaceLaws
 pub mod MemoryLaws
+pub mod StoreLaws
 pub mod JudgementLaws

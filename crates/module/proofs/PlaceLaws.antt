@@ -1,13 +1,14 @@
 -- A copy is the bytes of its cells, end to end, in their place.
 use mathlib.Core.Path.{_≡_, refl, sym, ap, _∙_}
-use mathlib.Core.List.{List, [], _∷_, _++_, append-assoc}
+use mathlib.Core.List.{List, [], _++_, append-assoc}
 use mathlib.Core.Logic.{⊎-elim}
 use Prim.Native.Nat.{ℕ, zero, suc, _+_, _*_, _≤_, _<_}
 use native.Mathlib.Nat.{eq-or-lt-of-le}
 use native.Mathlib.Omega.{arith}
 use lib.ListN.{length, take, drop, length-append}
 use lib.Seq.{take-at, drop-at, take-all, take-append-le, drop-drop, length-take-le, sets-eq, paste-zero}
-use Rattle.cell.specs.Memory.{byte0, byte1, byte2, byte3, cellAt, cellBytes, put, storeCell}
+use Rattle.cell.specs.Memory.{cellAt, cellBytes, storeCell}
+use Rattle.cell.proofs.StoreLaws.{store-sets, cell-length}
 use Rattle.module.specs.Copies.{copied}
 use Rattle.module.proofs.CopyLaws.{copied-length}
 
@@ -38,24 +39,12 @@ module _ (m : List ℕ) (a : ℕ) (s : List ℕ) (n : ℕ) (long : length s ≡ 
       ∙ ap (drop e) (drop-at (take a m ++ s) (drop (a + n) m) (a + n) head-length)
       ∙ drop-drop e (a + n) m
 
-bytes-length : (order x : ℕ) → length (cellBytes order x) ≡ 4
-bytes-length zero x = refl
-bytes-length (suc order) x = refl
-
-put-placed : (m : List ℕ) (b p q r s : ℕ) → b + 4 ≤ length m
-    → put m b p q r s ≡ take b m ++ (p ∷ q ∷ r ∷ s ∷ []) ++ drop (b + 4) m
-put-placed m b p q r s h =
-    let e1 : b + 1 ≡ suc b = omega arith in
-    let e2 : b + 2 ≡ suc (suc b) = omega arith in
-    let e3 : b + 3 ≡ suc (suc (suc b)) = omega arith in
-    rw (e1, e2, e3) (sets-eq (p ∷ q ∷ r ∷ s ∷ []) m b h)
-
 -- a store is the bytes of its cell in their place
 store-placed : (order : ℕ) (m : List ℕ) (b x : ℕ) → b + 4 ≤ length m
     → storeCell order m b x ≡ take b m ++ cellBytes order x ++ drop (b + 4) m
-unfolding storeCell
-store-placed zero m b x h = put-placed m b (byte0 x) (byte1 x) (byte2 x) (byte3 x) h
-store-placed (suc order) m b x h = put-placed m b (byte3 x) (byte2 x) (byte1 x) (byte0 x) h
+store-placed order m b x h =
+    let e = cell-length order x in
+    store-sets order m b x ∙ sets-eq (cellBytes order x) m b (omega (arith, e)) ∙ rw e
 
 module _ (theirs ours : ℕ) (code : List ℕ) where
   -- the bytes of the first k cells of a code part, in the machine's order
@@ -67,7 +56,7 @@ module _ (theirs ours : ℕ) (code : List ℕ) where
   turned-length zero = refl
   turned-length (suc k) =
       length-append (turned k) (cellBytes ours (cellAt theirs code (4 * k)))
-      ∙ rw (turned-length k, bytes-length ours (cellAt theirs code (4 * k))) (omega arith)
+      ∙ rw (turned-length k, cell-length ours (cellAt theirs code (4 * k))) (omega arith)
 
   pub turned-first : (k l : ℕ) → k ≤ l → take (4 * k) (turned l) ≡ turned k
   turned-first k zero h = let e : k ≡ 0 = omega arith in rw e

@@ -1,15 +1,15 @@
 -- Stores of cells, and one step of the image pass.
 -- Assumes nothing.
-use Rattle.cell.specs.Memory.{byte0, byte1, byte2, byte3, cellBytes, storeCell}
+use Rattle.cell.specs.Memory.{cellBytes}
+use Rattle.cell.proofs.StoreLaws.{cell-length}
 use mathlib.Core.Path.{_≡_, refl, sym, ap, ap₂, _∙_}
 use mathlib.Core.Bool.{Bool, true, false}
-use mathlib.Core.List.{List, [], _∷_, _++_, append-assoc}
-use Prim.Native.Nat.{ℕ, zero, suc, _+_, _-_, _*_, _≤_, _<_}
+use mathlib.Core.List.{List, _∷_, _++_, append-assoc}
+use Prim.Native.Nat.{ℕ, suc, _+_, _-_, _*_, _≤_, _<_}
 use native.Mathlib.Nat.{add-zero}
-use native.Mathlib.Numerals.{add-one, add-two, add-three}
 use native.Mathlib.Omega.{arith}
 use lib.Dec.{eqb}
-use lib.ListN.{length, getD, set, take, drop, length-append, take-append-drop}
+use lib.ListN.{length, getD, take, drop, length-append, take-append-drop}
 use lib.Seq.{sets, sets-eq, length-take-le, take-append-le, take-take, drop-at}
 use Rattle.cell.specs.Choice.{if}
 use Rattle.cell.specs.declared.Judged.the-variants.{Passed}
@@ -29,20 +29,6 @@ use Rattle.pack_layout.proofs.Placing.{next-after, reach, at-most, at-before, o
 use Rattle.pack_layout.proofs.Image.{image-size}
 use Rattle.pack_layout.proofs.Listing.{is-branch, target-below}
 use Rattle.pack_layout.proofs.Rounds.{bit-most}
-
-four-sets : (l : List ℕ) (i a b c d : ℕ)
-    → set (set (set (set l i a) (i + 1) b) (i + 2) c) (i + 3) d ≡ sets l i (a ∷ b ∷ c ∷ d ∷ [])
-four-sets l i a b c d = simp (add-one, add-two, add-three)
-
--- a cell stored is its bytes set in a row
-pub store-sets : (order : ℕ) (l : List ℕ) (i x : ℕ) → storeCell order l i x ≡ sets l i (cellBytes order x)
-unfolding storeCell
-store-sets zero l i x = four-sets l i (byte0 x) (byte1 x) (byte2 x) (byte3 x)
-store-sets (suc order) l i x = four-sets l i (byte3 x) (byte2 x) (byte1 x) (byte0 x)
-
-cell-length : (order x : ℕ) → length (cellBytes order x) ≡ 4
-cell-length zero x = refl
-cell-length (suc order) x = refl
 
 -- a store just below what stands already
 module _ (o rest : List ℕ) (a : ℕ) (room : 4 * (a + 1) ≤ length o) where

@@ -1,7 +1,7 @@
 -- `pack_image::write::put_cell` meets its contract: a stored cell is its bytes in a row.
 use mathlib.Core.Path.{_∙_}
 use borrow.Author.Needs.{needs}
-use Rattle.pack_image.proofs.Writing.{store-sets}
+use Rattle.cell.proofs.StoreLaws.{store-sets}
 use Rattle.pack_image.proofs.write.put_cell.Tie as tie
 use Rattle.pack_image.proofs.write.put_cell.Statement.{statement}
 
