@@ -9,27 +9,9 @@ use cell::CellCount;
 use cell::Judged;
 use cell::judgement::refusal_number;
 use module::loading::load_first;
-use module::loading::load_object;
 use module::saving::save_object;
 use module_judging::judgement::judge_load;
 use module_judging::judgement::judge_save;
-
-#[no_mangle]
-pub extern "C" fn beetle_load(
-    order: u8,
-    memory: &mut [u8],
-    file: &[u8],
-    address: u32,
-    out: &mut [u32],
-) -> u32
-    ensures { λ n. ⌜ modules.moved (now (memory .exit)) (now (out .exit)) n ≡ modules.loadCall order (now (memory .entry)) (now (file .entry)) address (now (out .entry)) ⌝ }
-{
-    let judged = judge_load(memory.len(), order, file, Address(address));
-    match with_room(judged, out.len(), 1) {
-        Judged::Refused(n) => refusal_number(n),
-        Judged::Passed => note_loaded(load_object(order, memory, file, Address(address)), out),
-    }
-}
 
 #[no_mangle]
 pub extern "C" fn beetle_load_first(
@@ -50,6 +32,20 @@ pub extern "C" fn beetle_load_first(
             note_loaded(answer, out)
         }
     }
+}
+
+// With no halt: no file has more cells than a cell can count.
+#[no_mangle]
+pub extern "C" fn beetle_load(
+    order: u8,
+    memory: &mut [u8],
+    file: &[u8],
+    address: u32,
+    out: &mut [u32],
+) -> u32
+    ensures { λ n. ⌜ modules.moved (now (memory .exit)) (now (out .exit)) n ≡ modules.loadCall order (now (memory .entry)) (now (file .entry)) address (now (out .entry)) ⌝ }
+{
+    beetle_load_first(order, memory, file, address, 0xFFFFFFFF, out)
 }
 
 #[no_mangle]

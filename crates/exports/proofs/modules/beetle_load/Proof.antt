@@ -1,45 +1,15 @@
--- `beetle_load` meets its contract: a refusal, or the answer of crate `module` noted.
+-- `beetle_load` meets its contract: the call that halts, with the largest count.
 use borrow.Author.Needs.{needs}
-use lib.ListN.{length}
-use Rattle.calls.proofs.LendingLaws.{roomy}
-use Rattle.calls.specs.Modules as modules
-use mathlib.Core.Path.{_∙_, sym}
+use mathlib.Core.Path.{_∙_}
+use native.Mathlib.Omega.{arith}
+use Rattle.cell.specs.Memory as mem
+use Rattle.module.proofs.AnswerLaws.{count-below}
+use Rattle.calls.proofs.ModuleLaws.{first-call-whole}
 use Rattle.exports.proofs.modules.beetle_load.Statement.{statement}
 use Rattle.exports.proofs.modules.beetle_load.Tie as tie
 
-judge-load-requires : tie.Need-judge-load-requires
-judge-load-requires c κs = search needs
-
-with-room-requires : tie.Need-with-room-requires
-with-room-requires c κs = search needs
-
-enum-known-n : tie.Need-enum-known-n
-enum-known-n c = search needs
-
-refusal-number-requires : tie.Need-refusal-number-requires
-refusal-number-requires c κs = search needs
-
-enum-told : tie.Need-enum-told
-enum-told c = search needs
-
-load-object-requires : tie.Need-load-object-requires
-load-object-requires c κs = search needs
-
-note-loaded-requires : tie.Need-note-loaded-requires
-note-loaded-requires c κs =
-    roomy (c .before .before .before .before .before .before .before .before .judge-load .result) (length
-    (c .before .before .before .before .before .before .before .before .before .before .before .before .args .out .now)) 1 (sym
-    (c .before .before .before .before .before .before .before .with-room .ensures) ∙ c .before .before .before .before .before .enum-told .given .1) .room
-
-returns : tie.Need-returns
-unfolding modules.loadCall
-returns c =
-    rw (
-      ← c .before .before .before .before .before .judge-load .ensures,
-      sym (c .before .before .before .before .with-room .ensures) ∙
-          c .before .before .n .given .1,
-      c .refusal-number .ensures,
-    )
+beetle-load-first-requires : tie.Need-beetle-load-first-requires
+beetle-load-first-requires c κs = search needs
 
 same-length : tie.Need-same-length
 same-length c = search needs
@@ -47,31 +17,13 @@ same-length c = search needs
 same-length-2 : tie.Need-same-length-2
 same-length-2 c = search needs
 
-returns-2 : tie.Need-returns-2
-unfolding modules.loadCall
-returns-2 c =
-    rw (
-      ← c .before .before .before .before .before .before .before .before .before .before .before .judge-load .ensures,
-      sym
-          (c .before .before .before .before .before .before .before .before .before .before .with-room .ensures) ∙
-          c .before .before .before .before .before .before .before .before .enum-told .given .1,
-      ←
-          c .before .before .before .before .before .before .load-object .ensures,
-      ← c .before .before .note-loaded .ensures,
-    )
+returns : tie.Need-returns
+unfolding mem.Bytewise
+returns c =
+    let x = c .before .before .before .before .before .before .before .before .before .before .args in
+    let h = count-below (x .file .now) (λ i. c .before .before .before .before .before .before .before .before .shared-slice-known .given i .fits) in
+    c .before .before .before .before .beetle-load-first .ensures
+    ∙ first-call-whole (x .order) (x .memory .now) (x .file .now) (x .address) 0xFFFFFFFF (x .out .now) (omega (arith, h))
 
 pub beetle-load-spec : {M : Type 1} → statement M
-beetle-load-spec =
-    tie.close
-    (tie.spec
-    judge-load-requires
-    with-room-requires
-    enum-known-n
-    refusal-number-requires
-    enum-told
-    load-object-requires
-    note-loaded-requires
-    returns
-    same-length
-    same-length-2
-    returns-2)
+beetle-load-spec = tie.close (tie.spec beetle-load-first-requires same-length same-length-2 returns)
