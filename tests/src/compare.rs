@@ -147,42 +147,48 @@ pub fn try_rules(implementation: &Implementation, rules: u32) -> Result<Rules, D
     Ok(tally)
 }
 
-/// Cuts rules in two; the error is the first that is not the whole run again. How many were cut.
+/// Tries a claim on calls drawn at random: what became of them, or the first that breaks it.
+fn tried<T: Default>(
+    name: &str,
+    seed: u64,
+    cases: u32,
+    make: fn(&mut Random, u32) -> Call,
+    attempt: impl Fn(&mut Random, &Call, &mut T) -> Result<(), String>,
+) -> Result<T, String> {
+    let mut random = Random::new(seed);
+    let mut tally = T::default();
+    for index in 0..cases {
+        let call = make(&mut random, index);
+        attempt(&mut random, &call, &mut tally).map_err(|why| broken(name, index, &why, &call))?;
+    }
+    Ok(tally)
+}
+
+/// Cuts rules in two, each of which has to be the whole run again. How many were cut.
 pub fn try_cuts(implementation: &Implementation, rules: u32) -> Result<u32, String> {
-    let mut random = Random::new(4);
-    let mut tally = 0;
-    for index in 0..rules {
-        let call = rules::rule(&mut random);
+    let rule = |random: &mut Random, _| rules::rule(random);
+    tried("cuts", 4, rules, rule, |random, call, tally| {
         let at = random.below(60);
-        let was_cut = cuts::cut(implementation, &call, at)
-            .map_err(|why| broken("cuts", index, &format!("at {at}: {why}"), &call))?;
-        tally += u32::from(was_cut);
-    }
-    Ok(tally)
+        let was_cut = cuts::cut(implementation, call, at);
+        *tally += u32::from(was_cut.map_err(|why| format!("at {at}: {why}"))?);
+        Ok(())
+    })
 }
 
-/// Cuts and raises the budgets of runs; the error is the first that shows it.
+/// Cuts and raises the budgets of runs.
 pub fn try_budgets(implementation: &Implementation, runs: u32) -> Result<Budgets, String> {
-    let mut random = Random::new(5);
-    let mut tally = Budgets::default();
-    for index in 0..runs {
-        let call = processor::run(&mut random, index);
-        budgets::try_run(implementation, &mut random, &call, &mut tally)
-            .map_err(|why| broken("budgets", index, &why, &call))?;
-    }
-    Ok(tally)
+    let run = processor::run;
+    tried("budgets", 5, runs, run, |random, call, tally| {
+        budgets::try_run(implementation, random, call, tally)
+    })
 }
 
-/// Holds loads that halt against the whole loads; the error is the first that shows a difference.
+/// Holds loads that halt against the whole loads.
 pub fn try_firsts(implementation: &Implementation, loads: u32) -> Result<Firsts, String> {
-    let mut random = Random::new(6);
-    let mut tally = Firsts::default();
-    for index in 0..loads {
-        let call = modules::load_first(&mut random, index);
-        firsts::try_load(implementation, &mut random, &call, &mut tally)
-            .map_err(|why| broken("halts", index, &why, &call))?;
-    }
-    Ok(tally)
+    let load = modules::load_first;
+    tried("halts", 6, loads, load, |random, call, tally| {
+        firsts::try_load(implementation, random, call, tally)
+    })
 }
 
 /// The smallest rule found that breaks demand 3, and how.

@@ -26,43 +26,36 @@ fn demand_3(name: &str, implementation: &Implementation) -> bool {
     report(&format!("demand 3, {name}"), since, result)
 }
 
-/// Runs cut in two.
-fn cuts(name: &str, implementation: &Implementation) -> bool {
+/// A claim that an implementation has to meet by itself.
+fn claim<T: std::fmt::Debug>(
+    claim: &str,
+    attempt: fn(&Implementation, u32) -> Result<T, String>,
+    name: &str,
+    implementation: &Implementation,
+) -> bool {
     let since = Instant::now();
-    let result = try_cuts(implementation, raised(RULES));
-    report(&format!("cuts, {name}"), since, result)
+    let result = attempt(implementation, raised(RULES));
+    report(&format!("{claim}, {name}"), since, result)
 }
 
-/// Budgets cut in two and raised.
-fn budgets(name: &str, implementation: &Implementation) -> bool {
-    let since = Instant::now();
-    let result = try_budgets(implementation, raised(RULES));
-    report(&format!("budgets, {name}"), since, result)
-}
-
-/// Loads that halt, and loads further.
-fn halts(name: &str, implementation: &Implementation) -> bool {
-    let since = Instant::now();
-    let result = try_firsts(implementation, raised(RULES));
-    report(&format!("halts, {name}"), since, result)
+/// Demand 3, runs cut in two, budgets cut and raised, loads that halt.
+fn claims(name: &str, implementation: &Implementation) -> bool {
+    let mut good = demand_3(name, implementation);
+    good &= claim("cuts", try_cuts, name, implementation);
+    good &= claim("budgets", try_budgets, name, implementation);
+    good & claim("halts", try_firsts, name, implementation)
 }
 
 fn main() -> ExitCode {
     let (reference, library) = (reference(), library());
-    let mut good = demand_3("reference", &reference);
-    good &= cuts("reference", &reference);
-    good &= budgets("reference", &reference);
-    good &= halts("reference", &reference);
+    let mut good = claims("reference", &reference);
     for suite in &SUITES {
         let since = Instant::now();
         let result = compare(suite, &reference, &library, raised(suite.cases));
         let result = result.map_err(|difference| explain(&difference, &reference, &library));
         good &= report(suite.name, since, result);
     }
-    good &= demand_3("library", &library);
-    good &= cuts("library", &library);
-    good &= budgets("library", &library);
-    good &= halts("library", &library);
+    good &= claims("library", &library);
     if good {
         ExitCode::SUCCESS
     } else {
