@@ -21,22 +21,22 @@ use Rattle.list_machine.proofs.Budget.{run-follows}
 use Rattle.list_machine.proofs.Packed.{packed-cells}
 use Rattle.approved.specs.Approved.{StandsAt, RunsAsListed, StartsAsListed, PackedRuns, ApprovedRuns}
 use Rattle.approved.proofs.Packing.{Made, made}
-use Rattle.approved.proofs.Starting.{four-holds, start-ready}
+use Rattle.approved.proofs.Starting.{four-length, four-holds, start-ready}
 
 -- a memory that holds the image of a legal listing runs as the listing reads
-pub runs : (order base : ℕ) (l : Listing) (m : List ℕ) → Legal base l → Holds (machineOf order) base l m → RunsAsListed order base l m
+pub runs : (order base : ℕ) (l : Listing) (m : List ℕ) → Legal base l → Holds (machineOf order (length m)) base l m → RunsAsListed order base l m
 runs order base l m ok h =
     record {
-      agrees = λ sp rp k. demand3 (machineOf order) base l m sp rp k ok h;
+      agrees = λ sp rp k. demand3 (machineOf order (length m)) base l m sp rp k ok h;
       answers = λ q sp rp k. run-follows order base l m sp rp k q ok h;
     }
 
-pub starts : (order base : ℕ) (l : Listing) (m : List ℕ) (handler : ℕ) → Legal base l → Holds (machineOf order) base l m
+pub starts : (order base : ℕ) (l : Listing) (m : List ℕ) (handler : ℕ) → Legal base l → Holds (machineOf order (length m)) base l m
     → judgeMachine (length m) order ≡ Passed → StartsAsListed order base l m handler
 starts order base l m handler ok h q =
     record {
       ready = start-ready order base l ok m handler h q;
-      runs = runs order base l _ ok (four-holds order base l ok m handler h);
+      runs = runs order base l _ ok (rw (four-length (machineOf order (length m)) m handler) (four-holds order base l ok m handler h));
     }
 
 -- the cells of what was packed, wherever it stands
@@ -55,7 +55,7 @@ approved-runs theirs base l p k q office b low s out e ours centre machine place
     let w = made theirs base l p k q in
     let r = saved-loads theirs office b (p .count) out low e ours centre base machine place in
     let m = loadOf ours centre (savedFile (saveOf theirs office b (p .count) out)) base .memory in
-    let h : Holds (machineOf ours) base l m =
+    let h : Holds (machineOf ours (length m)) base l m =
     record {
       inside = omega (arith, r .long, place .room, w .counted);
       cells = λ j c. r .cells j (omega (arith, w .counted)) ∙ cells-there theirs base l p office b w s j c;

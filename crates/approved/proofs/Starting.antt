@@ -27,7 +27,7 @@ use Rattle.list_machine.proofs.Image.{image-fetch, still-holds}
 
 -- the four cells lie below 10h
 module _ (machine : Machine) (m : List ℕ) (handler : ℕ) where
-  four-length : length (fourCells machine m handler) ≡ length m
+  pub four-length : length (fourCells machine m handler) ≡ length m
   four-length =
       store-length (machine .order) _ addressCell 0xFFFFFFFF
       ∙ store-length (machine .order) _ badCell 0xFFFFFFFF
@@ -41,19 +41,19 @@ module _ (machine : Machine) (m : List ℕ) (handler : ℕ) where
       (alike-trans lo hi _ _ _ (cell-frame lo hi (machine .order) _ badCell 0xFFFFFFFF (inl (omega arith)))
       (cell-frame lo hi (machine .order) _ addressCell 0xFFFFFFFF (inl (omega arith)))))
 
-module _ (order base : ℕ) (l : Listing) (ok : Legal base l) (m : List ℕ) (handler : ℕ) (h : Holds (machineOf order) base l m) where
-  pub four-holds : Holds (machineOf order) base l (fourCells (machineOf order) m handler)
+module _ (order base : ℕ) (l : Listing) (ok : Legal base l) (m : List ℕ) (handler : ℕ) (h : Holds (machineOf order (length m)) base l m) where
+  pub four-holds : Holds (machineOf order (length m)) base l (fourCells (machineOf order (length m)) m handler)
   four-holds =
-      still-holds (machineOf order) base l ok m (fourCells (machineOf order) m handler) h
-      (four-alike (machineOf order) m handler base (base + 4 * imageCells l) (placed base l ok .above-cells))
-      (four-length (machineOf order) m handler)
+      still-holds (machineOf order (length m)) base l ok m (fourCells (machineOf order (length m)) m handler) h
+      (four-alike (machineOf order (length m)) m handler base (base + 4 * imageCells l) (placed base l ok .above-cells))
+      (four-length (machineOf order (length m)) m handler)
 
-  first-fetch : fetchOf (machineOf order) Stream (fourCells (machineOf order) m handler) base
-      ≡ Cell (cellAt order (fourCells (machineOf order) m handler) base)
+  first-fetch : fetchOf (machineOf order (length m)) Stream (fourCells (machineOf order (length m)) m handler) base
+      ≡ Cell (cellAt order (fourCells (machineOf order (length m)) m handler) base)
   first-fetch =
       let some = at-inside base l ok 0 (some-item l (ok .input) .0) in
       let z : base + 4 * 0 ≡ base = omega arith in
-      (rw z at (image-fetch (machineOf order) base l ok (fourCells (machineOf order) m handler) four-holds 0 (omega (arith, some))))
+      (rw z at (image-fetch (machineOf order (length m)) base l ok (fourCells (machineOf order (length m)) m handler) four-holds 0 (omega (arith, some))))
       ∙ ap Cell (sym (rw z at (four-holds .cells 0 (omega (arith, some)))))
 
   first-ep : sum base 4 ≡ base + 4
@@ -62,7 +62,7 @@ module _ (order base : ℕ) (l : Listing) (ok : Legal base l) (m : List ℕ) (ha
 
   pub start-ready : judgeMachine (length m) order ≡ Passed
       → startAnswer order m base handler
-      ≡ startedTo (fourCells (machineOf order) m handler)
-      (Ready (firstRegisters (machineOf order) base (fourCells (machineOf order) m handler) (length m - 0x100) (length m)))
+      ≡ startedTo (fourCells (machineOf order (length m)) m handler)
+      (Ready (firstRegisters (machineOf order (length m)) base (fourCells (machineOf order (length m)) m handler) (length m - 0x100) (length m)))
   unfolding startAnswer startOf nextOf
   start-ready q = rw (q, first-fetch, first-ep)

@@ -41,17 +41,17 @@ pub record StandsAt (p : PackResult) (m : List ℕ) (a : ℕ) : Type 0 where
 -- 3, and where the memory is one that is lent, so is what `run` answers
 pub record RunsAsListed (order base : ℕ) (l : Listing) (m : List ℕ) : Type 0 where
   pub agrees : (sp rp k : ℕ)
-      → Agree (machineOf order) (begun m (firstRegisters (machineOf order) base m sp rp)) (runOf (machineOf order) base l k (beginning l m sp rp))
+      → Agree (machineOf order (length m)) (begun m (firstRegisters (machineOf order (length m)) base m sp rp)) (runOf (machineOf order (length m)) base l k (beginning l m sp rp))
   pub answers : judgeMachine (length m) order ≡ Passed → (sp rp k : ℕ)
-      → RunAgrees order base m sp rp (runOf (machineOf order) base l k (beginning l m sp rp))
+      → RunAgrees order base m sp rp (runOf (machineOf order (length m)) base l k (beginning l m sp rp))
 
 -- and `start` at the base, with any handler, makes the machine ready there: the memory with its four cells set runs as the listing reads
 pub record StartsAsListed (order base : ℕ) (l : Listing) (m : List ℕ) (handler : ℕ) : Type 0 where
   pub ready :
       startAnswer order m base handler
-      ≡ startedTo (fourCells (machineOf order) m handler)
-      (Ready (firstRegisters (machineOf order) base (fourCells (machineOf order) m handler) (length m - 0x100) (length m)))
-  pub runs : RunsAsListed order base l (fourCells (machineOf order) m handler)
+      ≡ startedTo (fourCells (machineOf order (length m)) m handler)
+      (Ready (firstRegisters (machineOf order (length m)) base (fourCells (machineOf order (length m)) m handler) (length m - 0x100) (length m)))
+  pub runs : RunsAsListed order base l (fourCells (machineOf order (length m)) m handler)
 
 -- what was packed, in memory at its base, runs as its listing reads
 abbrev pub PackedRuns : Type 0

@@ -11,12 +11,16 @@ pub struct Address(pub u32);
 // A number of cells.
 pub struct CellCount(pub u32);
 
-// Why an instruction raises. specs/Place.antt has the code of each.
+// Why an instruction raises. What is thrown for it, `machine` tells.
 pub enum Fault {
     // -9: the address lies outside memory
     Range(Address),
     // -23: the address is no multiple of 4
     Alignment(Address),
+    // a place in memory that the data stack may not have here: -23, -3 or -4
+    Data(Address),
+    // a place in memory that the return stack may not have here: -23, -5 or -6
+    Return(Address),
     // -10: division by zero
     Divisor,
     // -256: an opcode with no meaning

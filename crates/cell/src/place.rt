@@ -1,14 +1,12 @@
-// The place of a cell, its check, and the fetch.
+// The place of a cell and its check.
 ghost use mathlib.Core.Path.{_≡_};
-ghost use Prim.Native.Nat.{_+_, _*_, _%_, _<_, _^_};
-ghost use lib.ListN.{length};
+ghost use Prim.Native.Nat.{_+_, _*_, _<_, _^_};
 ghost use Rattle.cell.specs.Place as place;
 use crate::Address;
 use crate::CellCount;
 use crate::Checked;
 use crate::Fault;
 use crate::Fetched;
-use crate::memory::load;
 
 // The address of the cell that stands `index` cells behind a base.
 pub fn address_at(base: Address, index: CellCount) -> Address
@@ -43,17 +41,6 @@ pub fn check_cell(length: usize, address: Address) -> Checked
     Checked::Bad(Fault::Range(address))
 }
 
-// The cell at an address, or the fault of its place.
-pub fn fetch_cell(order: u8, memory: &[u8], address: Address) -> Fetched
-    requires { ⌜ length (now memory) % 4 ≡ 0 ⌝ }
-    ensures { λ r. ⌜ r ≡ place.fetchCell order (now (memory .entry)) (address .0) ⌝ }
-{
-    match check_cell(memory.len(), address) {
-        Checked::Good => Fetched::Cell(load(order, memory, address)),
-        Checked::Bad(f) => Fetched::Failed(f),
-    }
-}
-
 // The fault of a fetch that failed.
 pub fn fault_in(got: Fetched) -> Fault
     requires { ⌜ place.Failing got ⌝ }
@@ -63,17 +50,5 @@ pub fn fault_in(got: Fetched) -> Fault
         // never reached: it is no failure
         Fetched::Cell(_) => Fault::Illegal,
         Fetched::Failed(f) => f,
-    }
-}
-
-pub fn fault_code(f: Fault) -> u32
-    ensures { λ r. ⌜ r ≡ place.faultCode f ⌝ }
-{
-    match f {
-        Fault::Range(_) => 0xFFFFFFF7,
-        Fault::Alignment(_) => 0xFFFFFFE9,
-        Fault::Divisor => 0xFFFFFFF6,
-        Fault::Illegal => 0xFFFFFF00,
-        Fault::Library => 0xFFFFFEFF,
     }
 }

@@ -17,12 +17,16 @@ use machine::OneStore;
 use machine::Outcome;
 use machine::Registers;
 use machine::Step;
+use machine::Target;
 use machine::Then;
 use machine::ThreeStores;
+use machine::TwoReturns;
 use machine::TwoStores;
 use machine::Write;
 use machine::places::check_byte_place;
-use machine::places::check_place;
+use machine::places::check_data_write;
+use machine::places::check_return;
+use machine::places::check_target;
 
 // The fault that an instruction met in its reading.
 pub fn fault_of(then: Then) -> Checked
@@ -115,12 +119,30 @@ fn put(machine: Machine, memory: &mut [u8], w: Write)
     store(machine.order, memory, at, w.value)
 }
 
-fn check_write(machine: Machine, length: usize, w: Write) -> Checked
-    ensures { λ r. ⌜ r ≡ places.placeOf machine places.oneCell (w .access) length (w .at .0) ⌝ }
+// The place of a write on the data stack.
+fn check_item(machine: Machine, length: usize, w: Write) -> Checked
+    requires { ⌜ places.Fits machine length ⌝ }
+    ensures { λ r. ⌜ r ≡ places.placeOf machine places.oneCell Access.DataWrite length (w .at .0) ⌝ }
 {
-    let access = w.access;
     let at = w.at;
-    check_place(machine, access, length, at)
+    check_data_write(machine, length, at)
+}
+
+// The place of a write on the return stack.
+fn check_back(machine: Machine, length: usize, w: Write) -> Checked
+    requires { ⌜ places.Fits machine length ⌝ }
+    ensures { λ r. ⌜ r ≡ places.placeOf machine places.oneCell Access.ReturnWrite length (w .at .0) ⌝ }
+{
+    let at = w.at;
+    check_return(machine, length, at)
+}
+
+fn check_store(machine: Machine, length: usize, target: Target, w: Write) -> Checked
+    requires { ⌜ places.Fits machine length ⌝ }
+    ensures { λ r. ⌜ r ≡ places.placeOf machine places.oneCell (places.accessTo target) length (w .at .0) ⌝ }
+{
+    let at = w.at;
+    check_target(machine, target, length, at)
 }
 
 pub fn commit_none(machine: Machine, memory: &[u8], r: Registers, e: NoStore) -> Step
@@ -143,7 +165,7 @@ pub fn commit_none(machine: Machine, memory: &[u8], r: Registers, e: NoStore) ->
 }
 
 pub fn commit_one(machine: Machine, memory: &mut [u8], r: Registers, e: OneStore) -> Step
-    requires { ⌜ places.Whole (now memory) ⌝ }
+    requires { ⌜ places.Fits machine (length (now memory)) ⌝ }
     ensures { λ s. ⌜ commits.stepped (now (memory .exit)) s ≡ commits.commitOf machine (now (memory .entry)) r (effects.oneStore e) ⌝ }
 {
     let then = e.then;
@@ -160,7 +182,8 @@ pub fn commit_one(machine: Machine, memory: &mut [u8], r: Registers, e: OneStore
             reading,
         );
     };
-    let place = check_write(machine, memory.len(), write);
+    let target = e.target;
+    let place = check_store(machine, memory.len(), target, write);
     let Checked::Good = place else {
         return raise(
             Registers {
@@ -177,39 +200,45 @@ pub fn commit_one(machine: Machine, memory: &mut [u8], r: Registers, e: OneStore
 }
 
 pub fn commit_maybe(machine: Machine, memory: &mut [u8], r: Registers, e: MaybeStore) -> Step
-    requires { ⌜ places.Whole (now memory) ⌝ }
+    requires { ⌜ places.Fits machine (length (now memory)) ⌝ }
     ensures { λ s. ⌜ commits.stepped (now (memory .exit)) s ≡ commits.commitOf machine (now (memory .entry)) r (effects.maybeStore e) ⌝ }
 {
     let then = e.then;
     let write = e.write;
+    let reading = fault_of(then);
+    let Checked::Good = reading else {
+        return raise(
+            Registers {
+                ep: r.ep,
+                a: r.a,
+                sp: r.sp,
+                rp: r.rp,
+            },
+            reading,
+        );
+    };
     if e.writes {
-        commit_one(
-            machine,
-            memory,
-            r,
-            OneStore {
-                sp: e.sp,
-                rp: e.rp,
-                write: write,
-                then: then,
-            },
-        )
-    } else {
-        commit_none(
-            machine,
-            memory,
-            r,
-            NoStore {
-                sp: e.sp,
-                rp: e.rp,
-                then: then,
-            },
-        )
+        let target = e.target;
+        let place = check_store(machine, memory.len(), target, write);
+        let Checked::Good = place else {
+            return raise(
+                Registers {
+                    ep: r.ep,
+                    a: r.a,
+                    sp: r.sp,
+                    rp: r.rp,
+                },
+                place,
+            );
+        };
+        put(machine, memory, write);
+        return settle(r.ep, r.a, e.sp, e.rp, then);
     }
+    settle(r.ep, r.a, e.sp, e.rp, then)
 }
 
 pub fn commit_two(machine: Machine, memory: &mut [u8], r: Registers, e: TwoStores) -> Step
-    requires { ⌜ places.Whole (now memory) ⌝ }
+    requires { ⌜ places.Fits machine (length (now memory)) ⌝ }
     ensures { λ s. ⌜ commits.stepped (now (memory .exit)) s ≡ commits.commitOf machine (now (memory .entry)) r (effects.twoStores e) ⌝ }
 {
     let then = e.then;
@@ -227,7 +256,7 @@ pub fn commit_two(machine: Machine, memory: &mut [u8], r: Registers, e: TwoStore
             reading,
         );
     };
-    let place = check_write(machine, memory.len(), first);
+    let place = check_item(machine, memory.len(), first);
     let Checked::Good = place else {
         return raise(
             Registers {
@@ -239,7 +268,55 @@ pub fn commit_two(machine: Machine, memory: &mut [u8], r: Registers, e: TwoStore
             place,
         );
     };
-    let place2 = check_write(machine, memory.len(), second);
+    let place2 = check_item(machine, memory.len(), second);
+    let Checked::Good = place2 else {
+        return raise(
+            Registers {
+                ep: r.ep,
+                a: r.a,
+                sp: r.sp,
+                rp: r.rp,
+            },
+            place2,
+        );
+    };
+    put(machine, memory, first);
+    put(machine, memory, second);
+    settle(r.ep, r.a, e.sp, e.rp, then)
+}
+
+pub fn commit_two_returns(machine: Machine, memory: &mut [u8], r: Registers, e: TwoReturns) -> Step
+    requires { ⌜ places.Fits machine (length (now memory)) ⌝ }
+    ensures { λ s. ⌜ commits.stepped (now (memory .exit)) s ≡ commits.commitOf machine (now (memory .entry)) r (effects.twoReturns e) ⌝ }
+{
+    let then = e.then;
+    let first = e.first;
+    let second = e.second;
+    let reading = fault_of(then);
+    let Checked::Good = reading else {
+        return raise(
+            Registers {
+                ep: r.ep,
+                a: r.a,
+                sp: r.sp,
+                rp: r.rp,
+            },
+            reading,
+        );
+    };
+    let place = check_back(machine, memory.len(), first);
+    let Checked::Good = place else {
+        return raise(
+            Registers {
+                ep: r.ep,
+                a: r.a,
+                sp: r.sp,
+                rp: r.rp,
+            },
+            place,
+        );
+    };
+    let place2 = check_back(machine, memory.len(), second);
     let Checked::Good = place2 else {
         return raise(
             Registers {
@@ -257,7 +334,7 @@ pub fn commit_two(machine: Machine, memory: &mut [u8], r: Registers, e: TwoStore
 }
 
 pub fn commit_three(machine: Machine, memory: &mut [u8], r: Registers, e: ThreeStores) -> Step
-    requires { ⌜ places.Whole (now memory) ⌝ }
+    requires { ⌜ places.Fits machine (length (now memory)) ⌝ }
     ensures { λ s. ⌜ commits.stepped (now (memory .exit)) s ≡ commits.commitOf machine (now (memory .entry)) r (effects.threeStores e) ⌝ }
 {
     let then = e.then;
@@ -276,7 +353,7 @@ pub fn commit_three(machine: Machine, memory: &mut [u8], r: Registers, e: ThreeS
             reading,
         );
     };
-    let place = check_write(machine, memory.len(), first);
+    let place = check_item(machine, memory.len(), first);
     let Checked::Good = place else {
         return raise(
             Registers {
@@ -288,7 +365,7 @@ pub fn commit_three(machine: Machine, memory: &mut [u8], r: Registers, e: ThreeS
             place,
         );
     };
-    let place2 = check_write(machine, memory.len(), second);
+    let place2 = check_item(machine, memory.len(), second);
     let Checked::Good = place2 else {
         return raise(
             Registers {
@@ -300,7 +377,7 @@ pub fn commit_three(machine: Machine, memory: &mut [u8], r: Registers, e: ThreeS
             place2,
         );
     };
-    let place3 = check_write(machine, memory.len(), third);
+    let place3 = check_item(machine, memory.len(), third);
     let Checked::Good = place3 else {
         return raise(
             Registers {

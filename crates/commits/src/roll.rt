@@ -14,16 +14,16 @@ use cell::Checked;
 use cell::memory::load;
 use cell::memory::store;
 use cell::place::address_at;
-use machine::Access;
 use machine::Machine;
 use machine::Registers;
 use machine::RollStores;
 use machine::Step;
-use machine::places::check_place;
+use machine::places::check_data_write;
 
 // The places that ROLL writes, deepest first: the first bad one.
 pub fn check_roll(machine: Machine, memory: &[u8], top: Address, depth: CellCount) -> Checked
     requires { ⌜ top .0 + 4 * depth .0 < 2 ^ 32 ⌝ }
+    requires { ⌜ places.Fits machine (length (now memory)) ⌝ }
     ensures { λ r. ⌜ r ≡ commits.placesOf machine (length (now (memory .entry))) (effects.rolled (machine .order) (now (memory .entry)) (top .0) (depth .0)) ⌝ }
 {
     if depth.0 == 0 {
@@ -32,13 +32,13 @@ pub fn check_roll(machine: Machine, memory: &[u8], top: Address, depth: CellCoun
     let mut k = depth.0;
     while 0 < k {
         let at = address_at(top, CellCount(k));
-        let place = check_place(machine, Access::DataWrite, memory.len(), at);
+        let place = check_data_write(machine, memory.len(), at);
         let Checked::Good = place else {
             return place;
         };
         k -= 1;
     }
-    check_place(machine, Access::DataWrite, memory.len(), top)
+    check_data_write(machine, memory.len(), top)
 }
 
 // Each of the `depth` items below the top one moves into the cell below it, and the lowest comes to the top.
@@ -62,7 +62,7 @@ fn roll_cells(machine: Machine, memory: &mut [u8], top: Address, depth: CellCoun
 }
 
 pub fn commit_roll(machine: Machine, memory: &mut [u8], r: Registers, e: RollStores) -> Step
-    requires { ⌜ places.Whole (now memory) ⌝ }
+    requires { ⌜ places.Fits machine (length (now memory)) ⌝ }
     requires { ⌜ effects.Reached e ⌝ }
     ensures { λ s. ⌜ commits.stepped (now (memory .exit)) s ≡ commits.commitOf machine (now (memory .entry)) r (effects.rollEffect (machine .order) (now (memory .entry)) e) ⌝ }
 {

@@ -13,7 +13,6 @@ use cell::number::add;
 use cell::number::shift_byte;
 use cell::place::fault_in;
 use dispatch::from_00::execute_from_00;
-use machine::Access;
 use machine::CycleResult;
 use machine::Ended;
 use machine::Machine;
@@ -31,7 +30,7 @@ pub struct Progress {
 
 // NEXT's fetch, where the instruction asks for it. What is still to be done of the cycle is then nothing, a throw or a stop.
 fn fetch_next(machine: Machine, memory: &[u8], s: Step) -> Step
-    requires { ⌜ places.Whole (now memory) ⌝ }
+    requires { ⌜ places.Fits machine (length (now memory)) ⌝ }
     ensures { λ t. ⌜ throws.finishOf machine (commits.stepped (now (memory .entry)) t) ≡ throws.finishOf machine (commits.stepped (now (memory .entry)) s) ⌝ }
 {
     let outcome = s.outcome;
@@ -39,7 +38,7 @@ fn fetch_next(machine: Machine, memory: &[u8], s: Step) -> Step
         return s;
     };
     let r = s.registers;
-    let got = fetch(machine, Access::Stream, memory, Address(r.ep));
+    let got = fetch(machine, memory, Address(r.ep));
     let Fetched::Cell(x) = got else {
         return Step {
             registers: r,
@@ -59,7 +58,7 @@ fn fetch_next(machine: Machine, memory: &[u8], s: Step) -> Step
 
 // A cycle but for its throw or stop.
 fn execute(machine: Machine, memory: &mut [u8], r: Registers) -> Step
-    requires { ⌜ places.Whole (now memory) ⌝ }
+    requires { ⌜ places.Fits machine (length (now memory)) ⌝ }
     requires { ⌜ 16 ≤ length (now memory) ⌝ }
     ensures { λ s. ⌜ throws.finishOf machine (commits.stepped (now (memory .exit)) s) ≡ cycles.cycleOf machine (now (memory .entry)) r ⌝ }
 {
@@ -92,7 +91,7 @@ fn is_last(ended: Ended, left: u32) -> bool
 // Cycles until one stops or the budget is spent. What the last cycle was is not carried from one to the next: the loop's own end is reached
 // only from a cycle that went on.
 pub fn run_cycles(machine: Machine, memory: &mut [u8], r: Registers, budget: u32) -> Progress
-    requires { ⌜ places.Whole (now memory) ⌝ }
+    requires { ⌜ places.Fits machine (length (now memory)) ⌝ }
     requires { ⌜ 16 ≤ length (now memory) ⌝ }
     ensures { λ t. ⌜ t .left + counts.doneOf machine budget (counts.begun (now (memory .entry)) r) ≡ budget ⌝ }
     ensures { λ t. ⌜ throws.withResult (now (memory .exit)) (t .result) ≡ cycles.cyclesOf machine (counts.doneOf machine budget (counts.begun (now (memory .entry)) r)) (counts.begun (now (memory .entry)) r) ⌝ }

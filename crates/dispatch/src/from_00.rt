@@ -1,5 +1,6 @@
 // Opcodes 00h to 15h: the data stack, comparison.
 ghost use mathlib.Core.Path.{_≡_};
+ghost use lib.ListN.{length};
 ghost use Rattle.machine.specs.Places as places;
 ghost use Rattle.machine.specs.Commits as commits;
 ghost use Rattle.instruction.specs.Dispatch as dispatch;
@@ -38,7 +39,7 @@ use storage::stack::tuck;
 
 // One instruction by its opcode, up to its NEXT, throw or stop: its effect, then the commit of the effect's shape.
 pub fn execute_from_00(machine: Machine, memory: &mut [u8], r: Registers, opcode: u32) -> Step
-    requires { ⌜ places.Whole (now memory) ⌝ }
+    requires { ⌜ places.Fits machine (length (now memory)) ⌝ }
     ensures { λ s. ⌜ commits.stepped (now (memory .exit)) s ≡ dispatch.executeOf machine (now (memory .entry)) r (dispatch.decodeOf opcode) ⌝ }
 {
     match opcode {

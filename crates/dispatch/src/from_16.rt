@@ -1,6 +1,7 @@
 // Opcodes 16h to 2Bh: comparison, constants, arithmetic.
 ghost use mathlib.Core.Path.{_≡_};
 ghost use Prim.Native.Nat.{_≤_};
+ghost use lib.ListN.{length};
 ghost use Rattle.machine.specs.Places as places;
 ghost use Rattle.machine.specs.Commits as commits;
 ghost use Rattle.instruction.specs.Dispatch as dispatch;
@@ -30,7 +31,7 @@ use operators::comparison::u_less;
 use operators::comparison::zero_not_equal;
 
 pub fn execute_from_16(machine: Machine, memory: &mut [u8], r: Registers, opcode: u32) -> Step
-    requires { ⌜ places.Whole (now memory) ⌝ }
+    requires { ⌜ places.Fits machine (length (now memory)) ⌝ }
     requires { ⌜ 22 ≤ opcode ⌝ }
     ensures { λ s. ⌜ commits.stepped (now (memory .exit)) s ≡ dispatch.executeOf machine (now (memory .entry)) r (dispatch.decodeOf opcode) ⌝ }
 {

@@ -1,6 +1,7 @@
 // Opcodes 2Ch to 41h: arithmetic, logic, memory, the stack pointers.
 ghost use mathlib.Core.Path.{_≡_};
 ghost use Prim.Native.Nat.{_≤_};
+ghost use lib.ListN.{length};
 ghost use Rattle.machine.specs.Places as places;
 ghost use Rattle.machine.specs.Commits as commits;
 ghost use Rattle.instruction.specs.Dispatch as dispatch;
@@ -34,7 +35,7 @@ use storage::registers::rp_store;
 use storage::registers::sp_store;
 
 pub fn execute_from_2c(machine: Machine, memory: &mut [u8], r: Registers, opcode: u32) -> Step
-    requires { ⌜ places.Whole (now memory) ⌝ }
+    requires { ⌜ places.Fits machine (length (now memory)) ⌝ }
     requires { ⌜ 44 ≤ opcode ⌝ }
     ensures { λ s. ⌜ commits.stepped (now (memory .exit)) s ≡ dispatch.executeOf machine (now (memory .entry)) r (dispatch.decodeOf opcode) ⌝ }
 {

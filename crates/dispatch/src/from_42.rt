@@ -1,6 +1,7 @@
 // Opcodes 42h to FFh: control, literals, exceptions.
 ghost use mathlib.Core.Path.{_≡_};
 ghost use Prim.Native.Nat.{_≤_};
+ghost use lib.ListN.{length};
 ghost use Rattle.machine.specs.Places as places;
 ghost use Rattle.machine.specs.Commits as commits;
 ghost use Rattle.instruction.specs.Dispatch as dispatch;
@@ -8,7 +9,7 @@ use crate::looping::execute_loop;
 use cell::Fault;
 use commits::commit::commit_none;
 use commits::commit::commit_one;
-use commits::commit::commit_two;
+use commits::commit::commit_two_returns;
 use flow::control::branch;
 use flow::control::call;
 use flow::control::execute;
@@ -31,7 +32,7 @@ use machine::Step;
 use machine::Then;
 
 pub fn execute_from_42(machine: Machine, memory: &mut [u8], r: Registers, opcode: u32) -> Step
-    requires { ⌜ places.Whole (now memory) ⌝ }
+    requires { ⌜ places.Fits machine (length (now memory)) ⌝ }
     requires { ⌜ 66 ≤ opcode ⌝ }
     ensures { λ s. ⌜ commits.stepped (now (memory .exit)) s ≡ dispatch.executeOf machine (now (memory .entry)) r (dispatch.decodeOf opcode) ⌝ }
 {
@@ -163,7 +164,7 @@ pub fn execute_from_42(machine: Machine, memory: &mut [u8], r: Registers, opcode
         // EXIT
         0x4A => commit_none(machine, memory, r, exit(machine, memory, r)),
         // (DO)
-        0x4B => commit_two(machine, memory, r, start_loop(machine, memory, r)),
+        0x4B => commit_two_returns(machine, memory, r, start_loop(machine, memory, r)),
         // (LOOP), (LOOP)I, (+LOOP), (+LOOP)I
         0x4C | 0x4D | 0x4E | 0x4F => execute_loop(machine, memory, r, opcode),
         // UNLOOP

@@ -1,6 +1,7 @@
 // Opcodes 4Ch to 4Fh: the loops. Their two forms share one call of each effect, so that the compiler lays it into the dispatch.
 ghost use mathlib.Core.Path.{_≡_};
 ghost use Prim.Native.Nat.{_/_};
+ghost use lib.ListN.{length};
 ghost use Rattle.machine.specs.Places as places;
 ghost use Rattle.machine.specs.Effects as effects;
 ghost use Rattle.machine.specs.Commits as commits;
@@ -34,7 +35,7 @@ fn loop_effect(
     form: OperandForm,
     opcode: u32,
 ) -> MaybeStore
-    requires { ⌜ places.Whole (now memory) ⌝ }
+    requires { ⌜ places.Fits machine (length (now memory)) ⌝ }
     ensures { λ e. ⌜ effects.maybeStore e ≡ taking.takingAt machine form (dispatch.loopOf opcode) (now (memory .entry)) r ⌝ }
 {
     if opcode < 0x4E {
@@ -44,7 +45,7 @@ fn loop_effect(
 }
 
 pub fn execute_loop(machine: Machine, memory: &mut [u8], r: Registers, opcode: u32) -> Step
-    requires { ⌜ places.Whole (now memory) ⌝ }
+    requires { ⌜ places.Fits machine (length (now memory)) ⌝ }
     requires { ⌜ opcode / 4 ≡ 0x13 ⌝ }
     ensures { λ s. ⌜ commits.stepped (now (memory .exit)) s ≡ dispatch.executeOf machine (now (memory .entry)) r (dispatch.decodeOf opcode) ⌝ }
 {

@@ -1,5 +1,6 @@
 // Control structures.
 ghost use mathlib.Core.Path.{_≡_};
+ghost use lib.ListN.{length};
 ghost use Rattle.machine.specs.Places as places;
 ghost use Rattle.machine.specs.Effects as effects;
 ghost use Rattle.instruction.specs.Plain as plain;
@@ -15,24 +16,26 @@ use instruction::shape::branch_operand;
 use instruction::shape::fail_maybe;
 use instruction::shape::fail_none;
 use instruction::shape::fail_one;
-use instruction::shape::fail_two;
+use instruction::shape::fail_two_returns;
 use instruction::shape::push;
 use instruction::shape::return_address;
 use instruction::shape::write_nothing;
-use machine::Access;
 use machine::Machine;
 use machine::MaybeStore;
 use machine::NoStore;
 use machine::OneStore;
 use machine::Registers;
+use machine::Target;
 use machine::Then;
-use machine::TwoStores;
+use machine::TwoReturns;
 use machine::Write;
 use machine::places::fetch;
+use machine::places::fetch_data;
+use machine::places::fetch_return;
 
 // 42h BRANCH, 43h BRANCHI ( -- )
 pub fn branch(machine: Machine, memory: &[u8], r: Registers, form: OperandForm) -> NoStore
-    requires { ⌜ places.Whole (now memory) ⌝ }
+    requires { ⌜ places.Fits machine (length (now memory)) ⌝ }
     ensures { λ e. ⌜ effects.noStore e ≡ taking.takingAt machine form taking.branch (now (memory .entry)) r ⌝ }
 {
     let got = branch_operand(machine, memory, r, form);
@@ -48,10 +51,10 @@ pub fn branch(machine: Machine, memory: &[u8], r: Registers, form: OperandForm) 
 
 // 44h ?BRANCH, 45h ?BRANCHI ( flag -- )
 pub fn question_branch(machine: Machine, memory: &[u8], r: Registers, form: OperandForm) -> NoStore
-    requires { ⌜ places.Whole (now memory) ⌝ }
+    requires { ⌜ places.Fits machine (length (now memory)) ⌝ }
     ensures { λ e. ⌜ effects.noStore e ≡ taking.takingAt machine form taking.questionBranch (now (memory .entry)) r ⌝ }
 {
-    let got = fetch(machine, Access::DataRead, memory, Address(r.sp));
+    let got = fetch_data(machine, memory, Address(r.sp));
     let Fetched::Cell(x) = got else {
         return fail_none(got);
     };
@@ -75,18 +78,18 @@ pub fn question_branch(machine: Machine, memory: &[u8], r: Registers, form: Oper
 
 // 46h EXECUTE ( xt -- ) R: ( -- a-addr )
 pub fn execute(machine: Machine, memory: &[u8], r: Registers) -> OneStore
-    requires { ⌜ places.Whole (now memory) ⌝ }
+    requires { ⌜ places.Fits machine (length (now memory)) ⌝ }
     ensures { λ e. ⌜ effects.oneStore e ≡ plain.plainAt machine Instruction.Execute (now (memory .entry)) r ⌝ }
 {
-    let got = fetch(machine, Access::DataRead, memory, Address(r.sp));
+    let got = fetch_data(machine, memory, Address(r.sp));
     let Fetched::Cell(to) = got else {
         return fail_one(got);
     };
     OneStore {
         sp: add(r.sp, 4),
         rp: subtract(r.rp, 4),
+        target: Target::Return,
         write: Write {
-            access: Access::ReturnWrite,
             at: Address(subtract(r.rp, 4)),
             value: r.ep,
         },
@@ -96,22 +99,22 @@ pub fn execute(machine: Machine, memory: &[u8], r: Registers) -> OneStore
 
 // 47h @EXECUTE ( a-addr1 -- ) R: ( -- a-addr2 )
 pub fn fetch_execute(machine: Machine, memory: &[u8], r: Registers) -> OneStore
-    requires { ⌜ places.Whole (now memory) ⌝ }
+    requires { ⌜ places.Fits machine (length (now memory)) ⌝ }
     ensures { λ e. ⌜ effects.oneStore e ≡ plain.plainAt machine Instruction.FetchExecute (now (memory .entry)) r ⌝ }
 {
-    let got = fetch(machine, Access::DataRead, memory, Address(r.sp));
+    let got = fetch_data(machine, memory, Address(r.sp));
     let Fetched::Cell(a) = got else {
         return fail_one(got);
     };
-    let got2 = fetch(machine, Access::NamedRead, memory, Address(a));
+    let got2 = fetch(machine, memory, Address(a));
     let Fetched::Cell(to) = got2 else {
         return fail_one(got2);
     };
     OneStore {
         sp: add(r.sp, 4),
         rp: subtract(r.rp, 4),
+        target: Target::Return,
         write: Write {
-            access: Access::ReturnWrite,
             at: Address(subtract(r.rp, 4)),
             value: r.ep,
         },
@@ -121,7 +124,7 @@ pub fn fetch_execute(machine: Machine, memory: &[u8], r: Registers) -> OneStore
 
 // 48h CALL, 49h CALLI ( -- ) R: ( -- a-addr )
 pub fn call(machine: Machine, memory: &[u8], r: Registers, form: OperandForm) -> OneStore
-    requires { ⌜ places.Whole (now memory) ⌝ }
+    requires { ⌜ places.Fits machine (length (now memory)) ⌝ }
     ensures { λ e. ⌜ effects.oneStore e ≡ taking.takingAt machine form taking.call (now (memory .entry)) r ⌝ }
 {
     let got = branch_operand(machine, memory, r, form);
@@ -132,8 +135,8 @@ pub fn call(machine: Machine, memory: &[u8], r: Registers, form: OperandForm) ->
     OneStore {
         sp: r.sp,
         rp: rp,
+        target: Target::Return,
         write: Write {
-            access: Access::ReturnWrite,
             at: Address(rp),
             value: return_address(r, form),
         },
@@ -143,10 +146,10 @@ pub fn call(machine: Machine, memory: &[u8], r: Registers, form: OperandForm) ->
 
 // 4Ah EXIT ( -- ) R: ( a-addr -- )
 pub fn exit(machine: Machine, memory: &[u8], r: Registers) -> NoStore
-    requires { ⌜ places.Whole (now memory) ⌝ }
+    requires { ⌜ places.Fits machine (length (now memory)) ⌝ }
     ensures { λ e. ⌜ effects.noStore e ≡ plain.plainAt machine Instruction.Exit (now (memory .entry)) r ⌝ }
 {
-    let got = fetch(machine, Access::ReturnRead, memory, Address(r.rp));
+    let got = fetch_return(machine, memory, Address(r.rp));
     let Fetched::Cell(to) = got else {
         return fail_none(got);
     };
@@ -158,28 +161,26 @@ pub fn exit(machine: Machine, memory: &[u8], r: Registers) -> NoStore
 }
 
 // 4Bh (DO) ( x1 x2 -- ) R: ( -- x1 x2 )
-pub fn start_loop(machine: Machine, memory: &[u8], r: Registers) -> TwoStores
-    requires { ⌜ places.Whole (now memory) ⌝ }
-    ensures { λ e. ⌜ effects.twoStores e ≡ plain.plainAt machine Instruction.Do (now (memory .entry)) r ⌝ }
+pub fn start_loop(machine: Machine, memory: &[u8], r: Registers) -> TwoReturns
+    requires { ⌜ places.Fits machine (length (now memory)) ⌝ }
+    ensures { λ e. ⌜ effects.twoReturns e ≡ plain.plainAt machine Instruction.Do (now (memory .entry)) r ⌝ }
 {
-    let got = fetch(machine, Access::DataRead, memory, Address(r.sp));
+    let got = fetch_data(machine, memory, Address(r.sp));
     let Fetched::Cell(x2) = got else {
-        return fail_two(got);
+        return fail_two_returns(got);
     };
-    let got2 = fetch(machine, Access::DataRead, memory, Address(add(r.sp, 4)));
+    let got2 = fetch_data(machine, memory, Address(add(r.sp, 4)));
     let Fetched::Cell(x1) = got2 else {
-        return fail_two(got2);
+        return fail_two_returns(got2);
     };
-    TwoStores {
+    TwoReturns {
         sp: add(r.sp, 8),
         rp: subtract(r.rp, 8),
         first: Write {
-            access: Access::ReturnWrite,
             at: Address(subtract(r.rp, 4)),
             value: x1,
         },
         second: Write {
-            access: Access::ReturnWrite,
             at: Address(subtract(r.rp, 8)),
             value: x2,
         },
@@ -189,14 +190,14 @@ pub fn start_loop(machine: Machine, memory: &[u8], r: Registers) -> TwoStores
 
 // 4Ch (LOOP), 4Dh (LOOP)I R: ( n1 n2 -- | n1 n3 )
 pub fn step_loop(machine: Machine, memory: &[u8], r: Registers, form: OperandForm) -> MaybeStore
-    requires { ⌜ places.Whole (now memory) ⌝ }
+    requires { ⌜ places.Fits machine (length (now memory)) ⌝ }
     ensures { λ e. ⌜ effects.maybeStore e ≡ taking.takingAt machine form taking.loop (now (memory .entry)) r ⌝ }
 {
-    let got = fetch(machine, Access::ReturnRead, memory, Address(r.rp));
+    let got = fetch_return(machine, memory, Address(r.rp));
     let Fetched::Cell(index) = got else {
         return fail_maybe(got);
     };
-    let got2 = fetch(machine, Access::ReturnRead, memory, Address(add(r.rp, 4)));
+    let got2 = fetch_return(machine, memory, Address(add(r.rp, 4)));
     let Fetched::Cell(limit) = got2 else {
         return fail_maybe(got2);
     };
@@ -212,8 +213,8 @@ pub fn step_loop(machine: Machine, memory: &[u8], r: Registers, form: OperandFor
         sp: r.sp,
         rp: r.rp,
         writes: true,
+        target: Target::Return,
         write: Write {
-            access: Access::ReturnWrite,
             at: Address(r.rp),
             value: next,
         },
@@ -228,18 +229,18 @@ pub fn step_plus_loop(
     r: Registers,
     form: OperandForm,
 ) -> MaybeStore
-    requires { ⌜ places.Whole (now memory) ⌝ }
+    requires { ⌜ places.Fits machine (length (now memory)) ⌝ }
     ensures { λ e. ⌜ effects.maybeStore e ≡ taking.takingAt machine form taking.plusLoop (now (memory .entry)) r ⌝ }
 {
-    let got = fetch(machine, Access::DataRead, memory, Address(r.sp));
+    let got = fetch_data(machine, memory, Address(r.sp));
     let Fetched::Cell(n) = got else {
         return fail_maybe(got);
     };
-    let got2 = fetch(machine, Access::ReturnRead, memory, Address(r.rp));
+    let got2 = fetch_return(machine, memory, Address(r.rp));
     let Fetched::Cell(index) = got2 else {
         return fail_maybe(got2);
     };
-    let got3 = fetch(machine, Access::ReturnRead, memory, Address(add(r.rp, 4)));
+    let got3 = fetch_return(machine, memory, Address(add(r.rp, 4)));
     let Fetched::Cell(limit) = got3 else {
         return fail_maybe(got3);
     };
@@ -255,8 +256,8 @@ pub fn step_plus_loop(
         sp: add(r.sp, 4),
         rp: r.rp,
         writes: true,
+        target: Target::Return,
         write: Write {
-            access: Access::ReturnWrite,
             at: Address(r.rp),
             value: next,
         },
@@ -266,14 +267,14 @@ pub fn step_plus_loop(
 
 // 50h UNLOOP R: ( x1 x2 -- )
 pub fn unloop(machine: Machine, memory: &[u8], r: Registers) -> NoStore
-    requires { ⌜ places.Whole (now memory) ⌝ }
+    requires { ⌜ places.Fits machine (length (now memory)) ⌝ }
     ensures { λ e. ⌜ effects.noStore e ≡ plain.plainAt machine Instruction.Unloop (now (memory .entry)) r ⌝ }
 {
-    let got = fetch(machine, Access::ReturnRead, memory, Address(r.rp));
+    let got = fetch_return(machine, memory, Address(r.rp));
     let Fetched::Cell(_) = got else {
         return fail_none(got);
     };
-    let got2 = fetch(machine, Access::ReturnRead, memory, Address(add(r.rp, 4)));
+    let got2 = fetch_return(machine, memory, Address(add(r.rp, 4)));
     let Fetched::Cell(_) = got2 else {
         return fail_none(got2);
     };
@@ -286,18 +287,18 @@ pub fn unloop(machine: Machine, memory: &[u8], r: Registers) -> NoStore
 
 // 51h J ( -- x1 ) R: ( x1 x2 x3 -- x1 x2 x3 )
 pub fn outer_index(machine: Machine, memory: &[u8], r: Registers) -> OneStore
-    requires { ⌜ places.Whole (now memory) ⌝ }
+    requires { ⌜ places.Fits machine (length (now memory)) ⌝ }
     ensures { λ e. ⌜ effects.oneStore e ≡ plain.plainAt machine Instruction.J (now (memory .entry)) r ⌝ }
 {
-    let got = fetch(machine, Access::ReturnRead, memory, Address(r.rp));
+    let got = fetch_return(machine, memory, Address(r.rp));
     let Fetched::Cell(_) = got else {
         return fail_one(got);
     };
-    let got2 = fetch(machine, Access::ReturnRead, memory, Address(add(r.rp, 4)));
+    let got2 = fetch_return(machine, memory, Address(add(r.rp, 4)));
     let Fetched::Cell(_) = got2 else {
         return fail_one(got2);
     };
-    let got3 = fetch(machine, Access::ReturnRead, memory, Address(add(r.rp, 8)));
+    let got3 = fetch_return(machine, memory, Address(add(r.rp, 8)));
     let Fetched::Cell(x1) = got3 else {
         return fail_one(got3);
     };

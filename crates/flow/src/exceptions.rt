@@ -1,5 +1,6 @@
 // Exceptions.
 ghost use mathlib.Core.Path.{_≡_};
+ghost use lib.ListN.{length};
 ghost use Rattle.machine.specs.Places as places;
 ghost use Rattle.machine.specs.Effects as effects;
 ghost use Rattle.instruction.specs.Plain as plain;
@@ -9,20 +10,19 @@ use cell::Fetched;
 use cell::number::add;
 use instruction::Instruction;
 use instruction::shape::fail_none;
-use machine::Access;
 use machine::Machine;
 use machine::NoStore;
 use machine::Registers;
 use machine::Then;
 use machine::fixed::BAD_STACK;
-use machine::places::fetch;
+use machine::places::fetch_data;
 
 // 55h HALT ( x -- ): an SP that is no valid cell stops the machine with -258.
 pub fn halt(machine: Machine, memory: &[u8], r: Registers) -> NoStore
-    requires { ⌜ places.Whole (now memory) ⌝ }
+    requires { ⌜ places.Fits machine (length (now memory)) ⌝ }
     ensures { λ e. ⌜ effects.noStore e ≡ plain.plainAt machine Instruction.Halt (now (memory .entry)) r ⌝ }
 {
-    let got = fetch(machine, Access::DataRead, memory, Address(r.sp));
+    let got = fetch_data(machine, memory, Address(r.sp));
     let Fetched::Cell(x) = got else {
         return NoStore {
             sp: r.sp,
@@ -39,10 +39,10 @@ pub fn halt(machine: Machine, memory: &[u8], r: Registers) -> NoStore
 
 // 57h LIB ( n -- )
 pub fn lib(machine: Machine, memory: &[u8], r: Registers) -> NoStore
-    requires { ⌜ places.Whole (now memory) ⌝ }
+    requires { ⌜ places.Fits machine (length (now memory)) ⌝ }
     ensures { λ e. ⌜ effects.noStore e ≡ plain.plainAt machine Instruction.Lib (now (memory .entry)) r ⌝ }
 {
-    let got = fetch(machine, Access::DataRead, memory, Address(r.sp));
+    let got = fetch_data(machine, memory, Address(r.sp));
     let Fetched::Cell(_) = got else {
         return fail_none(got);
     };

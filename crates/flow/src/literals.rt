@@ -1,5 +1,6 @@
 // Literals.
 ghost use mathlib.Core.Path.{_≡_};
+ghost use lib.ListN.{length};
 ghost use Rattle.machine.specs.Places as places;
 ghost use Rattle.machine.specs.Effects as effects;
 ghost use Rattle.instruction.specs.Taking as taking;
@@ -14,7 +15,7 @@ use machine::Registers;
 
 // 52h (LITERAL), 53h (LITERAL)I ( -- x )
 pub fn literal(machine: Machine, memory: &[u8], r: Registers, form: OperandForm) -> OneStore
-    requires { ⌜ places.Whole (now memory) ⌝ }
+    requires { ⌜ places.Fits machine (length (now memory)) ⌝ }
     ensures { λ e. ⌜ effects.oneStore e ≡ taking.takingAt machine form taking.literal (now (memory .entry)) r ⌝ }
 {
     let got = literal_operand(machine, memory, r, form);

@@ -2,6 +2,7 @@
 ghost use mathlib.Core.Path.{_≡_};
 ghost use mathlib.Core.List.{List};
 ghost use Prim.Native.Nat.{ℕ};
+ghost use lib.ListN.{length};
 ghost use Rattle.cell.specs.Place as place;
 ghost use Rattle.machine.specs.Places as places;
 ghost use Rattle.machine.specs.Effects as effects;
@@ -16,7 +17,6 @@ use cell::Quotient;
 use cell::number::add;
 use cell::number::subtract;
 use cell::place::fault_in;
-use machine::Access;
 use machine::ByteStore;
 use machine::Machine;
 use machine::MaybeStore;
@@ -26,11 +26,14 @@ use machine::Outcome;
 use machine::Registers;
 use machine::RollStores;
 use machine::Step;
+use machine::Target;
 use machine::Then;
 use machine::ThreeStores;
+use machine::TwoReturns;
 use machine::TwoStores;
 use machine::Write;
 use machine::places::fetch;
+use machine::places::fetch_data;
 
 // The top item of the data stack replaced.
 pub fn replace(r: Registers, x: u32) -> OneStore
@@ -39,8 +42,8 @@ pub fn replace(r: Registers, x: u32) -> OneStore
     OneStore {
         sp: r.sp,
         rp: r.rp,
+        target: Target::Data,
         write: Write {
-            access: Access::DataWrite,
             at: Address(r.sp),
             value: x,
         },
@@ -56,8 +59,8 @@ pub fn reduce(r: Registers, x: u32) -> OneStore
     OneStore {
         sp: sp,
         rp: r.rp,
+        target: Target::Data,
         write: Write {
-            access: Access::DataWrite,
             at: Address(sp),
             value: x,
         },
@@ -73,8 +76,8 @@ pub fn push(r: Registers, x: u32) -> OneStore
     OneStore {
         sp: sp,
         rp: r.rp,
+        target: Target::Data,
         write: Write {
-            access: Access::DataWrite,
             at: Address(sp),
             value: x,
         },
@@ -90,12 +93,10 @@ pub fn replace_both(r: Registers, q: Quotient) -> TwoStores
         sp: r.sp,
         rp: r.rp,
         first: Write {
-            access: Access::DataWrite,
             at: Address(add(r.sp, 4)),
             value: q.remainder,
         },
         second: Write {
-            access: Access::DataWrite,
             at: Address(r.sp),
             value: q.quotient,
         },
@@ -111,9 +112,9 @@ pub fn write_nothing(sp: u32, rp: u32) -> MaybeStore
         sp: sp,
         rp: rp,
         writes: false,
+        target: Target::Data,
         // invented, and never read: nothing is written
         write: Write {
-            access: Access::DataWrite,
             at: Address(0),
             value: 0,
         },
@@ -147,8 +148,8 @@ pub fn fail_one(got: Fetched) -> OneStore
     OneStore {
         sp: 0,
         rp: 0,
+        target: Target::Data,
         write: Write {
-            access: Access::DataWrite,
             at: Address(0),
             value: 0,
         },
@@ -164,8 +165,8 @@ pub fn fail_maybe(got: Fetched) -> MaybeStore
         sp: 0,
         rp: 0,
         writes: false,
+        target: Target::Data,
         write: Write {
-            access: Access::DataWrite,
             at: Address(0),
             value: 0,
         },
@@ -181,12 +182,29 @@ pub fn fail_two(got: Fetched) -> TwoStores
         sp: 0,
         rp: 0,
         first: Write {
-            access: Access::DataWrite,
             at: Address(0),
             value: 0,
         },
         second: Write {
-            access: Access::DataWrite,
+            at: Address(0),
+            value: 0,
+        },
+        then: failure(got),
+    }
+}
+
+pub fn fail_two_returns(got: Fetched) -> TwoReturns
+    requires { ⌜ place.Failing got ⌝ }
+    ensures { λ e. ⌜ effects.twoReturns e ≡ plain.failed got ⌝ }
+{
+    TwoReturns {
+        sp: 0,
+        rp: 0,
+        first: Write {
+            at: Address(0),
+            value: 0,
+        },
+        second: Write {
             at: Address(0),
             value: 0,
         },
@@ -202,17 +220,14 @@ pub fn fail_three(got: Fetched) -> ThreeStores
         sp: 0,
         rp: 0,
         first: Write {
-            access: Access::DataWrite,
             at: Address(0),
             value: 0,
         },
         second: Write {
-            access: Access::DataWrite,
             at: Address(0),
             value: 0,
         },
         third: Write {
-            access: Access::DataWrite,
             at: Address(0),
             value: 0,
         },
@@ -249,12 +264,12 @@ pub fn fail_roll(got: Fetched) -> RollStores
 
 // The item `depth` below the top one, at its exact address.
 pub fn fetch_deep(machine: Machine, memory: &[u8], sp: Address, depth: CellCount) -> Fetched
-    requires { ⌜ places.Whole (now memory) ⌝ }
+    requires { ⌜ places.Fits machine (length (now memory)) ⌝ }
     ensures { λ f. ⌜ f ≡ plain.fetchDeep machine (now (memory .entry)) (plain.deepAddress (sp .0) (depth .0)) ⌝ }
 {
     let a = sp.0 as u64 + 4 + 4 * (depth.0 as u64);
     if a < 0x1_0000_0000 {
-        fetch(machine, Access::DataRead, memory, Address(a as u32))
+        fetch_data(machine, memory, Address(a as u32))
     } else {
         Fetched::Failed(Fault::Range(Address((a % 0x1_0000_0000) as u32)))
     }
@@ -262,22 +277,22 @@ pub fn fetch_deep(machine: Machine, memory: &[u8], sp: Address, depth: CellCount
 
 // The address that a branch leads to.
 pub fn branch_operand(machine: Machine, memory: &[u8], r: Registers, form: OperandForm) -> Fetched
-    requires { ⌜ places.Whole (now memory) ⌝ }
+    requires { ⌜ places.Fits machine (length (now memory)) ⌝ }
     ensures { λ f. ⌜ f ≡ taking.branchOperand machine form (now (memory .entry)) (r .ep) (r .a) ⌝ }
 {
     match form {
-        OperandForm::InCell => fetch(machine, Access::Stream, memory, Address(r.ep)),
+        OperandForm::InCell => fetch(machine, memory, Address(r.ep)),
         OperandForm::Immediate => Fetched::Cell(add(r.ep, r.a % 0x40000000 * 4)),
     }
 }
 
 // The value of a literal.
 pub fn literal_operand(machine: Machine, memory: &[u8], r: Registers, form: OperandForm) -> Fetched
-    requires { ⌜ places.Whole (now memory) ⌝ }
+    requires { ⌜ places.Fits machine (length (now memory)) ⌝ }
     ensures { λ f. ⌜ f ≡ taking.literalOperand machine form (now (memory .entry)) (r .ep) (r .a) ⌝ }
 {
     match form {
-        OperandForm::InCell => fetch(machine, Access::Stream, memory, Address(r.ep)),
+        OperandForm::InCell => fetch(machine, memory, Address(r.ep)),
         OperandForm::Immediate => Fetched::Cell(r.a),
     }
 }

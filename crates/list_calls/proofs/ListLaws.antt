@@ -37,7 +37,7 @@ told-alike m start pointers out (followed.Run x) = refl
 module _ (order : ℕ) (kinds operands : List ℕ) (base : ℕ) (m : List ℕ) (start : Stand) (items pointers out : ℕ) where
   -- a run was made only where there is room for what is told of it
   ran-room : (m2 : List ℕ) (x : ItemRun) (j : Judged) → judgeFollow (length m) order kinds operands base (judgeLent pointers out) ≡ j
-      → followedTo m2 start (followed.Run x) ≡ followIf j (machineOf order) base (listed kinds operands) m start items
+      → followedTo m2 start (followed.Run x) ≡ followIf j (machineOf order (length m)) base (listed kinds operands) m start items
       → (2 ≤ pointers) × (5 ≤ out)
   unfolding judgeFollow judgeImage
   ran-room m2 x (Refused r) q e =

@@ -8,9 +8,11 @@ use native.Mathlib.Omega.{arith}
 use borrow.Author.Tests.{lt-ltb, le-ltb}
 use lib.Dec.{ltb}
 use Rattle.cell.specs.Memory.{cellAt}
-use Rattle.machine.specs.Effects.{Store, rollStores, rolled}
+use Rattle.machine.specs.Effects.{Store, storeOf, rollStores, rolled}
 use Rattle.machine.specs.Commits.{firstBad, placesOf, touches}
 use Rattle.machine.specs.declared.Machine.{Machine}
+use Rattle.machine.specs.declared.Access.{Access}
+use Rattle.machine.specs.declared.Write.{Write}
 use Rattle.machine.proofs.CommitLaws.{first-good}
 
 -- the test of one range of bytes against another
@@ -67,6 +69,12 @@ rolled-touches order m top zero lo hi h = refl
 rolled-touches order m top (suc u) lo hi h =
     ap (λ (b : Bool). b && (ltb top hi && ltb lo (top + (4 * suc u + 4)))) (lt-ltb 0 (suc u) (omega arith))
     ∙ sym (roll-touches order m top (cellAt order m (top + 4 * suc u)) lo hi h (suc u))
+
+-- one cell, whatever it is written for
+pub touches-one : (access : Access) (w : Write) (lo hi : ℕ)
+    → (ltb (w .at .0) hi && ltb lo (w .at .0 + 4)) ≡ touches lo hi (storeOf access w ∷ [])
+unfolding touches
+touches-one access w lo hi = sym (or-false _)
 
 -- one store more
 pub places-more : (machine : Machine) (len : ℕ) (s : Store) (ss : List Store)

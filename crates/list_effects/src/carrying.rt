@@ -1,5 +1,6 @@
 // A shape carried out.
 ghost use mathlib.Core.Path.{_≡_};
+ghost use lib.ListN.{length};
 ghost use Rattle.machine.specs.Places as places;
 ghost use Rattle.machine.specs.Commits as commits;
 ghost use Rattle.list_effects.specs.Shapes as shapes;
@@ -10,13 +11,14 @@ use commits::commit::commit_none;
 use commits::commit::commit_one;
 use commits::commit::commit_three;
 use commits::commit::commit_two;
+use commits::commit::commit_two_returns;
 use commits::roll::commit_roll;
 use machine::Machine;
 use machine::Registers;
 use machine::Step;
 
 pub fn commit_shape(machine: Machine, memory: &mut [u8], r: Registers, shape: Shape) -> Step
-    requires { ⌜ places.Whole (now memory) ⌝ }
+    requires { ⌜ places.Fits machine (length (now memory)) ⌝ }
     requires { ⌜ shapes.Fits shape ⌝ }
     ensures { λ s. ⌜ commits.stepped (now (memory .exit)) s ≡ commits.commitOf machine (now (memory .entry)) r (shapes.shapeEffect machine (now (memory .entry)) shape) ⌝ }
 {
@@ -28,5 +30,6 @@ pub fn commit_shape(machine: Machine, memory: &mut [u8], r: Registers, shape: Sh
         Shape::Three(e) => commit_three(machine, memory, r, e),
         Shape::Byte(e) => commit_byte(machine, memory, r, e),
         Shape::Roll(e) => commit_roll(machine, memory, r, e),
+        Shape::TwoReturns(e) => commit_two_returns(machine, memory, r, e),
     }
 }

@@ -1,5 +1,6 @@
 // Opcodes 01h to 15h: the data stack, comparison.
 ghost use Prim.Native.Nat.{_≤_};
+ghost use lib.ListN.{length};
 ghost use Rattle.machine.specs.Places as places;
 ghost use Rattle.instruction.specs.Plain as plain;
 ghost use Rattle.instruction.specs.Dispatch as dispatch;
@@ -32,7 +33,7 @@ use storage::stack::tuck;
 
 // What an instruction without an operand would do, by its opcode.
 pub fn propose_from_01(machine: Machine, memory: &[u8], r: Registers, opcode: u32) -> Shape
-    requires { ⌜ places.Whole (now memory) ⌝ }
+    requires { ⌜ places.Fits machine (length (now memory)) ⌝ }
     requires { ⌜ 1 ≤ opcode ⌝ }
     ensures { λ s. ⌜ shapes.Proposed machine (now (memory .entry)) s (plain.plainAt machine (dispatch.decodeOf opcode) (now (memory .entry)) r) ⌝ }
 {

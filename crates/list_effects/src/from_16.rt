@@ -1,5 +1,6 @@
 // Opcodes 16h to 2Bh: comparison, constants, arithmetic.
 ghost use Prim.Native.Nat.{_≤_};
+ghost use lib.ListN.{length};
 ghost use Rattle.machine.specs.Places as places;
 ghost use Rattle.instruction.specs.Plain as plain;
 ghost use Rattle.instruction.specs.Dispatch as dispatch;
@@ -28,7 +29,7 @@ use operators::comparison::u_less;
 use operators::comparison::zero_not_equal;
 
 pub fn propose_from_16(machine: Machine, memory: &[u8], r: Registers, opcode: u32) -> Shape
-    requires { ⌜ places.Whole (now memory) ⌝ }
+    requires { ⌜ places.Fits machine (length (now memory)) ⌝ }
     requires { ⌜ 22 ≤ opcode ⌝ }
     ensures { λ s. ⌜ shapes.Proposed machine (now (memory .entry)) s (plain.plainAt machine (dispatch.decodeOf opcode) (now (memory .entry)) r) ⌝ }
 {

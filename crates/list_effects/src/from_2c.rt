@@ -1,5 +1,6 @@
 // Opcodes 2Ch to 41h: arithmetic, logic, memory, the stack pointers.
 ghost use Prim.Native.Nat.{_≤_};
+ghost use lib.ListN.{length};
 ghost use Rattle.machine.specs.Places as places;
 ghost use Rattle.instruction.specs.Plain as plain;
 ghost use Rattle.instruction.specs.Dispatch as dispatch;
@@ -31,7 +32,7 @@ use storage::registers::rp_store;
 use storage::registers::sp_store;
 
 pub fn propose_from_2c(machine: Machine, memory: &[u8], r: Registers, opcode: u32) -> Shape
-    requires { ⌜ places.Whole (now memory) ⌝ }
+    requires { ⌜ places.Fits machine (length (now memory)) ⌝ }
     requires { ⌜ 44 ≤ opcode ⌝ }
     ensures { λ s. ⌜ shapes.Proposed machine (now (memory .entry)) s (plain.plainAt machine (dispatch.decodeOf opcode) (now (memory .entry)) r) ⌝ }
 {

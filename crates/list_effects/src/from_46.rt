@@ -1,5 +1,6 @@
 // Opcodes 46h to 57h that take no operand: control, exceptions.
 ghost use Prim.Native.Nat.{_≤_};
+ghost use lib.ListN.{length};
 ghost use Rattle.machine.specs.Places as places;
 ghost use Rattle.instruction.specs.Plain as plain;
 ghost use Rattle.instruction.specs.Dispatch as dispatch;
@@ -20,7 +21,7 @@ use machine::Registers;
 use machine::Then;
 
 pub fn propose_from_46(machine: Machine, memory: &[u8], r: Registers, opcode: u32) -> Shape
-    requires { ⌜ places.Whole (now memory) ⌝ }
+    requires { ⌜ places.Fits machine (length (now memory)) ⌝ }
     requires { ⌜ 66 ≤ opcode ⌝ }
     ensures { λ s. ⌜ shapes.Proposed machine (now (memory .entry)) s (plain.plainAt machine (dispatch.decodeOf opcode) (now (memory .entry)) r) ⌝ }
 {
@@ -32,7 +33,7 @@ pub fn propose_from_46(machine: Machine, memory: &[u8], r: Registers, opcode: u3
         // EXIT
         0x4A => Shape::None(exit(machine, memory, r)),
         // (DO)
-        0x4B => Shape::Two(start_loop(machine, memory, r)),
+        0x4B => Shape::TwoReturns(start_loop(machine, memory, r)),
         // UNLOOP
         0x50 => Shape::None(unloop(machine, memory, r)),
         // J

@@ -5,6 +5,7 @@ ghost use mathlib.Core.List.{[], _∷_};
 ghost use Prim.Native.Nat.{_+_, _*_, _<_};
 ghost use lib.Dec.{ltb};
 ghost use lib.ListN.{length};
+ghost use Rattle.machine.specs.Places as places;
 ghost use Rattle.machine.specs.Effects as effects;
 ghost use Rattle.machine.specs.Commits as commits;
 ghost use Rattle.list_effects.specs.Shapes as shapes;
@@ -16,10 +17,11 @@ use commits::commit::fault_of;
 use commits::roll::check_roll;
 use machine::Access;
 use machine::Machine;
+use machine::Target;
 use machine::Then;
 use machine::Write;
 use machine::places::check_byte_place;
-use machine::places::check_place;
+use machine::places::check_target;
 
 // What follows the writes.
 pub fn then_of(shape: Shape) -> Then
@@ -33,6 +35,7 @@ pub fn then_of(shape: Shape) -> Then
         Shape::Three(e) => e.then,
         Shape::Byte(e) => e.then,
         Shape::Roll(e) => e.then,
+        Shape::TwoReturns(e) => e.then,
     }
 }
 
@@ -46,16 +49,17 @@ fn first_bad(a: Checked, b: Checked) -> Checked
     }
 }
 
-fn check_write(machine: Machine, length: usize, w: Write) -> Checked
-    ensures { λ r. ⌜ r ≡ commits.placesOf machine length (effects.storeOf w ∷ []) ⌝ }
+fn check_write(machine: Machine, target: Target, length: usize, w: Write) -> Checked
+    requires { ⌜ places.Fits machine length ⌝ }
+    ensures { λ r. ⌜ r ≡ commits.placesOf machine length (effects.storeOf (places.accessTo target) w ∷ []) ⌝ }
 {
-    let access = w.access;
     let at = w.at;
-    check_place(machine, access, length, at)
+    check_target(machine, target, length, at)
 }
 
 // Every place that a shape would write.
 fn check_places(machine: Machine, memory: &[u8], shape: Shape) -> Checked
+    requires { ⌜ places.Fits machine (length (now memory)) ⌝ }
     requires { ⌜ shapes.Fits shape ⌝ }
     ensures { λ r. ⌜ r ≡ commits.placesOf machine (length (now (memory .entry))) (shapes.shapeStores machine (now (memory .entry)) shape) ⌝ }
 {
@@ -63,28 +67,36 @@ fn check_places(machine: Machine, memory: &[u8], shape: Shape) -> Checked
     match shape {
         Shape::None(_) => Checked::Good,
         Shape::One(e) => {
+            let target = e.target;
             let w = e.write;
-            check_write(machine, n, w)
+            check_write(machine, target, n, w)
         }
         Shape::Maybe(e) => {
+            let target = e.target;
             let w = e.write;
             if e.writes {
-                return check_write(machine, n, w);
+                return check_write(machine, target, n, w);
             }
             Checked::Good
         }
         Shape::Two(e) => {
             let w = e.first;
             let w2 = e.second;
-            first_bad(check_write(machine, n, w), check_write(machine, n, w2))
+            first_bad(
+                check_write(machine, Target::Data, n, w),
+                check_write(machine, Target::Data, n, w2),
+            )
         }
         Shape::Three(e) => {
             let w = e.first;
             let w2 = e.second;
             let w3 = e.third;
             first_bad(
-                check_write(machine, n, w),
-                first_bad(check_write(machine, n, w2), check_write(machine, n, w3)),
+                check_write(machine, Target::Data, n, w),
+                first_bad(
+                    check_write(machine, Target::Data, n, w2),
+                    check_write(machine, Target::Data, n, w3),
+                ),
             )
         }
         Shape::Byte(e) => {
@@ -96,11 +108,20 @@ fn check_places(machine: Machine, memory: &[u8], shape: Shape) -> Checked
             let depth = e.depth;
             check_roll(machine, memory, top, depth)
         }
+        Shape::TwoReturns(e) => {
+            let w = e.first;
+            let w2 = e.second;
+            first_bad(
+                check_write(machine, Target::Return, n, w),
+                check_write(machine, Target::Return, n, w2),
+            )
+        }
     }
 }
 
 // The fault of the reading, or the first bad place.
 pub fn check_shape(machine: Machine, memory: &[u8], shape: Shape) -> Checked
+    requires { ⌜ places.Fits machine (length (now memory)) ⌝ }
     requires { ⌜ shapes.Fits shape ⌝ }
     ensures { λ r. ⌜ r ≡ shapes.shapeFault machine (now (memory .entry)) shape ⌝ }
 {
@@ -128,7 +149,7 @@ pub fn meets(at: Address, width: u64, lo: Address, hi: Address) -> bool
 }
 
 fn meets_write(w: Write, lo: Address, hi: Address) -> bool
-    ensures { λ r. ⌜ r ≡ commits.touches (lo .0) (hi .0) (effects.storeOf w ∷ []) ⌝ }
+    ensures { λ r. ⌜ r ≡ (ltb (w .at .0) (hi .0) && ltb (lo .0) (w .at .0 + 4)) ⌝ }
 {
     let at = w.at;
     meets(at, 4, lo, hi)
@@ -183,6 +204,11 @@ pub fn writes(machine: Machine, memory: &[u8], shape: Shape, lo: Address, hi: Ad
             let top = e.top;
             let depth = e.depth;
             meets_roll(top, depth, lo, hi)
+        }
+        Shape::TwoReturns(e) => {
+            let w = e.first;
+            let w2 = e.second;
+            either(meets_write(w, lo, hi), meets_write(w2, lo, hi))
         }
     }
 }

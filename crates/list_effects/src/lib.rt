@@ -14,6 +14,7 @@ use machine::NoStore;
 use machine::OneStore;
 use machine::RollStores;
 use machine::ThreeStores;
+use machine::TwoReturns;
 use machine::TwoStores;
 
 // What an instruction asks for, by the places that it writes.
@@ -25,4 +26,5 @@ pub enum Shape {
     Three(ThreeStores),
     Byte(ByteStore),
     Roll(RollStores),
+    TwoReturns(TwoReturns),
 }

@@ -1,6 +1,7 @@
 // What (LOOP) and (+LOOP) would do, with their operand in A. The dispatch has calls of its own for them: a second call of the same function would keep
 // it from being laid into the processor's loop.
 ghost use mathlib.Core.Path.{_≡_};
+ghost use lib.ListN.{length};
 ghost use Rattle.machine.specs.Places as places;
 ghost use Rattle.machine.specs.Effects as effects;
 ghost use Rattle.instruction.specs.Taking as taking;
@@ -12,13 +13,14 @@ use cell::number::add;
 use instruction::counting::plus_ends;
 use instruction::shape::fail_maybe;
 use instruction::shape::write_nothing;
-use machine::Access;
 use machine::Machine;
 use machine::MaybeStore;
 use machine::Registers;
+use machine::Target;
 use machine::Then;
 use machine::Write;
-use machine::places::fetch;
+use machine::places::fetch_data;
+use machine::places::fetch_return;
 
 // Whether the step ends the loop: that of (+LOOP), or that of (LOOP).
 fn step_ends(plus: bool, index: u32, limit: u32, n: u32) -> bool
@@ -41,14 +43,14 @@ fn propose_step(
     n: u32,
     plus: bool,
 ) -> MaybeStore
-    requires { ⌜ places.Whole (now memory) ⌝ }
+    requires { ⌜ places.Fits machine (length (now memory)) ⌝ }
     ensures { λ e. ⌜ effects.maybeStore e ≡ looping.loopedOf machine (now (memory .entry)) sp rp (to .0) n plus ⌝ }
 {
-    let got = fetch(machine, Access::ReturnRead, memory, Address(rp));
+    let got = fetch_return(machine, memory, Address(rp));
     let Fetched::Cell(index) = got else {
         return fail_maybe(got);
     };
-    let got2 = fetch(machine, Access::ReturnRead, memory, Address(add(rp, 4)));
+    let got2 = fetch_return(machine, memory, Address(add(rp, 4)));
     let Fetched::Cell(limit) = got2 else {
         return fail_maybe(got2);
     };
@@ -59,8 +61,8 @@ fn propose_step(
         sp: sp,
         rp: rp,
         writes: true,
+        target: Target::Return,
         write: Write {
-            access: Access::ReturnWrite,
             at: Address(rp),
             value: add(index, n),
         },
@@ -69,7 +71,7 @@ fn propose_step(
 }
 
 pub fn propose_loop(machine: Machine, memory: &[u8], r: Registers) -> MaybeStore
-    requires { ⌜ places.Whole (now memory) ⌝ }
+    requires { ⌜ places.Fits machine (length (now memory)) ⌝ }
     ensures { λ e. ⌜ effects.maybeStore e ≡ taking.takingAt machine form.Immediate taking.loop (now (memory .entry)) r ⌝ }
 {
     let to = add(r.ep, r.a % 0x40000000 * 4);
@@ -77,10 +79,10 @@ pub fn propose_loop(machine: Machine, memory: &[u8], r: Registers) -> MaybeStore
 }
 
 pub fn propose_plus_loop(machine: Machine, memory: &[u8], r: Registers) -> MaybeStore
-    requires { ⌜ places.Whole (now memory) ⌝ }
+    requires { ⌜ places.Fits machine (length (now memory)) ⌝ }
     ensures { λ e. ⌜ effects.maybeStore e ≡ taking.takingAt machine form.Immediate taking.plusLoop (now (memory .entry)) r ⌝ }
 {
-    let got = fetch(machine, Access::DataRead, memory, Address(r.sp));
+    let got = fetch_data(machine, memory, Address(r.sp));
     let Fetched::Cell(n) = got else {
         return fail_maybe(got);
     };

@@ -1,4 +1,5 @@
 // The instructions that take an operand.
+ghost use lib.ListN.{length};
 ghost use Rattle.machine.specs.Places as places;
 ghost use Rattle.instruction.specs.Taking as taking;
 ghost use Rattle.instruction.specs.declared.OperandForm.the-variants as form;
@@ -16,7 +17,7 @@ use machine::Registers;
 
 // What an instruction with its operand in A would do, by its kind.
 pub fn propose_taking(machine: Machine, memory: &[u8], r: Registers, kind: u32) -> Shape
-    requires { ⌜ places.Whole (now memory) ⌝ }
+    requires { ⌜ places.Fits machine (length (now memory)) ⌝ }
     ensures { λ s. ⌜ shapes.Proposed machine (now (memory .entry)) s (taking.takingAt machine form.Immediate (shapes.takingKind kind) (now (memory .entry)) r) ⌝ }
 {
     match kind {

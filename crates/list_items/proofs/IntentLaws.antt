@@ -10,6 +10,7 @@ use Rattle.cell.specs.Choice.{if}
 use Rattle.cell.specs.declared.Checked.{Checked}
 use Rattle.cell.specs.declared.Checked.the-variants.{Good, Bad}
 use Rattle.machine.specs.Effects.{Store, Control, goOn, jump, halt, throwing, Action, effectOf}
+use Rattle.machine.specs.Exceptions.{exceptionOf}
 use Rattle.machine.specs.Commits.{firstBad, faultOf, placesOf, storedOf, commitOf, touches}
 use Rattle.machine.specs.Throws.{throwingOf}
 use Rattle.machine.specs.declared.Machine.{Machine}
@@ -70,11 +71,11 @@ module _ (machine : Machine) (base : ℕ) (l : Listing) (find : ℕ → Entry) (
     pub intent-is : (t : Then) (c : Checked) → placesOf machine (length (p .memory)) ss ≡ c → Alone (p .sp) (p .rp) (effectOf sp rp ss t)
         → performed machine p (registersAt machine base l p) (effectOf sp rp ss t) (meant ss t (firstBad (faultOf t) c))
         ≡ carriedBy machine base l p (effectOf sp rp ss t)
-    intent-is GoOn (Bad f) e o = rw e (throw-is machine base l find finds p whole least f)
-    intent-is (Jump a) (Bad f) e o = rw e (throw-is machine base l find finds p whole least f)
-    intent-is (Halt x) (Bad f) e o = rw e (throw-is machine base l find finds p whole least f)
-    intent-is Throw (Bad f) e o = rw e (throw-is machine base l find finds p whole least f)
-    intent-is (Raise f) c e o = throw-is machine base l find finds p whole least f
+    intent-is GoOn (Bad f) e o = rw e (throw-is machine base l find finds p whole least (exceptionOf machine f))
+    intent-is (Jump a) (Bad f) e o = rw e (throw-is machine base l find finds p whole least (exceptionOf machine f))
+    intent-is (Halt x) (Bad f) e o = rw e (throw-is machine base l find finds p whole least (exceptionOf machine f))
+    intent-is Throw (Bad f) e o = rw e (throw-is machine base l find finds p whole least (exceptionOf machine f))
+    intent-is (Raise f) c e o = throw-is machine base l find finds p whole least (exceptionOf machine f)
     intent-is GoOn Good e o =
         rw e
         (chosen (touches base (base + 4 * imageCells l) ss) GoOn _ _

@@ -11,14 +11,14 @@ use lib.ListN.{length}
 use Rattle.cell.specs.Choice.{if}
 use Rattle.cell.specs.Memory.{cellAt, storeCell}
 use Rattle.cell.specs.Number.{difference}
-use Rattle.cell.specs.Place.{faultCode, read}
+use Rattle.cell.specs.Place.{read}
 use Rattle.cell.specs.declared.Checked.{Checked}
 use Rattle.cell.specs.declared.Checked.the-variants.{Good, Bad}
-use Rattle.cell.specs.declared.Fault.{Fault}
-use Rattle.cell.specs.declared.Fault.the-variants.{Range, Alignment, Divisor, Illegal, Library}
 use Rattle.cell.proofs.MemoryLaws.{store-length, cell-back, cell-frame, cell-alike}
-use Rattle.cell.proofs.PlaceLaws.{Place, good-place}
 use Rattle.machine.specs.Places.{oneCell, placeOf, fetchOf}
+use Rattle.machine.specs.Exceptions.{exceptionCode}
+use Rattle.machine.specs.declared.Exception.{Exception}
+use Rattle.machine.specs.declared.Exception.the-variants.{Range, Alignment, DataOverflow, DataUnderflow, ReturnOverflow, ReturnUnderflow, Divisor, Illegal, Library}
 use Rattle.machine.specs.Commits.{touches}
 use Rattle.machine.specs.Throws.{CycleState, cycleState, badStack, badCell, handlerCell, handed, handlerOf, noted, pushed, throwOf, throwingOf}
 use Rattle.machine.specs.declared.Machine.{Machine}
@@ -26,7 +26,7 @@ use Rattle.machine.specs.declared.Registers.{Registers}
 use Rattle.machine.specs.declared.Access.the-variants.{Push, Stream}
 use Rattle.machine.specs.declared.Ended.{Ended}
 use Rattle.machine.specs.declared.Ended.the-variants.{Went, Threw, Stopped}
-use Rattle.machine.proofs.CommitLaws.{room-place}
+use Rattle.machine.proofs.CommitLaws.{good-placed, room-place}
 use Rattle.processor_laws.proofs.LengthLaws.{noted-length}
 use Rattle.pack_layout.specs.Listing.{Listing}
 use Rattle.pack_layout.specs.Packing.{imageCells, epValue, entryAt}
@@ -39,9 +39,13 @@ use Rattle.list_judging.specs.Ways.{toEntry, handlerBy, handlerWay, handlerAfte
 use Rattle.list_judging.specs.declared.Way.{Way}
 use Rattle.list_judging.specs.declared.Way.the-variants as way
 
-code-below : (f : Fault) → faultCode f < 2 ^ 32
+code-below : (f : Exception) → exceptionCode f < 2 ^ 32
 code-below (Range a) = omega arith
 code-below (Alignment a) = omega arith
+code-below DataOverflow = omega arith
+code-below DataUnderflow = omega arith
+code-below ReturnOverflow = omega arith
+code-below ReturnUnderflow = omega arith
 code-below Divisor = omega arith
 code-below Illegal = omega arith
 code-below Library = omega arith
@@ -51,34 +55,34 @@ kept : (order : ℕ) (m : List ℕ) (a x : ℕ) → 4 ≤ a → cellAt order (st
 kept order m a x h =
     cell-alike 0 4 order m (storeCell order m a x) 0 (cell-frame 0 4 order m a x (inr h)) (omega arith) (omega arith)
 
-noted-kept : (machine : Machine) (m : List ℕ) (f : Fault) → cellAt (machine .order) (noted machine m f) 0 ≡ cellAt (machine .order) m 0
+noted-kept : (machine : Machine) (m : List ℕ) (f : Exception) → cellAt (machine .order) (noted machine m f) 0 ≡ cellAt (machine .order) m 0
 noted-kept machine m (Range a) = kept (machine .order) m 12 (a .0) (omega arith)
 noted-kept machine m (Alignment a) = kept (machine .order) m 12 (a .0) (omega arith)
+noted-kept machine m DataOverflow = refl
+noted-kept machine m DataUnderflow = refl
+noted-kept machine m ReturnOverflow = refl
+noted-kept machine m ReturnUnderflow = refl
 noted-kept machine m Divisor = refl
 noted-kept machine m Illegal = refl
 noted-kept machine m Library = refl
 
 -- 'THROW once the code was pushed at a and 'BAD was set
-handler-cell : (machine : Machine) (m : List ℕ) (find : ℕ → Entry) (a ep : ℕ) (f : Fault) → a + 4 ≤ length m → a % 4 ≡ 0
-    → cellAt (machine .order) (storeCell (machine .order) (storeCell (machine .order) (noted machine m f) a (faultCode f)) badCell ep) 0
+handler-cell : (machine : Machine) (m : List ℕ) (find : ℕ → Entry) (a ep : ℕ) (f : Exception) → a + 4 ≤ length m → a % 4 ≡ 0
+    → cellAt (machine .order) (storeCell (machine .order) (storeCell (machine .order) (noted machine m f) a (exceptionCode f)) badCell ep) 0
     ≡ handlerAfter machine m find a f
 handler-cell machine m find a ep f h w = kept (machine .order) _ badCell ep (omega arith) ∙ go (eqb a 0) refl
   where
     go : (b : Bool) → eqb a 0 ≡ b
-        → cellAt (machine .order) (storeCell (machine .order) (noted machine m f) a (faultCode f)) 0
-        ≡ if b (faultCode f) (cellAt (machine .order) m 0)
+        → cellAt (machine .order) (storeCell (machine .order) (noted machine m f) a (exceptionCode f)) 0
+        ≡ if b (exceptionCode f) (cellAt (machine .order) m 0)
     go true q =
         let z : a ≡ 0 = eqb-true a 0 q in
-        ap (λ (x : ℕ). cellAt (machine .order) (storeCell (machine .order) (noted machine m f) a (faultCode f)) x) (sym z)
-        ∙ cell-back (machine .order) (noted machine m f) a (faultCode f) (rw (noted-length machine m f) h) (code-below f)
+        ap (λ (x : ℕ). cellAt (machine .order) (storeCell (machine .order) (noted machine m f) a (exceptionCode f)) x) (sym z)
+        ∙ cell-back (machine .order) (noted machine m f) a (exceptionCode f) (rw (noted-length machine m f) h) (code-below f)
     go false q =
         let z = eqb-false a 0 q in
         let u : 4 ≤ a = omega arith in
-        kept (machine .order) (noted machine m f) a (faultCode f) u ∙ noted-kept machine m f
-
-place-of : (machine : Machine) (len a : ℕ) → placeOf machine oneCell Push len a ≡ Good → Place len a
-unfolding placeOf
-place-of machine len a e = good-place len a e
+        kept (machine .order) (noted machine m f) a (exceptionCode f) u ∙ noted-kept machine m f
 
 entered-is : (why : Outside) (e : Entry) (q : Position) → along (toEntry why e) q ≡ enteredAt why e q
 entered-is why (Item i) q = refl
@@ -118,7 +122,7 @@ module _ (machine : Machine) (base : ℕ) (l : Listing) (find : ℕ → Entry) (
 
   module _ (p : Position) (whole : length (p .memory) % 4 ≡ 0) (least : 16 ≤ length (p .memory)) where
     -- an item that raises
-    pub throw-is : (f : Fault)
+    pub throw-is : (f : Exception)
         → along (throwWay machine (p .memory) find base (base + 4 * imageCells l) (p .sp) f)
         (thrownTo p (throwOf machine (p .memory) (registersAt machine base l p) f))
         ≡ thrown machine base l p f
@@ -133,13 +137,13 @@ module _ (machine : Machine) (base : ℕ) (l : Listing) (find : ℕ → Entry) (
         go (Bad g) e = refl
         go Good e =
             let a = difference (p .sp) 4 in
-            let w = place-of machine (length (p .memory)) a e in
-            let m = storeCell (machine .order) (noted machine (p .memory) f) a (faultCode f) in
+            let w = good-placed machine Push (length (p .memory)) a e in
+            let m = storeCell (machine .order) (noted machine (p .memory) f) a (exceptionCode f) in
             let r : Registers = record { ep = epValue base l (p .item); a = 0; sp = a; rp = p .rp } in
             choose (ltb a (base + 4 * imageCells l) && ltb base (a + 4)) (handlerWay machine (p .memory) find (handlerAfter machine (p .memory) find a f))
             (thrownTo p (handlerOf machine m r (Threw f))) (handled machine base l p (handlerOf machine m r (Threw f)))
             (handler-is p m r (Threw f) (handlerAfter machine (p .memory) find a f) (λ t. refl)
-            (store-length (machine .order) (noted machine (p .memory) f) a (faultCode f) ∙ noted-length machine (p .memory) f)
+            (store-length (machine .order) (noted machine (p .memory) f) a (exceptionCode f) ∙ noted-length machine (p .memory) f)
             (handler-cell machine (p .memory) find a (r .ep) f (room-place machine Push (length (p .memory)) a whole e) (w .aligned)))
 
     -- THROW itself

@@ -54,7 +54,7 @@ fn act_along(
     shape: Shape,
     way: Way,
 ) -> Carried
-    requires { ⌜ places.Whole (now memory) ⌝ }
+    requires { ⌜ places.Fits machine (length (now memory)) ⌝ }
     requires { ⌜ shapes.Fits shape ⌝ }
     ensures { λ c. ⌜ outcomes.left (now (memory .exit)) c ≡ outcomes.leaves (now (memory .entry)) (ways.along way (ways.steppedTo (stands.positionOf (now (memory .entry)) s) (commits.commitOf machine (now (memory .entry)) r (shapes.shapeEffect machine (now (memory .entry)) shape)))) ⌝ }
 {
@@ -76,12 +76,12 @@ fn act_along(
 
 // A throw, made. It does not go by the machine's `finish`, whose only call is to stay in the processor's loop.
 fn end(machine: Machine, memory: &mut [u8], r: Registers, cause: Cause) -> CycleResult
-    requires { ⌜ places.Whole (now memory) ⌝ }
+    requires { ⌜ places.Fits machine (length (now memory)) ⌝ }
     requires { ⌜ 16 ≤ length (now memory) ⌝ }
     ensures { λ t. ⌜ throws.withResult (now (memory .exit)) t ≡ ways.endOf machine (now (memory .entry)) r cause ⌝ }
 {
     match cause {
-        Cause::Raised(f) => throw(machine, memory, r, f),
+        Cause::Raised(e) => throw(machine, memory, r, e),
         Cause::Given => {
             if r.sp % 4 == 0 {
                 return handle(machine, memory, r, Ended::Went);
@@ -103,7 +103,7 @@ fn end_along(
     cause: Cause,
     way: Way,
 ) -> Carried
-    requires { ⌜ places.Whole (now memory) ⌝ }
+    requires { ⌜ places.Fits machine (length (now memory)) ⌝ }
     requires { ⌜ 16 ≤ length (now memory) ⌝ }
     ensures { λ c. ⌜ outcomes.left (now (memory .exit)) c ≡ outcomes.leaves (now (memory .entry)) (ways.along way (lists.thrownTo (stands.positionOf (now (memory .entry)) s) (ways.endOf machine (now (memory .entry)) r cause))) ⌝ }
 {
@@ -131,7 +131,7 @@ fn perform(
     shape: Shape,
     intent: Intent,
 ) -> Carried
-    requires { ⌜ places.Whole (now memory) ⌝ }
+    requires { ⌜ places.Fits machine (length (now memory)) ⌝ }
     requires { ⌜ 16 ≤ length (now memory) ⌝ }
     requires { ⌜ shapes.Fits shape ⌝ }
     ensures { λ c. ⌜ outcomes.left (now (memory .exit)) c ≡ outcomes.leaves (now (memory .entry)) (ways.performed machine (stands.positionOf (now (memory .entry)) s) r (shapes.shapeEffect machine (now (memory .entry)) shape) intent) ⌝ }
@@ -152,7 +152,7 @@ pub fn carry_out(
     image: Image,
     s: Stand,
 ) -> Carried
-    requires { ⌜ Lent (length (now memory)) ⌝ }
+    requires { ⌜ (Lent (length (now memory))) × (places.Fits machine (length (now memory))) ⌝ }
     requires { ⌜ tables.Settled (now kinds) (now operands) (now table) image ⌝ }
     requires { ⌜ s .item .0 < length (now kinds) ⌝ }
     ensures { λ c. ⌜ outcomes.left (now (memory .exit)) c ≡ outcomes.leaves (now (memory .entry)) (lists.carryOut machine (image .base .0) (listed (now (kinds .entry)) (now (operands .entry))) (stands.positionOf (now (memory .entry)) s)) ⌝ }

@@ -3,6 +3,7 @@ ghost use mathlib.Core.Path.{_≡_};
 ghost use mathlib.Core.Bool.{_&&_};
 ghost use Prim.Native.Nat.{_<_, _≤_};
 ghost use lib.ListN.{length};
+ghost use Rattle.machine.specs.Places as places;
 ghost use Rattle.cell.specs.Choice.{if};
 ghost use Rattle.cell.specs.Refusals.{Lent};
 ghost use Rattle.pack_layout.specs.Listing.{listed};
@@ -107,7 +108,7 @@ pub fn run_items(
     start: Stand,
     items: u32,
 ) -> ItemRun
-    requires { ⌜ Lent (length (now memory)) ⌝ }
+    requires { ⌜ (Lent (length (now memory))) × (places.Fits machine (length (now memory))) ⌝ }
     requires { ⌜ tables.Settled (now kinds) (now operands) (now table) image ⌝ }
     ensures { λ r. ⌜ outcomes.runAs (now (memory .exit)) r ≡ runs.runOf machine (image .base .0) (listed (now (kinds .entry)) (now (operands .entry))) items (runs.resuming (listed (now (kinds .entry)) (now (operands .entry))) (stands.positionOf (now (memory .entry)) start)) ⌝ }
 {

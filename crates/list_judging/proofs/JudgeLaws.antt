@@ -10,12 +10,14 @@ use lib.ListN.{length}
 use Rattle.cell.specs.Choice.{if}
 use Rattle.cell.specs.Memory.{cellAt}
 use Rattle.cell.specs.Number.{difference}
-use Rattle.cell.specs.Place.{address, faultCode}
+use Rattle.cell.specs.Place.{address}
 use Rattle.cell.specs.declared.Address.{Address}
 use Rattle.cell.specs.declared.Checked.{Checked}
 use Rattle.cell.specs.declared.Checked.the-variants.{Good, Bad}
 use Rattle.cell.specs.declared.Fault.{Fault}
 use Rattle.machine.specs.Places.{oneCell, placeOf}
+use Rattle.machine.specs.Exceptions.{exceptionOf, exceptionCode}
+use Rattle.machine.specs.declared.Exception.{Exception}
 use Rattle.machine.specs.Commits.{touches}
 use Rattle.machine.specs.Throws.{badStack, handlerCell}
 use Rattle.machine.specs.declared.Machine.{Machine}
@@ -33,7 +35,7 @@ use Rattle.list_judging.specs.declared.Intent.{Intent}
 use Rattle.list_judging.specs.declared.Intent.the-variants.{Act, End}
 
 -- a throw: its push is judged, then held against the image, then against 'THROW
-module _ (machine : Machine) (m : List ℕ) (find : ℕ → Entry) (lo cells sp : ℕ) (f : Fault) (a : ℕ) (at : a ≡ difference sp 4)
+module _ (machine : Machine) (m : List ℕ) (find : ℕ → Entry) (lo cells sp : ℕ) (f : Exception) (a : ℕ) (at : a ≡ difference sp 4)
     (c : Checked) (place : c ≡ placeOf machine oneCell Push (length m) a) where
   abbrev hi : ℕ
   hi = lo + 4 * cells
@@ -59,7 +61,7 @@ module _ (machine : Machine) (m : List ℕ) (find : ℕ → Entry) (lo cells sp 
       led e = to ∙ ap (handlerWay machine m find) e ∙ held false clear
 
       -- the push is 'THROW itself
-      pub push-there : a ≡ handlerCell → h ≡ faultCode f → w ≡ throwWay machine m find lo hi sp f
+      pub push-there : a ≡ handlerCell → h ≡ exceptionCode f → w ≡ throwWay machine m find lo hi sp f
       push-there z e = led (rw (eq-eqb a handlerCell z) e)
 
       pub push-elsewhere : a ≢ handlerCell → h ≡ cellAt (machine .order) m handlerCell → w ≡ throwWay machine m find lo hi sp f
@@ -78,8 +80,9 @@ module _ (machine : Machine) (m : List ℕ) (find : ℕ → Entry) (lo cells n i
   unfolding intentOf
   by d e = rw (← checked, e)
 
-  pub means-throw : (f : Fault) → c ≡ Bad f → (w : Way) → w ≡ throwWay machine m find lo past sp f → End (cause.Raised f) w ≡ meant
-  means-throw f e w q = ap (End (cause.Raised f)) q ∙ by (Bad f) e
+  pub means-throw : (f : Fault) → c ≡ Bad f → (x : Exception) → x ≡ exceptionOf machine f → (w : Way) → w ≡ throwWay machine m find lo past sp x
+      → End (cause.Raised x) w ≡ meant
+  means-throw f e x t w q = rw q (rw t (by (Bad f) e))
 
   module _ (good : c ≡ Good) (end : Address) (ends : end ≡ address past) (b : Bool) (writes : b ≡ touches lo (end .0) (shapeStores machine m shape)) where
     kept : (d : Bool) → b ≡ d → if d (Act (way.Outside WritesImage)) (intentThen machine m find n item immediate sp (shapeThen shape)) ≡ meant

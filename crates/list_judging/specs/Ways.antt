@@ -8,15 +8,15 @@ use lib.ListN.{length}
 use Rattle.cell.specs.Choice.{if}
 use Rattle.cell.specs.Memory.{cellAt}
 use Rattle.cell.specs.Number.{difference}
-use Rattle.cell.specs.Place.{faultCode}
 use Rattle.cell.specs.declared.Checked.{Checked}
 use Rattle.cell.specs.declared.Checked.the-variants.{Good, Bad}
-use Rattle.cell.specs.declared.Fault.{Fault}
 use Rattle.machine.specs.Places.{oneCell, placeOf}
+use Rattle.machine.specs.Exceptions.{exceptionOf, exceptionCode}
 use Rattle.machine.specs.Effects.{Store, Effect}
 use Rattle.machine.specs.Commits.{Stepped, commitOf, touches}
 use Rattle.machine.specs.Throws.{CycleState, badStack, badHandler, handlerCell, throwOf, throwingOf}
 use Rattle.machine.specs.declared.Machine.{Machine}
+use Rattle.machine.specs.declared.Exception.{Exception}
 use Rattle.machine.specs.declared.Registers.{Registers}
 use Rattle.machine.specs.declared.Then.{Then}
 use Rattle.machine.specs.declared.Then.the-variants as then
@@ -54,16 +54,16 @@ module _ (machine : Machine) (m : List ℕ) (find : ℕ → Entry) where
   handlerWay h = handlerBy (find h) (placeOf machine oneCell Stream (length m) h)
 
   -- 'THROW once the code was pushed at a
-  abbrev pub handlerAfter : ℕ → Fault → ℕ
-  handlerAfter a f = if (eqb a handlerCell) (faultCode f) (cellAt (machine .order) m handlerCell)
+  abbrev pub handlerAfter : ℕ → Exception → ℕ
+  handlerAfter a e = if (eqb a handlerCell) (exceptionCode e) (cellAt (machine .order) m handlerCell)
 
   -- a throw whose push was judged; the push may meet the image
-  abbrev pub pushWay : ℕ → ℕ → ℕ → Fault → Checked → Way
-  pushWay lo hi a f (Bad g) = way.Halt badStack
-  pushWay lo hi a f Good = if (ltb a hi && ltb lo (a + 4)) (way.Outside WritesImage) (handlerWay (handlerAfter a f))
+  abbrev pub pushWay : ℕ → ℕ → ℕ → Exception → Checked → Way
+  pushWay lo hi a e (Bad f) = way.Halt badStack
+  pushWay lo hi a e Good = if (ltb a hi && ltb lo (a + 4)) (way.Outside WritesImage) (handlerWay (handlerAfter a e))
 
-  abbrev pub throwWay : ℕ → ℕ → ℕ → Fault → Way
-  throwWay lo hi sp f = pushWay lo hi (difference sp 4) f (placeOf machine oneCell Push (length m) (difference sp 4))
+  abbrev pub throwWay : ℕ → ℕ → ℕ → Exception → Way
+  throwWay lo hi sp e = pushWay lo hi (difference sp 4) e (placeOf machine oneCell Push (length m) (difference sp 4))
 
   -- THROW itself
   abbrev pub givenWay : ℕ → Way
@@ -80,7 +80,7 @@ module _ (machine : Machine) (m : List ℕ) (find : ℕ → Entry) where
   module _ (lo hi n item : ℕ) (immediate : Bool) (sp : ℕ) where
     -- an item whose reading and places were judged; its writes may meet the image
     abbrev pub intentBy : List Store → Then → Checked → Intent
-    intentBy ss t (Bad f) = End (cause.Raised f) (throwWay lo hi sp f)
+    intentBy ss t (Bad f) = End (cause.Raised (exceptionOf machine f)) (throwWay lo hi sp (exceptionOf machine f))
     intentBy ss t Good = if (touches lo hi ss) (Act (way.Outside WritesImage)) (intentThen n item immediate sp t)
 
     unfoldable pub intentOf : Shape → Intent
@@ -105,7 +105,7 @@ steppedTo p s =
 
 -- the processor's throw, by what it comes from
 abbrev pub endOf : Machine → List ℕ → Registers → Cause → CycleState
-endOf machine m r (cause.Raised f) = throwOf machine m r f
+endOf machine m r (cause.Raised e) = throwOf machine m r e
 endOf machine m r cause.Given = throwingOf machine m r
 
 -- an item with the effect e, carried out as it was meant to be

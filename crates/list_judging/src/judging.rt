@@ -2,6 +2,7 @@
 ghost use mathlib.Core.Path.{_≡_};
 ghost use Prim.Native.Nat.{_+_, _*_, _≤_, _<_, _^_};
 ghost use lib.ListN.{length};
+ghost use Rattle.machine.specs.Places as places;
 ghost use Rattle.list_effects.specs.Shapes as shapes;
 ghost use Rattle.list_tables.specs.Tables as tables;
 ghost use Rattle.list_judging.specs.Ways as ways;
@@ -12,11 +13,10 @@ use crate::finding::entry_at;
 use crate::finding::to_entry;
 use cell::Address;
 use cell::Checked;
-use cell::Fault;
 use cell::memory::load;
 use cell::number::subtract;
 use cell::place::address_at;
-use cell::place::fault_code;
+use cell::place::check_cell;
 use list_effects::Shape;
 use list_effects::judging::check_shape;
 use list_effects::judging::meets;
@@ -26,13 +26,15 @@ use list_machine::Outside;
 use list_proposing::Stand;
 use list_tables::Image;
 use list_tables::tables::is_immediate;
-use machine::Access;
+use machine::Exception;
 use machine::Machine;
 use machine::Then;
+use machine::exceptions::code_of;
+use machine::exceptions::tell;
 use machine::fixed::BAD_HANDLER;
 use machine::fixed::BAD_STACK;
 use machine::fixed::HANDLER_CELL;
-use machine::places::check_place;
+use machine::places::check_data;
 use pack_layout::ItemNumber;
 
 // 'THROW is h: an entry, -259, or outside.
@@ -40,7 +42,7 @@ fn handler_way(machine: Machine, memory: &[u8], table: &[u32], base: Address, h:
     requires { ⌜ tables.Near (now table) (base .0) ⌝ }
     ensures { λ w. ⌜ w ≡ ways.handlerWay machine (now (memory .entry)) (tables.entryBelow (now (table .entry)) (base .0) (tables.rows (now (table .entry)))) (h .0) ⌝ }
 {
-    let place = check_place(machine, Access::Stream, memory.len(), h);
+    let place = check_cell(memory.len(), h);
     let Checked::Good = place else {
         return Way::Halt(BAD_HANDLER);
     };
@@ -48,15 +50,22 @@ fn handler_way(machine: Machine, memory: &[u8], table: &[u32], base: Address, h:
 }
 
 // A throw: its push may be -258, or a write of the image.
-fn throw_way(machine: Machine, memory: &[u8], table: &[u32], image: Image, sp: u32, f: Fault) -> Way
-    requires { ⌜ 4 ≤ length (now memory) ⌝ }
+fn throw_way(
+    machine: Machine,
+    memory: &[u8],
+    table: &[u32],
+    image: Image,
+    sp: u32,
+    e: Exception,
+) -> Way
+    requires { ⌜ (4 ≤ length (now memory)) × (places.Fits machine (length (now memory))) ⌝ }
     requires { ⌜ (tables.Near (now table) (image .base .0)) × (image .base .0 + 4 * image .cells .0 < 2 ^ 32) ⌝ }
-    ensures { λ w. ⌜ w ≡ ways.throwWay machine (now (memory .entry)) (tables.entryBelow (now (table .entry)) (image .base .0) (tables.rows (now (table .entry)))) (image .base .0) (image .base .0 + 4 * image .cells .0) sp f ⌝ }
+    ensures { λ w. ⌜ w ≡ ways.throwWay machine (now (memory .entry)) (tables.entryBelow (now (table .entry)) (image .base .0) (tables.rows (now (table .entry)))) (image .base .0) (image .base .0 + 4 * image .cells .0) sp e ⌝ }
 {
     let base = image.base;
     let cells = image.cells;
     let a = Address(subtract(sp, 4));
-    let place = check_place(machine, Access::Push, memory.len(), a);
+    let place = check_data(machine, memory.len(), a);
     let Checked::Good = place else {
         return Way::Halt(BAD_STACK);
     };
@@ -64,7 +73,7 @@ fn throw_way(machine: Machine, memory: &[u8], table: &[u32], image: Image, sp: u
         return Way::Outside(Outside::WritesImage);
     }
     if a.0 == HANDLER_CELL.0 {
-        return handler_way(machine, memory, table, base, Address(fault_code(f)));
+        return handler_way(machine, memory, table, base, Address(code_of(e)));
     }
     let handler = load(machine.order, memory, HANDLER_CELL);
     handler_way(machine, memory, table, base, Address(handler))
@@ -131,7 +140,7 @@ pub fn intent_of(
     s: Stand,
     shape: Shape,
 ) -> Intent
-    requires { ⌜ 4 ≤ length (now memory) ⌝ }
+    requires { ⌜ (4 ≤ length (now memory)) × (places.Fits machine (length (now memory))) ⌝ }
     requires { ⌜ shapes.Fits shape ⌝ }
     requires { ⌜ tables.Near (now table) (image .base .0) ⌝ }
     requires { ⌜ (0 < image .cells .0) × (image .base .0 + 4 * image .cells .0 < 2 ^ 32) ⌝ }
@@ -143,8 +152,9 @@ pub fn intent_of(
     let checked = check_shape(machine, memory, shape);
     match checked {
         Checked::Bad(f) => {
-            let way = throw_way(machine, memory, table, image, s.sp, f);
-            Intent::End(Cause::Raised(f), way)
+            let e = tell(machine, f);
+            let way = throw_way(machine, memory, table, image, s.sp, e);
+            Intent::End(Cause::Raised(e), way)
         }
         Checked::Good => {
             if writes(machine, memory, shape, base, address_at(base, cells)) {

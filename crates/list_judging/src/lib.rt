@@ -2,8 +2,8 @@
 pub mod finding;
 pub mod judging;
 
-use cell::Fault;
 use list_machine::Outside;
+use machine::Exception;
 use pack_layout::ItemNumber;
 
 // Where an item leads: to an item, with whether it is run on into; to a stop; or outside.
@@ -13,9 +13,9 @@ pub enum Way {
     Outside(Outside),
 }
 
-// What a throw comes from: a fault, or THROW itself.
+// What a throw comes from: an exception, or THROW itself.
 pub enum Cause {
-    Raised(Fault),
+    Raised(Exception),
     Given,
 }
 

@@ -22,28 +22,27 @@ ran-as r n (Threw f) = refl
 ran-as r n (Stopped x) = refl
 
 budgeted : (order base : ℕ) (m : List ℕ) (sp rp : ℕ) (r : Run) → judgeMachine (length m) order ≡ Passed
-    → Agree (machineOf order) (begun m (firstRegisters (machineOf order) base m sp rp)) r → RunAgrees order base m sp rp r
+    → Agree (machineOf order (length m)) (begun m (firstRegisters (machineOf order (length m)) base m sp rp)) r → RunAgrees order base m sp rp r
 unfolding runAnswer
 budgeted order base m sp rp r q a =
     record {
-      registers = cyclesOf (machineOf order) (r .cycles) s .result .registers;
+      registers = cyclesOf (machineOf order (length m)) (r .cycles) s .result .registers;
       answer =
           rw (q, a .exact)
-          (ap (λ (x : List ℕ). ranTo given (r .cycles) x (ranAs (cyclesOf (machineOf order) (r .cycles) s .result .registers) (r .cycles) (cyclesOf (machineOf
-          order) (r .cycles) s .result .ended))) (a .memory)
+          (ap (λ (x : List ℕ). ranTo given (r .cycles) x (ranAs (cyclesOf (machineOf order (length m)) (r .cycles) s .result .registers) (r .cycles) (cyclesOf (machineOf order (length m)) (r .cycles) s .result .ended))) (a .memory)
           ∙ ap (ranTo given (r .cycles) (r .position .memory))
-          (ran-as (cyclesOf (machineOf order) (r .cycles) s .result .registers) (r .cycles) (cyclesOf (machineOf order) (r .cycles) s .result .ended)
-          ∙ ap (λ (x : Stop). ranWith x (cyclesOf (machineOf order) (r .cycles) s .result .registers) (r .cycles)) (a .stop)));
+          (ran-as (cyclesOf (machineOf order (length m)) (r .cycles) s .result .registers) (r .cycles) (cyclesOf (machineOf order (length m)) (r .cycles) s .result .ended)
+          ∙ ap (λ (x : Stop). ranWith x (cyclesOf (machineOf order (length m)) (r .cycles) s .result .registers) (r .cycles)) (a .stop)));
       sp-is = a .sp;
       rp-is = a .rp;
     }
   where
     given : Registers
-    given = firstRegisters (machineOf order) base m sp rp
+    given = firstRegisters (machineOf order (length m)) base m sp rp
 
     s : CycleState
     s = begun m given
 
 pub run-follows : RunFollows
 run-follows order base l m sp rp k q ok holds =
-    budgeted order base m sp rp (runOf (machineOf order) base l k (beginning l m sp rp)) q (demand3 (machineOf order) base l m sp rp k ok holds)
+    budgeted order base m sp rp (runOf (machineOf order (length m)) base l k (beginning l m sp rp)) q (demand3 (machineOf order (length m)) base l m sp rp k ok holds)

@@ -31,6 +31,7 @@ use Rattle.list_machine.specs.Demand3.{Holds}
 use Rattle.list_machine.proofs.Frame.{stores-frame}
 use Rattle.list_machine.proofs.Image.{still-holds, next-enters}
 use Rattle.list_machine.proofs.Meets.{Meets, registersFor}
+use Rattle.machine.specs.Exceptions.{exceptionOf}
 use Rattle.list_machine.proofs.Throwing.{throw-meets, throwing-meets}
 
 abbrev pub isWent : Outcome → Bool
@@ -96,7 +97,7 @@ module _ (machine : Machine) (base : ℕ) (l : Listing) (ok : Legal base l) (i a
       → Meets machine base l (acted machine base l (standsAt i ran m sp rp) x c) (finishOf machine (onward (carriedOut machine m (here sp rp) x c)))
   unfolding finishOf
   acted-meets ran m sp rp x (Bad f) holds =
-      rw (w .kept m (here sp rp) (Raise f) refl) (throw-meets machine base l ok (standsAt i ran m sp rp) f a holds)
+      rw (w .kept m (here sp rp) (Raise f) refl) (throw-meets machine base l ok (standsAt i ran m sp rp) (exceptionOf machine f) a holds)
   acted-meets ran m sp rp x Good holds = go (writesImage machine base l (x .stores)) refl
     where
       go : (b : Bool) → writesImage machine base l (x .stores) ≡ b
@@ -112,5 +113,5 @@ module _ (machine : Machine) (base : ℕ) (l : Listing) (ok : Legal base l) (i a
       → Meets machine base l (carriedBy machine base l (standsAt i ran m sp rp) e) (finishOf machine (onward (commitOf machine m (here sp rp) e)))
   unfolding commitOf finishOf
   carried-meets ran m sp rp (raise f) holds =
-      rw (w .kept m (here sp rp) (Raise f) refl) (throw-meets machine base l ok (standsAt i ran m sp rp) f a holds)
+      rw (w .kept m (here sp rp) (Raise f) refl) (throw-meets machine base l ok (standsAt i ran m sp rp) (exceptionOf machine f) a holds)
   carried-meets ran m sp rp (act x) holds = acted-meets ran m sp rp x (placesOf machine (length m) (x .stores)) holds

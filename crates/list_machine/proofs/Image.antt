@@ -8,7 +8,6 @@ use borrow.Author.Tests.{lt-ltb, eq-eqb}
 use lib.ListN.{length, getD}
 use Rattle.cell.specs.Memory.{cellAt, Alike}
 use Rattle.cell.specs.Number.{sum}
-use Rattle.cell.specs.Place.{checkCell}
 use Rattle.cell.specs.declared.Checked.the-variants.{Good}
 use Rattle.cell.specs.declared.Fetched.the-variants.{Cell}
 use Rattle.cell.proofs.MemoryLaws.{cell-alike}
@@ -16,7 +15,6 @@ use Rattle.machine.specs.Places.{placeOf, fetchOf}
 use Rattle.machine.specs.Throws.{cycleState, nextOf}
 use Rattle.machine.specs.declared.Machine.{Machine}
 use Rattle.machine.specs.declared.Registers.{Registers}
-use Rattle.machine.specs.declared.Access.{Access}
 use Rattle.machine.specs.declared.Access.the-variants.{Stream}
 use Rattle.machine.specs.declared.Ended.the-variants.{Went}
 use Rattle.pack_layout.specs.Listing.{Listing}
@@ -26,12 +24,9 @@ use Rattle.pack_layout.proofs.Packing.{placed, at-inside}
 use Rattle.pack_layout.proofs.Meet.{enter}
 use Rattle.list_machine.specs.Demand3.{Holds}
 
-good-cell : (len a : ℕ) → a < len → a % 4 ≡ 0 → checkCell len a ≡ Good
-good-cell len a h q = rw (lt-ltb a len h, eq-eqb (a % 4) 0 q)
-
-fetch-good : (machine : Machine) (access : Access) (m : List ℕ) (a : ℕ) → a < length m → a % 4 ≡ 0 → fetchOf machine access m a ≡ Cell (cellAt (machine .order) m a)
+fetch-good : (machine : Machine) (m : List ℕ) (a : ℕ) → a < length m → a % 4 ≡ 0 → fetchOf machine Stream m a ≡ Cell (cellAt (machine .order) m a)
 unfolding fetchOf placeOf
-fetch-good machine access m a h q = rw (good-cell (length m) a h q)
+fetch-good machine m a h q = rw (lt-ltb a (length m) h, eq-eqb (a % 4) 0 q)
 
 -- A and EP at an item
 abbrev pub atItem : ℕ → Listing → ℕ → ℕ → ℕ → Registers
@@ -50,7 +45,7 @@ module _ (machine : Machine) (base : ℕ) (l : Listing) (ok : Legal base l) wher
     -- a fetch from the instruction stream
     pub image-fetch : (j : ℕ) → j < imageCells l → fetchOf machine Stream m (base + 4 * j) ≡ Cell (getD (image base l) j 0)
     image-fetch j c =
-        fetch-good machine Stream m (base + 4 * j) (omega (arith, h .inside)) (omega (arith, placed base l ok .aligned))
+        fetch-good machine m (base + 4 * j) (omega (arith, h .inside)) (omega (arith, placed base l ok .aligned))
         ∙ ap Cell (h .cells j c)
 
     pub entry-cell : (i : ℕ) → i < l .count → opens (layout l) i ≡ true → fetchOf machine Stream m (addressOf base l i) ≡ Cell (register base l i)

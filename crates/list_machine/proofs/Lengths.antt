@@ -10,18 +10,18 @@ use Rattle.cell.specs.Choice.{if}
 use Rattle.cell.specs.Number.{difference}
 use Rattle.cell.specs.declared.Checked.{Checked}
 use Rattle.cell.specs.declared.Checked.the-variants.{Good, Bad}
-use Rattle.cell.specs.declared.Fault.{Fault}
 use Rattle.machine.specs.Places.{oneCell, placeOf}
+use Rattle.machine.specs.Exceptions.{exceptionOf}
+use Rattle.machine.specs.declared.Exception.{Exception}
 use Rattle.machine.specs.Effects.{Control, goOn, jump, halt, throwing, Action, Effect, act, raise}
-use Rattle.machine.specs.Commits.{stepped, placesOf}
+use Rattle.machine.specs.Commits.{placesOf}
 use Rattle.machine.specs.Throws.{CycleState, throwOf, throwingOf, finishOf}
 use Rattle.machine.specs.declared.Machine.{Machine}
 use Rattle.machine.specs.declared.Registers.{Registers}
 use Rattle.machine.specs.declared.Access.the-variants.{Push}
-use Rattle.machine.specs.declared.Outcome.the-variants.{Raise, Throw}
 use Rattle.machine.specs.declared.Ended.{Ended}
 use Rattle.machine.specs.declared.Ended.the-variants.{Went, Threw, Stopped}
-use Rattle.processor_laws.proofs.LengthLaws.{stored-length, finish-length}
+use Rattle.processor_laws.proofs.LengthLaws.{stored-length, throw-length, throwing-length}
 use Rattle.pack_layout.specs.Listing.{Listing}
 use Rattle.pack_layout.specs.Layout.{formAt}
 use Rattle.pack_layout.specs.Packing.{layout, entryAt}
@@ -51,28 +51,19 @@ ran-long : (n : ℕ) (b : Bool) (i : ℕ) (ran : Bool) (q : Position) → length
 ran-long n true i ran q h = h
 ran-long n false i ran q h = tt
 
--- a throw is the end of an instruction that raises, or of THROW
-throw-length : (machine : Machine) (m : List ℕ) (r : Registers) (f : Fault) → length (throwOf machine m r f .memory) ≡ length m
-unfolding finishOf
-throw-length machine m r f = finish-length machine (stepped m (record { registers = r; outcome = Raise f }))
-
-throwing-length : (machine : Machine) (m : List ℕ) (r : Registers) → length (throwingOf machine m r .memory) ≡ length m
-unfolding finishOf
-throwing-length machine m r = finish-length machine (stepped m (record { registers = r; outcome = Throw }))
-
 module _ (machine : Machine) (base : ℕ) (l : Listing) where
   handled-by-long : (n : ℕ) (p : Position) (t : CycleState) (e : Ended) → length (t .memory) ≡ n → Long n (handledBy machine base l p t e)
   handled-by-long n p t (Stopped x) h = h
   handled-by-long n p t Went h = entered-long n _ (entryAt base l (handlerAt machine base l t)) (thrownTo p t) h
   handled-by-long n p t (Threw f) h = entered-long n _ (entryAt base l (handlerAt machine base l t)) (thrownTo p t) h
 
-  thrown-long : (p : Position) (f : Fault) → Long (length (p .memory)) (thrown machine base l p f)
-  thrown-long p f =
-      let t : CycleState = throwOf machine (p .memory) (registersAt machine base l p) f in
+  thrown-long : (p : Position) (e : Exception) → Long (length (p .memory)) (thrown machine base l p e)
+  thrown-long p e =
+      let t : CycleState = throwOf machine (p .memory) (registersAt machine base l p) e in
       if-long (length (p .memory))
-      (writesImage machine base l (pushOf (difference (p .sp) 4) f (placeOf machine oneCell Push (length (p .memory)) (difference (p .sp) 4))))
+      (writesImage machine base l (pushOf (difference (p .sp) 4) e (placeOf machine oneCell Push (length (p .memory)) (difference (p .sp) 4))))
       WritesImage (handled machine base l p t)
-      (handled-by-long (length (p .memory)) p t (t .result .ended) (throw-length machine (p .memory) (registersAt machine base l p) f))
+      (handled-by-long (length (p .memory)) p t (t .result .ended) (throw-length machine (p .memory) (registersAt machine base l p) e))
 
   followed-long : (n : ℕ) (c : Control) (p : Position) → length (p .memory) ≡ n → Long n (followed machine base l c p)
   followed-long n goOn p h = ran-long n (ltb (suc (p .item)) (l .count)) (suc (p .item)) (not (isImmediate (formAt (layout l) (p .item)))) p h
@@ -83,13 +74,13 @@ module _ (machine : Machine) (base : ℕ) (l : Listing) where
       handled-by-long n p t (t .result .ended) (throwing-length machine (p .memory) (registersAt machine base l p) ∙ h)
 
   acted-long : (p : Position) (x : Action) (c : Checked) → Long (length (p .memory)) (acted machine base l p x c)
-  acted-long p x (Bad f) = thrown-long p f
+  acted-long p x (Bad f) = thrown-long p (exceptionOf machine f)
   acted-long p x Good =
       if-long (length (p .memory)) (writesImage machine base l (x .stores)) WritesImage (followed machine base l (x .control) (actedTo machine p x))
       (followed-long (length (p .memory)) (x .control) (actedTo machine p x) (stored-length machine (p .memory) (x .stores)))
 
   carried-long : (p : Position) (e : Effect) → Long (length (p .memory)) (carriedBy machine base l p e)
-  carried-long p (raise f) = thrown-long p f
+  carried-long p (raise f) = thrown-long p (exceptionOf machine f)
   carried-long p (act x) = acted-long p x (placesOf machine (length (p .memory)) (x .stores))
 
   carry-long : (p : Position) → Long (length (p .memory)) (carryOut machine base l p)

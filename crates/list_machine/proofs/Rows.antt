@@ -4,6 +4,7 @@ use Rattle.cell.specs.Memory.{cellAt, storeCell}
 use Rattle.cell.specs.Number.{sum, difference}
 use Rattle.cell.specs.Shift.{asr8}
 use Rattle.machine.specs.Places.{placeOf, fetchOf}
+use Rattle.machine.specs.Exceptions.{exceptionOf}
 use Rattle.machine.specs.Commits.{placesOf, storedOf, touches}
 use Rattle.machine.specs.Throws.{handlerOf, throwOf, throwingOf}
 use Rattle.instruction.specs.Plain.{plainOf}
@@ -20,11 +21,11 @@ use Rattle.list_machine.specs.Runs.{further, runOf}
 use Rattle.list_machine.specs.Worked.{Holding, cases}
 
 pub least-first : Holding 0 cases
-unfolding cellAt storeCell sum difference asr8 placeOf fetchOf placesOf storedOf touches handlerOf throwOf throwingOf plainOf takingOf decodeOf
+unfolding cellAt storeCell sum difference asr8 placeOf fetchOf exceptionOf placesOf storedOf touches handlerOf throwOf throwingOf plainOf takingOf decodeOf
     classOf fits any entry cur rounds settle settled marks entryBelow entryAt carryOut further runOf
 least-first = refl
 
 pub most-first : Holding 1 cases
-unfolding cellAt storeCell sum difference asr8 placeOf fetchOf placesOf storedOf touches handlerOf throwOf throwingOf plainOf takingOf decodeOf
+unfolding cellAt storeCell sum difference asr8 placeOf fetchOf exceptionOf placesOf storedOf touches handlerOf throwOf throwingOf plainOf takingOf decodeOf
     classOf fits any entry cur rounds settle settled marks entryBelow entryAt carryOut further runOf
 most-first = refl

@@ -10,15 +10,15 @@ use lib.ListN.{length}
 use Rattle.cell.specs.Choice.{if}
 use Rattle.cell.specs.Memory.{cellAt, storeCell, Alike}
 use Rattle.cell.specs.Number.{difference}
-use Rattle.cell.specs.Place.{faultCode}
 use Rattle.cell.specs.declared.Checked.{Checked}
 use Rattle.cell.specs.declared.Checked.the-variants.{Good, Bad}
-use Rattle.cell.specs.declared.Fault.{Fault}
-use Rattle.cell.specs.declared.Fault.the-variants.{Range, Alignment, Divisor, Illegal, Library}
 use Rattle.cell.specs.declared.Fetched.{Fetched}
 use Rattle.cell.specs.declared.Fetched.the-variants.{Cell, Failed}
 use Rattle.cell.proofs.MemoryLaws.{store-length, cell-frame, alike-refl}
 use Rattle.machine.specs.Places.{oneCell, placeOf, fetchOf}
+use Rattle.machine.specs.Exceptions.{exceptionCode}
+use Rattle.machine.specs.declared.Exception.{Exception}
+use Rattle.machine.specs.declared.Exception.the-variants.{Range, Alignment, DataOverflow, DataUnderflow, ReturnOverflow, ReturnUnderflow, Divisor, Illegal, Library}
 use Rattle.machine.specs.Effects.{cellStore}
 use Rattle.machine.specs.Commits.{touches, storedOf}
 use Rattle.machine.specs.Throws.{cycleState, handed, handlerOf, noted, pushed, throwOf, throwingOf, handlerCell, badCell, addressCell, badStack}
@@ -38,9 +38,13 @@ use Rattle.list_machine.proofs.Frame.{stores-frame}
 use Rattle.list_machine.proofs.Image.{still-holds}
 use Rattle.list_machine.proofs.Meets.{Meets, enters}
 
-noted-frame : (machine : Machine) (lo hi : ℕ) (m : List ℕ) (f : Fault) → 16 ≤ lo → Alike lo hi m (noted machine m f)
+noted-frame : (machine : Machine) (lo hi : ℕ) (m : List ℕ) (e : Exception) → 16 ≤ lo → Alike lo hi m (noted machine m e)
 noted-frame machine lo hi m (Range a) h = cell-frame lo hi (machine .order) m addressCell (a .0) (inl (omega arith))
 noted-frame machine lo hi m (Alignment a) h = cell-frame lo hi (machine .order) m addressCell (a .0) (inl (omega arith))
+noted-frame machine lo hi m DataOverflow h = alike-refl lo hi m
+noted-frame machine lo hi m DataUnderflow h = alike-refl lo hi m
+noted-frame machine lo hi m ReturnOverflow h = alike-refl lo hi m
+noted-frame machine lo hi m ReturnUnderflow h = alike-refl lo hi m
 noted-frame machine lo hi m Divisor h = alike-refl lo hi m
 noted-frame machine lo hi m Illegal h = alike-refl lo hi m
 noted-frame machine lo hi m Library h = alike-refl lo hi m
@@ -81,33 +85,33 @@ module _ (machine : Machine) (base : ℕ) (l : Listing) (ok : Legal base l) wher
       go (Cell x) q (Stopped y) going = absurd (true≢false going)
 
   -- an item that raises
-  pub throw-meets : (p : Position) (f : Fault) (a : ℕ) → Holds machine base l (p .memory)
-      → Meets machine base l (thrown machine base l p f)
-      (throwOf machine (p .memory) (record { ep = epValue base l (p .item); a = a; sp = p .sp; rp = p .rp }) f)
+  pub throw-meets : (p : Position) (e : Exception) (a : ℕ) → Holds machine base l (p .memory)
+      → Meets machine base l (thrown machine base l p e)
+      (throwOf machine (p .memory) (record { ep = epValue base l (p .item); a = a; sp = p .sp; rp = p .rp }) e)
   unfolding throwOf
-  throw-meets p f a holds = go (placeOf machine oneCell Push (length (p .memory)) sp) (writesImage machine base l (pushOf sp f (placeOf machine oneCell Push (length (p .memory)) sp))) refl
+  throw-meets p e a holds = go (placeOf machine oneCell Push (length (p .memory)) sp) (writesImage machine base l (pushOf sp e (placeOf machine oneCell Push (length (p .memory)) sp))) refl
     where
       sp : ℕ
       sp = difference (p .sp) 4
 
-      noting : Holds machine base l (noted machine (p .memory) f)
+      noting : Holds machine base l (noted machine (p .memory) e)
       noting =
-          still-holds machine base l ok (p .memory) (noted machine (p .memory) f) holds
-          (noted-frame machine base (base + 4 * imageCells l) (p .memory) f (placed base l ok .above-cells))
-          (noted-length machine (p .memory) f)
+          still-holds machine base l ok (p .memory) (noted machine (p .memory) e) holds
+          (noted-frame machine base (base + 4 * imageCells l) (p .memory) e (placed base l ok .above-cells))
+          (noted-length machine (p .memory) e)
 
-      go : (c : Checked) (b : Bool) → writesImage machine base l (pushOf sp f c) ≡ b
+      go : (c : Checked) (b : Bool) → writesImage machine base l (pushOf sp e c) ≡ b
           → Meets machine base l
-          (if b (outside WritesImage) (handled machine base l p (pushed machine (p .memory) (registersAt machine base l p) f sp c)))
-          (pushed machine (p .memory) (record { ep = epValue base l (p .item); a = a; sp = p .sp; rp = p .rp }) f sp c)
+          (if b (outside WritesImage) (handled machine base l p (pushed machine (p .memory) (registersAt machine base l p) e sp c)))
+          (pushed machine (p .memory) (record { ep = epValue base l (p .item); a = a; sp = p .sp; rp = p .rp }) e sp c)
       go c true q = tt
-      go (Bad g) false q = record { memory = refl; sp = refl; rp = refl; ended = refl }
+      go (Bad f) false q = record { memory = refl; sp = refl; rp = refl; ended = refl }
       go Good false q =
-          handler-meets p (storeCell (machine .order) (noted machine (p .memory) f) sp (faultCode f))
-          (still-holds machine base l ok (noted machine (p .memory) f) (storeCell (machine .order) (noted machine (p .memory) f) sp (faultCode f)) noting
-          (pushed-frame machine base (base + 4 * imageCells l) (noted machine (p .memory) f) sp (faultCode f) q)
-          (store-length (machine .order) (noted machine (p .memory) f) sp (faultCode f)))
-          (epValue base l (p .item)) a sp (p .rp) (Threw f) refl
+          handler-meets p (storeCell (machine .order) (noted machine (p .memory) e) sp (exceptionCode e))
+          (still-holds machine base l ok (noted machine (p .memory) e) (storeCell (machine .order) (noted machine (p .memory) e) sp (exceptionCode e)) noting
+          (pushed-frame machine base (base + 4 * imageCells l) (noted machine (p .memory) e) sp (exceptionCode e) q)
+          (store-length (machine .order) (noted machine (p .memory) e) sp (exceptionCode e)))
+          (epValue base l (p .item)) a sp (p .rp) (Threw e) refl
 
   -- THROW, 54h
   pub throwing-meets : (p : Position) (a : ℕ) → Holds machine base l (p .memory)

@@ -10,8 +10,9 @@ use Rattle.cell.specs.Choice.{if}
 use Rattle.cell.specs.Number.{difference}
 use Rattle.cell.specs.declared.Checked.{Checked}
 use Rattle.cell.specs.declared.Checked.the-variants.{Good, Bad}
-use Rattle.cell.specs.declared.Fault.{Fault}
 use Rattle.machine.specs.Places.{oneCell, placeOf}
+use Rattle.machine.specs.Exceptions.{exceptionOf}
+use Rattle.machine.specs.declared.Exception.{Exception}
 use Rattle.machine.specs.Effects.{Control, goOn, jump, halt, throwing, Action, Effect, act, raise}
 use Rattle.machine.specs.Commits.{placesOf}
 use Rattle.machine.specs.Throws.{CycleState, throwOf, throwingOf}
@@ -54,12 +55,12 @@ module _ (machine : Machine) (base : ℕ) (l : Listing) where
   handled-within : (p : Position) (t : CycleState) → Within (l .count) (handled machine base l p t)
   handled-within p t = handled-by-within p t (t .result .ended)
 
-  thrown-within : (p : Position) (f : Fault) → Within (l .count) (thrown machine base l p f)
-  thrown-within p f =
+  thrown-within : (p : Position) (e : Exception) → Within (l .count) (thrown machine base l p e)
+  thrown-within p e =
       if-within (l .count)
-      (writesImage machine base l (pushOf (difference (p .sp) 4) f (placeOf machine oneCell Push (length (p .memory)) (difference (p .sp) 4))))
-      WritesImage (handled machine base l p (throwOf machine (p .memory) (registersAt machine base l p) f))
-      (handled-within p (throwOf machine (p .memory) (registersAt machine base l p) f))
+      (writesImage machine base l (pushOf (difference (p .sp) 4) e (placeOf machine oneCell Push (length (p .memory)) (difference (p .sp) 4))))
+      WritesImage (handled machine base l p (throwOf machine (p .memory) (registersAt machine base l p) e))
+      (handled-within p (throwOf machine (p .memory) (registersAt machine base l p) e))
 
   ran-on-within : (p : Position) → Within (l .count) (ranOn machine base l p)
   ran-on-within p = go (ltb (suc (p .item)) (l .count)) refl
@@ -76,13 +77,13 @@ module _ (machine : Machine) (base : ℕ) (l : Listing) where
   followed-within throwing p = handled-within p (throwingOf machine (p .memory) (registersAt machine base l p))
 
   acted-within : (p : Position) (x : Action) (c : Checked) → Within (l .count) (acted machine base l p x c)
-  acted-within p x (Bad f) = thrown-within p f
+  acted-within p x (Bad f) = thrown-within p (exceptionOf machine f)
   acted-within p x Good =
       if-within (l .count) (writesImage machine base l (x .stores)) WritesImage (followed machine base l (x .control) (actedTo machine p x))
       (followed-within (x .control) (actedTo machine p x))
 
   carried-within : (p : Position) (e : Effect) → Within (l .count) (carriedBy machine base l p e)
-  carried-within p (raise f) = thrown-within p f
+  carried-within p (raise f) = thrown-within p (exceptionOf machine f)
   carried-within p (act x) = acted-within p x (placesOf machine (length (p .memory)) (x .stores))
 
   pub carry-within : (p : Position) → Within (l .count) (carryOut machine base l p)

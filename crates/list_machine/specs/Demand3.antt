@@ -87,8 +87,8 @@ ranWith (stoppedWith x) r n = Stopped r x n
 pub record RunAgrees (order base : ℕ) (m : List ℕ) (sp rp : ℕ) (r : Run) : Type 0 where
   pub registers : Registers
   pub answer :
-      runAnswer (givenOf order m (firstRegisters (machineOf order) base m sp rp) (r .cycles))
-      ≡ ranTo (firstRegisters (machineOf order) base m sp rp) (r .cycles) (r .position .memory)
+      runAnswer (givenOf order m (firstRegisters (machineOf order (length m)) base m sp rp) (r .cycles))
+      ≡ ranTo (firstRegisters (machineOf order (length m)) base m sp rp) (r .cycles) (r .position .memory)
       (ranWith (stopIn (r .course)) registers (r .cycles))
   pub sp-is : registers .sp ≡ r .position .sp
   pub rp-is : registers .rp ≡ r .position .rp
@@ -98,5 +98,5 @@ RunFollows =
     (order base : ℕ) (l : Listing) (m : List ℕ) (sp rp k : ℕ)
     → judgeMachine (length m) order ≡ Passed
     → Legal base l
-    → Holds (machineOf order) base l m
-    → RunAgrees order base m sp rp (runOf (machineOf order) base l k (beginning l m sp rp))
+    → Holds (machineOf order (length m)) base l m
+    → RunAgrees order base m sp rp (runOf (machineOf order (length m)) base l k (beginning l m sp rp))

@@ -8,13 +8,13 @@ use lib.ListN.{length}
 use Rattle.cell.specs.Choice.{if}
 use Rattle.cell.specs.Memory.{cellAt}
 use Rattle.cell.specs.Number.{difference}
-use Rattle.cell.specs.Place.{faultCode}
 use Rattle.cell.specs.declared.Checked.{Checked}
 use Rattle.cell.specs.declared.Checked.the-variants.{Good, Bad}
-use Rattle.cell.specs.declared.Fault.{Fault}
 use Rattle.cell.specs.declared.Fault.the-variants.{Illegal}
 use Rattle.cell.specs.declared.Fetched.the-variants.{Cell}
 use Rattle.machine.specs.Places.{oneCell, placeOf}
+use Rattle.machine.specs.Exceptions.{exceptionOf, exceptionCode}
+use Rattle.machine.specs.declared.Exception.{Exception}
 use Rattle.machine.specs.Effects.{Store, cellStore, Control, goOn, jump, halt, throwing, Action, Effect, act, raise}
 use Rattle.machine.specs.Commits.{placesOf, storedOf, touches}
 use Rattle.machine.specs.Throws.{CycleState, handlerCell, throwOf, throwingOf}
@@ -58,9 +58,9 @@ isImmediate Immediate = true
 isImmediate InCell = false
 
 -- the stores of a throw: its push is judged as the writes of an item are. A bad place is -258, and nothing is written
-abbrev pub pushOf : ℕ → Fault → Checked → List Store
-pushOf a f (Bad g) = []
-pushOf a f Good = cellStore Push a (faultCode f) ∷ []
+abbrev pub pushOf : ℕ → Exception → Checked → List Store
+pushOf a e (Bad f) = []
+pushOf a e Good = cellStore Push a (exceptionCode e) ∷ []
 
 -- a position with the memory and the stack pointers that a throw leaves
 abbrev pub thrownTo : Position → CycleState → Position
@@ -133,11 +133,11 @@ module _ (machine : Machine) (base : ℕ) (l : Listing) where
   handled p t = handledBy p t (t .result .ended)
 
   -- an item that raises
-  abbrev pub thrown : Position → Fault → Carried
-  thrown p f =
-      if (writesImage (pushOf (difference (p .sp) 4) f (placeOf machine oneCell Push (length (p .memory)) (difference (p .sp) 4))))
+  abbrev pub thrown : Position → Exception → Carried
+  thrown p e =
+      if (writesImage (pushOf (difference (p .sp) 4) e (placeOf machine oneCell Push (length (p .memory)) (difference (p .sp) 4))))
       (outside WritesImage)
-      (handled p (throwOf machine (p .memory) (registersAt p) f))
+      (handled p (throwOf machine (p .memory) (registersAt p) e))
 
   -- behind the last item: outside
   abbrev pub ranOn : Position → Carried
@@ -155,11 +155,11 @@ module _ (machine : Machine) (base : ℕ) (l : Listing) where
 
   -- an action whose places were judged: a bad place raises, as in the processor
   abbrev pub acted : Position → Action → Checked → Carried
-  acted p x (Bad f) = thrown p f
+  acted p x (Bad f) = thrown p (exceptionOf machine f)
   acted p x Good = if (writesImage (x .stores)) (outside WritesImage) (followed (x .control) (actedTo machine p x))
 
   abbrev pub carriedBy : Position → Effect → Carried
-  carriedBy p (raise f) = thrown p f
+  carriedBy p (raise f) = thrown p (exceptionOf machine f)
   carriedBy p (act x) = acted p x (placesOf machine (length (p .memory)) (x .stores))
 
   -- the item in front of which the machine stands

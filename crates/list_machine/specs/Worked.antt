@@ -46,7 +46,7 @@ seen item items cycles sp returned course =
 
 abbrev pub runAt : ℕ → Case → Run
 runAt order c =
-    runOf (machineOf order) 0x10 (listed (c .kinds) (c .operands)) (c .asked)
+    runOf (machineOf order 0x400) 0x10 (listed (c .kinds) (c .operands)) (c .asked)
     (resuming (listed (c .kinds) (c .operands))
     (record { item = c .item; ran = c .ran; memory = storeCell order (replicate 0x400 0) 0 (c .handler); sp = c .sp; rp = 0x400 }))
 

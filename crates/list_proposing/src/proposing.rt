@@ -2,6 +2,7 @@
 ghost use mathlib.Core.Path.{_≡_};
 ghost use Prim.Native.Nat.{_+_, _*_, _≤_, _<_, _^_};
 ghost use lib.ListN.{length};
+ghost use Rattle.machine.specs.Places as places;
 ghost use Rattle.cell.specs.Refusals.{Lent};
 ghost use Rattle.pack_layout.specs.Listing.{listed};
 ghost use Rattle.list_machine.specs.ListMachine as lists;
@@ -58,7 +59,7 @@ pub fn shape_of(
     image: Image,
     s: Stand,
 ) -> Shape
-    requires { ⌜ Lent (length (now memory)) ⌝ }
+    requires { ⌜ (Lent (length (now memory))) × (places.Fits machine (length (now memory))) ⌝ }
     requires { ⌜ tables.Settled (now kinds) (now operands) (now table) image ⌝ }
     requires { ⌜ s .item .0 < length (now kinds) ⌝ }
     ensures { λ r. ⌜ shapes.Proposed machine (now (memory .entry)) r (lists.effectAt machine (image .base .0) (listed (now (kinds .entry)) (now (operands .entry))) (stands.positionOf (now (memory .entry)) s)) ⌝ }

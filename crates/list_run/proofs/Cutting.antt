@@ -17,7 +17,7 @@ use Rattle.list_machine.proofs.Lengths.{run-long}
 use Rattle.list_machine.proofs.Cutting.{cut-in-two, stays-over}
 use Rattle.list_proposing.specs.Stands.{positionOf}
 use Rattle.list_proposing.specs.declared.Stand.{Stand}
-use Rattle.list_run.specs.Follow.{judgeFollow, endingNumber, followedTo, endingOf, ranOf, followIf, resumeIn}
+use Rattle.list_run.specs.Follow.{judgeFollow, FollowResult, endingNumber, followedTo, endingOf, ranOf, followIf, resumeIn}
 use Rattle.list_run.specs.Cutting.{joinedTo, Cut}
 use Rattle.list_run.specs.declared.Followed.the-variants as followed
 
@@ -61,11 +61,12 @@ module _ (machine : Machine) (base : ℕ) (l : Listing) (m : List ℕ) (start : 
 pub cut : Cut
 unfolding resumeIn
 cut order kinds operands base m start a b =
-    let j : Judged = judgeFollow (length m) order kinds operands base Passed in
-    let l : Listing = listed kinds operands in (
-      λ e. cut-if (machineOf order) base l m start a b j e
-          ∙ ap (λ (k : Judged). joinedTo start (followIf j (machineOf order) base l m start a)
-          (followIf k (machineOf order) base l (followIf j (machineOf order) base l m start a .memory) (followIf j (machineOf order) base l m start a .stand) b))
-          (sym (ap (λ (n : ℕ). judgeFollow n order kinds operands base Passed) (kept-long (machineOf order) base l m start a b j))),
-      λ h. over-if (machineOf order) base l m start a b j h,
+    let j : ℕ → Judged = λ n. judgeFollow n order kinds operands base Passed in
+    let machine : ℕ → Machine = machineOf order in
+    let l : Listing = listed kinds operands in
+    let s : FollowResult = followIf (j (length m)) (machine (length m)) base l m start a in (
+      λ e. cut-if (machine (length m)) base l m start a b (j (length m)) e
+          ∙ ap (λ (n : ℕ). joinedTo start s (followIf (j n) (machine n) base l (s .memory) (s .stand) b))
+          (sym (kept-long (machine (length m)) base l m start a b (j (length m)))),
+      λ h. over-if (machine (length m)) base l m start a b (j (length m)) h,
     )

@@ -96,7 +96,7 @@ module _ (room : Judged) (order : ℕ) (kinds operands : List ℕ) (base : ℕ) 
   begin-refused r e = rw e
 
   pub begin-passed : (s : FollowResult) → judgeBegin (length m) order kinds operands ≡ Passed
-      → s ≡ followIf (judgeImage base (imageCells (listed kinds operands)) room) (machineOf order) base (listed kinds operands) m start items
+      → s ≡ followIf (judgeImage base (imageCells (listed kinds operands)) room) (machineOf order (length m)) base (listed kinds operands) m start items
       → s ≡ resumeIn room order kinds operands base m start items
   unfolding resumeIn judgeFollow
   begin-passed s e q = q ∙ rw e
@@ -104,11 +104,11 @@ module _ (room : Judged) (order : ℕ) (kinds operands : List ℕ) (base : ℕ) 
 -- demand 3 of the answer; an operand is a cell
 module _ (order : ℕ) (kinds operands : List ℕ) (base : ℕ) (m : List ℕ) (sp rp items : ℕ) (cells : (i : ℕ) → getD operands i 0 < 2 ^ 32) where
   abbrev run : Run
-  run = runOf (machineOf order) base (listed kinds operands) items (resuming (listed kinds operands) (positionOf m (standAt 0 false sp rp)))
+  run = runOf (machineOf order (length m)) base (listed kinds operands) items (resuming (listed kinds operands) (positionOf m (standAt 0 false sp rp)))
 
   ran-packed : (m2 : List ℕ) (x : ItemRun) (j : Judged) → judgeFollow (length m) order kinds operands base Passed ≡ j
       → followedTo m2 (standAt 0 false sp rp) (followed.Run x)
-      ≡ followIf j (machineOf order) base (listed kinds operands) m (standAt 0 false sp rp) items
+      ≡ followIf j (machineOf order (length m)) base (listed kinds operands) m (standAt 0 false sp rp) items
       → AsPacked order base (listed kinds operands) m sp rp m2 (followed.Run x)
   unfolding judgeFollow judgeImage
   ran-packed m2 x (Refused r) q e holds =
@@ -119,7 +119,7 @@ module _ (order : ℕ) (kinds operands : List ℕ) (base : ℕ) (m : List ℕ) (
       let g : x ≡ ranOf run = cc in
       let h : m2 ≡ run .position .memory = ap (λ (s : FollowResult). s .memory) e in
       rw (h, g, run-there run)
-      (demand3 (machineOf order) base (listed kinds operands) m sp rp items
+      (demand3 (machineOf order (length m)) base (listed kinds operands) m sp rp items
       (record {
         input = begin-checked (length m) order kinds operands (p .0) .input;
         state = both-pass (judgedPlace base (imageCells (listed kinds operands))) Passed (p .1) .0;

@@ -119,7 +119,7 @@ followIf judged.Passed machine base l m start items =
 -- a run taken up at an item, with room judged last
 unfoldable pub resumeIn : Judged → ℕ → List ℕ → List ℕ → ℕ → List ℕ → Stand → ℕ → FollowResult
 resumeIn room order kinds operands base m start items =
-    followIf (judgeFollow (length m) order kinds operands base room) (machineOf order) base (listed kinds operands) m start items
+    followIf (judgeFollow (length m) order kinds operands base room) (machineOf order (length m)) base (listed kinds operands) m start items
 
 -- list_resume, which was lent nothing else
 abbrev pub resumeOf : ℕ → List ℕ → List ℕ → ℕ → List ℕ → Stand → ℕ → FollowResult
@@ -133,4 +133,4 @@ followOf order kinds operands base m sp rp items = resumeOf order kinds operands
 abbrev pub AsPacked : ℕ → ℕ → Listing → List ℕ → ℕ → ℕ → List ℕ → Followed → Type 0
 AsPacked order base l m sp rp after (followed.Refused r) = Unit {0}
 AsPacked order base l m sp rp after (followed.Run x) =
-    Holds (machineOf order) base l m → Agree (machineOf order) (begun m (firstRegisters (machineOf order) base m sp rp)) (runAs after x)
+    Holds (machineOf order (length m)) base l m → Agree (machineOf order (length m)) (begun m (firstRegisters (machineOf order (length m)) base m sp rp)) (runAs after x)

@@ -3,6 +3,7 @@ ghost use mathlib.Core.Path.{_≡_};
 ghost use mathlib.Core.Bool.{false};
 ghost use Prim.Native.Nat.{_*_};
 ghost use lib.ListN.{length};
+ghost use Rattle.machine.specs.Places as places;
 ghost use Rattle.cell.specs.Refusals.{Lent};
 ghost use Rattle.pack_layout.specs.Listing.{listed, Checked};
 ghost use Rattle.pack_layout.specs.Packing.{imageCells};
@@ -18,6 +19,7 @@ use list_tables::Image;
 use list_tables::TABLE_NUMBERS;
 use list_tables::settle::settle_table;
 use machine::Machine;
+use machine::places::unbounded;
 use pack_layout::ItemNumber;
 
 // A listing that the input list passed, with a table lent: it is laid out once, its image judged, and the run made.
@@ -32,7 +34,7 @@ fn follow_checked(
     items: u32,
     room: Judged,
 ) -> Followed
-    requires { ⌜ Lent (length (now memory)) ⌝ }
+    requires { ⌜ (Lent (length (now memory))) × (places.Fits machine (length (now memory))) ⌝ }
     requires { ⌜ Checked (now kinds) (now operands) ⌝ }
     requires { ⌜ length (now table) ≡ 4 * length (now kinds) ⌝ }
     ensures { λ r. ⌜ follows.followedTo (now (memory .exit)) start r ≡ follows.followIf (follows.judgeImage (base .0) (imageCells (listed (now (kinds .entry)) (now (operands .entry)))) room) machine (base .0) (listed (now (kinds .entry)) (now (operands .entry))) (now (memory .entry)) start items ⌝ }
@@ -69,7 +71,7 @@ pub fn follow_within(
             let size = 4 * kinds.len();
             let mut table = [0u32; TABLE_NUMBERS];
             follow_checked(
-                Machine { order: order },
+                unbounded(order, memory.len()),
                 memory,
                 kinds,
                 operands,

@@ -1,14 +1,21 @@
 -- The commit of an effect of the code, for any stores: a fault in the reading, a bad place, or all is carried out. The code in crate `commits`
 -- is proved by it.
 use mathlib.Core.Path.{_≡_, refl}
+use mathlib.Core.Bool.{Bool, true, false, _&&_}
 use mathlib.Core.List.{List}
 use Prim.Native.Nat.{ℕ, _+_, _%_, _<_, _≤_}
+use native.Mathlib.Omega.{arith}
+use lib.Dec.{ltb, eqb}
 use lib.ListN.{length}
+use borrow.Author.Tests.{ltb-true, eqb-true}
+use Rattle.cell.specs.Choice.{if}
+use Rattle.cell.specs.Place.{address}
 use Rattle.cell.specs.declared.Fault.{Fault}
+use Rattle.cell.specs.declared.Fault.the-variants.{Range}
 use Rattle.cell.specs.declared.Checked.{Checked}
 use Rattle.cell.specs.declared.Checked.the-variants.{Good, Bad}
-use Rattle.cell.proofs.PlaceLaws.{room, good-byte}
-use Rattle.machine.specs.Places.{oneByte, oneCell, placeOf}
+use Rattle.cell.proofs.PlaceLaws.{good-byte}
+use Rattle.machine.specs.Places.{oneByte, oneCell, allowed, faultAt, placeOf}
 use Rattle.machine.specs.declared.Access.{Access}
 use Rattle.machine.specs.Effects.{Store, effectOf}
 use Rattle.machine.specs.Commits.{firstBad, placesOf, storedOf, stepped, settledOf, faultOf, commitOf, raised}
@@ -45,10 +52,26 @@ module _ (machine : Machine) (m : List ℕ) (r : Registers) (sp rp : ℕ) (ss : 
   commit-good Throw e p = rw p
   commit-good (Raise g) e p = cc
 
+-- a good place of a cell: inside memory, a multiple of 4, and allowed
+pub record Placed (machine : Machine) (access : Access) (len a : ℕ) : Type 0 where
+  pub inside : a < len
+  pub aligned : a % 4 ≡ 0
+  pub allows : allowed machine access a ≡ true
+
+pub good-placed : (machine : Machine) (access : Access) (len a : ℕ) → placeOf machine oneCell access len a ≡ Good → Placed machine access len a
+unfolding placeOf
+good-placed machine access len a = go (ltb a len) (allowed machine access a) (eqb (a % 4) 0) refl refl refl
+  where
+    go : (s t u : Bool) → ltb a len ≡ s → allowed machine access a ≡ t → eqb (a % 4) 0 ≡ u
+        → if s (if (t && u) Good (Bad (faultAt access a))) (Bad (Range (address a))) ≡ Good → Placed machine access len a
+    go true true true p q v e = record { inside = ltb-true a len p; aligned = eqb-true (a % 4) 0 v; allows = q }
+    go true true false p q v e = absurd (let z : _≡_ {A = ℕ} 0 1 = cc in omega arith)
+    go true false u p q v e = absurd (let z : _≡_ {A = ℕ} 0 1 = cc in omega arith)
+    go false t u p q v e = absurd (let z : _≡_ {A = ℕ} 0 1 = cc in omega arith)
+
 -- all four bytes of a cell at a good place are in memory
 pub room-place : (machine : Machine) (access : Access) (len a : ℕ) → len % 4 ≡ 0 → placeOf machine oneCell access len a ≡ Good → a + 4 ≤ len
-unfolding placeOf
-room-place machine access len a w e = room len a w e
+room-place machine access len a w e = let g = good-placed machine access len a e in omega (arith, g .inside, g .aligned)
 
 pub room-byte : (machine : Machine) (access : Access) (len a : ℕ) → placeOf machine oneByte access len a ≡ Good → a < len
 unfolding placeOf

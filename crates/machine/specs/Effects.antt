@@ -7,9 +7,9 @@ use Rattle.cell.specs.Memory.{cellAt, byte0}
 use Rattle.cell.specs.declared.Fault.{Fault}
 use Rattle.cell.specs.declared.Fetched.{Fetched}
 use Rattle.cell.specs.declared.Fetched.the-variants.{Cell, Failed}
-use Rattle.machine.specs.Places.{Width, oneByte, oneCell}
+use Rattle.machine.specs.Places.{Width, oneByte, oneCell, accessTo}
 use Rattle.machine.specs.declared.Access.{Access}
-use Rattle.machine.specs.declared.Access.the-variants.{DataWrite, NamedWrite}
+use Rattle.machine.specs.declared.Access.the-variants.{DataWrite, ReturnWrite, NamedWrite}
 use Rattle.machine.specs.declared.Write.{Write}
 use Rattle.machine.specs.declared.Then.{Then}
 use Rattle.machine.specs.declared.Then.the-variants.{GoOn, Jump, Halt, Throw, Raise}
@@ -17,6 +17,7 @@ use Rattle.machine.specs.declared.NoStore.{NoStore}
 use Rattle.machine.specs.declared.OneStore.{OneStore}
 use Rattle.machine.specs.declared.MaybeStore.{MaybeStore}
 use Rattle.machine.specs.declared.TwoStores.{TwoStores}
+use Rattle.machine.specs.declared.TwoReturns.{TwoReturns}
 use Rattle.machine.specs.declared.ThreeStores.{ThreeStores}
 use Rattle.machine.specs.declared.ByteStore.{ByteStore}
 use Rattle.machine.specs.declared.RollStores.{RollStores}
@@ -75,23 +76,28 @@ effectOf sp rp stores (Halt x) = act (record { sp = sp; rp = rp; stores = stores
 effectOf sp rp stores Throw = act (record { sp = sp; rp = rp; stores = stores; control = throwing })
 effectOf sp rp stores (Raise f) = raise f
 
-abbrev pub storeOf : Write → Store
-storeOf w = cellStore (w .access) (w .at .0) (w .value)
+abbrev pub storeOf : Access → Write → Store
+storeOf access w = cellStore access (w .at .0) (w .value)
 
 abbrev pub noStore : NoStore → Effect
 noStore e = effectOf (e .sp) (e .rp) [] (e .then)
 
 abbrev pub oneStore : OneStore → Effect
-oneStore e = effectOf (e .sp) (e .rp) (storeOf (e .write) ∷ []) (e .then)
+oneStore e = effectOf (e .sp) (e .rp) (storeOf (accessTo (e .target)) (e .write) ∷ []) (e .then)
 
 abbrev pub maybeStore : MaybeStore → Effect
-maybeStore e = effectOf (e .sp) (e .rp) (if (e .writes) (storeOf (e .write) ∷ []) []) (e .then)
+maybeStore e = effectOf (e .sp) (e .rp) (if (e .writes) (storeOf (accessTo (e .target)) (e .write) ∷ []) []) (e .then)
 
 abbrev pub twoStores : TwoStores → Effect
-twoStores e = effectOf (e .sp) (e .rp) (storeOf (e .first) ∷ storeOf (e .second) ∷ []) (e .then)
+twoStores e = effectOf (e .sp) (e .rp) (storeOf DataWrite (e .first) ∷ storeOf DataWrite (e .second) ∷ []) (e .then)
+
+abbrev pub twoReturns : TwoReturns → Effect
+twoReturns e = effectOf (e .sp) (e .rp) (storeOf ReturnWrite (e .first) ∷ storeOf ReturnWrite (e .second) ∷ []) (e .then)
 
 abbrev pub threeStores : ThreeStores → Effect
-threeStores e = effectOf (e .sp) (e .rp) (storeOf (e .first) ∷ storeOf (e .second) ∷ storeOf (e .third) ∷ []) (e .then)
+threeStores e =
+    effectOf (e .sp) (e .rp) (storeOf DataWrite (e .first) ∷ storeOf DataWrite (e .second) ∷ storeOf DataWrite (e .third) ∷ [])
+    (e .then)
 
 abbrev pub byteStores : ByteStore → List Store
 byteStores e = record { width = oneByte; access = NamedWrite; at = e .at .0; value = byte0 (e .value) } ∷ []

@@ -2,4 +2,5 @@
 pub mod Places
 pub mod Effects
 pub mod Commits
+pub mod Exceptions
 pub mod Throws

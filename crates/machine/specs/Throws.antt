@@ -7,18 +7,18 @@ use lib.ListN.{length}
 use Rattle.cell.specs.Choice.{if}
 use Rattle.cell.specs.Memory.{storeCell, cellAt}
 use Rattle.cell.specs.Number.{sum, difference}
-use Rattle.cell.specs.Place.{faultCode}
-use Rattle.cell.specs.declared.Fault.{Fault}
-use Rattle.cell.specs.declared.Fault.the-variants.{Range, Alignment, Divisor, Illegal, Library}
 use Rattle.cell.specs.declared.Checked.{Checked}
 use Rattle.cell.specs.declared.Checked.the-variants.{Good, Bad}
 use Rattle.cell.specs.declared.Fetched.{Fetched}
 use Rattle.cell.specs.declared.Fetched.the-variants.{Cell, Failed}
 use Rattle.machine.specs.Places.{oneCell, placeOf, fetchOf}
 use Rattle.machine.specs.Commits.{Stepped}
+use Rattle.machine.specs.Exceptions.{exceptionOf, exceptionCode}
 use Rattle.machine.specs.declared.Machine.{Machine}
 use Rattle.machine.specs.declared.Registers.{Registers}
 use Rattle.machine.specs.declared.Access.the-variants.{Stream, Push}
+use Rattle.machine.specs.declared.Exception.{Exception}
+use Rattle.machine.specs.declared.Exception.the-variants.{Range, Alignment, DataOverflow, DataUnderflow, ReturnOverflow, ReturnUnderflow, Divisor, Illegal, Library}
 use Rattle.machine.specs.declared.Outcome.{Outcome}
 use Rattle.machine.specs.declared.Outcome.the-variants as outcome
 use Rattle.machine.specs.declared.Ended.{Ended}
@@ -75,25 +75,29 @@ handlerOf machine m r e =
     toHandler machine (storeCell (machine .order) m badCell (r .ep)) r e
     (cellAt (machine .order) (storeCell (machine .order) m badCell (r .ep)) handlerCell)
 
--- -ADDRESS changes where the fault has an address
-abbrev pub noted : Machine → List ℕ → Fault → List ℕ
+-- -ADDRESS changes where the exception has an address
+abbrev pub noted : Machine → List ℕ → Exception → List ℕ
 noted machine m (Range a) = storeCell (machine .order) m addressCell (a .0)
 noted machine m (Alignment a) = storeCell (machine .order) m addressCell (a .0)
+noted machine m DataOverflow = m
+noted machine m DataUnderflow = m
+noted machine m ReturnOverflow = m
+noted machine m ReturnUnderflow = m
 noted machine m Divisor = m
 noted machine m Illegal = m
 noted machine m Library = m
 
 -- the code at a place that was judged, then the rest of the throw. Where the place is bad, -ADDRESS stays too, and -258 stops the machine
-abbrev pub pushed : Machine → List ℕ → Registers → Fault → ℕ → Checked → CycleState
-pushed machine m r f sp (Bad g) = cycleState m r (Stopped badStack)
-pushed machine m r f sp Good =
-    handlerOf machine (storeCell (machine .order) (noted machine m f) sp (faultCode f))
+abbrev pub pushed : Machine → List ℕ → Registers → Exception → ℕ → Checked → CycleState
+pushed machine m r e sp (Bad f) = cycleState m r (Stopped badStack)
+pushed machine m r e sp Good =
+    handlerOf machine (storeCell (machine .order) (noted machine m e) sp (exceptionCode e))
     (record { ep = r .ep; a = r .a; sp = sp; rp = r .rp })
-    (Threw f)
+    (Threw e)
 
-unfoldable pub throwOf : Machine → List ℕ → Registers → Fault → CycleState
-throwOf machine m r f =
-    pushed machine m r f (difference (r .sp) 4) (placeOf machine oneCell Push (length m) (difference (r .sp) 4))
+unfoldable pub throwOf : Machine → List ℕ → Registers → Exception → CycleState
+throwOf machine m r e =
+    pushed machine m r e (difference (r .sp) 4) (placeOf machine oneCell Push (length m) (difference (r .sp) 4))
 
 -- THROW, 54h, finds its code on the stack already. An unaligned SP stops it with -258
 unfoldable pub throwingOf : Machine → List ℕ → Registers → CycleState
@@ -102,7 +106,7 @@ throwingOf machine m r = if (eqb (r .sp % 4) 0) (handlerOf machine m r Went) (cy
 -- NEXT moves the cell at EP into A, and EP behind it
 abbrev pub nexted : Machine → List ℕ → Registers → Fetched → CycleState
 nexted machine m r (Cell x) = cycleState m (entered (r .ep) x r) Went
-nexted machine m r (Failed f) = throwOf machine m r f
+nexted machine m r (Failed f) = throwOf machine m r (exceptionOf machine f)
 
 unfoldable pub nextOf : Machine → List ℕ → Registers → CycleState
 nextOf machine m r = nexted machine m r (fetchOf machine Stream m (r .ep))
@@ -112,7 +116,7 @@ nextOf machine m r = nexted machine m r (fetchOf machine Stream m (r .ep))
 abbrev pub finished : Machine → List ℕ → Registers → Outcome → CycleState
 finished machine m r outcome.Went = cycleState m r Went
 finished machine m r outcome.Next = nextOf machine m r
-finished machine m r (outcome.Raise f) = throwOf machine m r f
+finished machine m r (outcome.Raise f) = throwOf machine m r (exceptionOf machine f)
 finished machine m r (outcome.Halt x) = cycleState m r (Stopped x)
 finished machine m r outcome.Throw = throwingOf machine m r
 

@@ -5,29 +5,29 @@ ghost use lib.ListN.{length};
 ghost use Rattle.machine.specs.Places as places;
 ghost use Rattle.machine.specs.Commits as commits;
 ghost use Rattle.machine.specs.Throws as throws;
-use crate::Access;
 use crate::CycleResult;
 use crate::Ended;
+use crate::Exception;
 use crate::Machine;
 use crate::Outcome;
 use crate::Registers;
 use crate::Step;
+use crate::exceptions::code_of;
+use crate::exceptions::tell;
 use crate::fixed::ADDRESS_CELL;
 use crate::fixed::BAD_CELL;
 use crate::fixed::BAD_HANDLER;
 use crate::fixed::BAD_STACK;
 use crate::fixed::HANDLER_CELL;
-use crate::places::check_place;
+use crate::places::check_data;
 use crate::places::fetch;
 use cell::Address;
 use cell::Checked;
-use cell::Fault;
 use cell::Fetched;
 use cell::memory::load;
 use cell::memory::store;
 use cell::number::add;
 use cell::number::subtract;
-use cell::place::fault_code;
 use cell::place::fault_in;
 
 // The registers once A is the cell at h.
@@ -50,10 +50,10 @@ fn to_handler(
     ended: Ended,
     h: Address,
 ) -> CycleResult
-    requires { ⌜ places.Whole (now memory) ⌝ }
+    requires { ⌜ places.Fits machine (length (now memory)) ⌝ }
     ensures { λ t. ⌜ throws.withResult (now (memory .entry)) t ≡ throws.toHandler machine (now (memory .entry)) r ended (h .0) ⌝ }
 {
-    let got = fetch(machine, Access::Stream, memory, h);
+    let got = fetch(machine, memory, h);
     let Fetched::Cell(x) = got else {
         return CycleResult {
             registers: Registers {
@@ -82,7 +82,7 @@ fn to_handler(
 
 // 'BAD takes EP, then the handler.
 pub fn handle(machine: Machine, memory: &mut [u8], r: Registers, ended: Ended) -> CycleResult
-    requires { ⌜ places.Whole (now memory) ⌝ }
+    requires { ⌜ places.Fits machine (length (now memory)) ⌝ }
     requires { ⌜ 16 ≤ length (now memory) ⌝ }
     ensures { λ t. ⌜ throws.withResult (now (memory .exit)) t ≡ throws.handlerOf machine (now (memory .entry)) r ended ⌝ }
 {
@@ -103,26 +103,30 @@ pub fn handle(machine: Machine, memory: &mut [u8], r: Registers, ended: Ended) -
 }
 
 // -ADDRESS is set by -9 and -23 alone.
-fn note(machine: Machine, memory: &mut [u8], f: Fault)
+fn note(machine: Machine, memory: &mut [u8], e: Exception)
     requires { ⌜ 16 ≤ length (now memory) ⌝ }
-    ensures { λ u. ⌜ now (memory .exit) ≡ throws.noted machine (now (memory .entry)) f ⌝ }
+    ensures { λ u. ⌜ now (memory .exit) ≡ throws.noted machine (now (memory .entry)) e ⌝ }
 {
-    match f {
-        Fault::Range(a) => store(machine.order, memory, ADDRESS_CELL, a.0),
-        Fault::Alignment(a) => store(machine.order, memory, ADDRESS_CELL, a.0),
-        Fault::Divisor => (),
-        Fault::Illegal => (),
-        Fault::Library => (),
+    match e {
+        Exception::Range(a) => store(machine.order, memory, ADDRESS_CELL, a.0),
+        Exception::Alignment(a) => store(machine.order, memory, ADDRESS_CELL, a.0),
+        Exception::DataOverflow => (),
+        Exception::DataUnderflow => (),
+        Exception::ReturnOverflow => (),
+        Exception::ReturnUnderflow => (),
+        Exception::Divisor => (),
+        Exception::Illegal => (),
+        Exception::Library => (),
     }
 }
 
-pub fn throw(machine: Machine, memory: &mut [u8], r: Registers, f: Fault) -> CycleResult
-    requires { ⌜ places.Whole (now memory) ⌝ }
+pub fn throw(machine: Machine, memory: &mut [u8], r: Registers, e: Exception) -> CycleResult
+    requires { ⌜ places.Fits machine (length (now memory)) ⌝ }
     requires { ⌜ 16 ≤ length (now memory) ⌝ }
-    ensures { λ t. ⌜ throws.withResult (now (memory .exit)) t ≡ throws.throwOf machine (now (memory .entry)) r f ⌝ }
+    ensures { λ t. ⌜ throws.withResult (now (memory .exit)) t ≡ throws.throwOf machine (now (memory .entry)) r e ⌝ }
 {
     let sp = subtract(r.sp, 4);
-    let place = check_place(machine, Access::Push, memory.len(), Address(sp));
+    let place = check_data(machine, memory.len(), Address(sp));
     let Checked::Good = place else {
         return CycleResult {
             registers: Registers {
@@ -134,8 +138,8 @@ pub fn throw(machine: Machine, memory: &mut [u8], r: Registers, f: Fault) -> Cyc
             ended: Ended::Stopped(BAD_STACK),
         };
     };
-    note(machine, memory, f);
-    store(machine.order, memory, Address(sp), fault_code(f));
+    note(machine, memory, e);
+    store(machine.order, memory, Address(sp), code_of(e));
     handle(
         machine,
         memory,
@@ -145,13 +149,13 @@ pub fn throw(machine: Machine, memory: &mut [u8], r: Registers, f: Fault) -> Cyc
             sp: sp,
             rp: r.rp,
         },
-        Ended::Threw(f),
+        Ended::Threw(e),
     )
 }
 
 // THROW, 54h.
 fn throw_given(machine: Machine, memory: &mut [u8], r: Registers) -> CycleResult
-    requires { ⌜ places.Whole (now memory) ⌝ }
+    requires { ⌜ places.Fits machine (length (now memory)) ⌝ }
     requires { ⌜ 16 ≤ length (now memory) ⌝ }
     ensures { λ t. ⌜ throws.withResult (now (memory .exit)) t ≡ throws.throwingOf machine (now (memory .entry)) r ⌝ }
 {
@@ -180,11 +184,11 @@ fn throw_given(machine: Machine, memory: &mut [u8], r: Registers) -> CycleResult
 }
 
 pub fn next(machine: Machine, memory: &mut [u8], r: Registers) -> CycleResult
-    requires { ⌜ places.Whole (now memory) ⌝ }
+    requires { ⌜ places.Fits machine (length (now memory)) ⌝ }
     requires { ⌜ 16 ≤ length (now memory) ⌝ }
     ensures { λ t. ⌜ throws.withResult (now (memory .exit)) t ≡ throws.nextOf machine (now (memory .entry)) r ⌝ }
 {
-    let got = fetch(machine, Access::Stream, memory, Address(r.ep));
+    let got = fetch(machine, memory, Address(r.ep));
     let Fetched::Cell(x) = got else {
         return throw(
             machine,
@@ -195,7 +199,7 @@ pub fn next(machine: Machine, memory: &mut [u8], r: Registers) -> CycleResult
                 sp: r.sp,
                 rp: r.rp,
             },
-            fault_in(got),
+            tell(machine, fault_in(got)),
         );
     };
     CycleResult {
@@ -215,7 +219,7 @@ pub fn next(machine: Machine, memory: &mut [u8], r: Registers) -> CycleResult
 
 // The rest of a cycle.
 pub fn finish(machine: Machine, memory: &mut [u8], s: Step) -> CycleResult
-    requires { ⌜ places.Whole (now memory) ⌝ }
+    requires { ⌜ places.Fits machine (length (now memory)) ⌝ }
     requires { ⌜ 16 ≤ length (now memory) ⌝ }
     ensures { λ t. ⌜ throws.withResult (now (memory .exit)) t ≡ throws.finishOf machine (commits.stepped (now (memory .entry)) s) ⌝ }
 {
@@ -252,7 +256,7 @@ pub fn finish(machine: Machine, memory: &mut [u8], s: Step) -> CycleResult
                 sp: r.sp,
                 rp: r.rp,
             },
-            f,
+            tell(machine, f),
         ),
         Outcome::Halt(x) => CycleResult {
             registers: Registers {

@@ -1,6 +1,7 @@
 // The machine below its instructions: places and their accesses, what an instruction asks for and what its commit means, the throw and NEXT.
 
 pub mod ending;
+pub mod exceptions;
 pub mod fixed;
 pub mod places;
 
@@ -8,9 +9,19 @@ use cell::Address;
 use cell::CellCount;
 use cell::Fault;
 
-// What goes with every call and is no register.
+// The cells that a stack may have: so many of them from the floor on.
+pub struct Span {
+    pub floor: Address,
+    pub cells: CellCount,
+}
+
+// What goes with every call and is no register: the byte order, and the cells that the data stack and the return stack may have. The held cell, the lowest of the data stack's, may
+// be read, and only a throw writes it; where there is none, it is an address that no cell has.
 pub struct Machine {
     pub order: u8,
+    pub stack: Span,
+    pub returns: Span,
+    pub held: Address,
 }
 
 // EP, A, SP, RP: cells of any value. They become addresses where memory is touched.
@@ -21,7 +32,7 @@ pub struct Registers {
     pub rp: u32,
 }
 
-// What a cell is touched for.
+// What a cell is touched for. Contracts name it: each kind of place has its own function.
 pub enum Access {
     DataRead,
     DataWrite,
@@ -35,9 +46,15 @@ pub enum Access {
     Push,
 }
 
+// What a store of an instruction goes to.
+pub enum Target {
+    Data,
+    Return,
+    Named,
+}
+
 // A cell to be written.
 pub struct Write {
-    pub access: Access,
     pub at: Address,
     pub value: u32,
 }
@@ -71,6 +88,7 @@ pub struct NoStore {
 pub struct OneStore {
     pub sp: u32,
     pub rp: u32,
+    pub target: Target,
     pub write: Write,
     pub then: Then,
 }
@@ -80,10 +98,12 @@ pub struct MaybeStore {
     pub sp: u32,
     pub rp: u32,
     pub writes: bool,
+    pub target: Target,
     pub write: Write,
     pub then: Then,
 }
 
+// On the data stack.
 pub struct TwoStores {
     pub sp: u32,
     pub rp: u32,
@@ -92,6 +112,16 @@ pub struct TwoStores {
     pub then: Then,
 }
 
+// On the return stack.
+pub struct TwoReturns {
+    pub sp: u32,
+    pub rp: u32,
+    pub first: Write,
+    pub second: Write,
+    pub then: Then,
+}
+
+// On the data stack.
 pub struct ThreeStores {
     pub sp: u32,
     pub rp: u32,
@@ -133,10 +163,32 @@ pub struct Step {
     pub outcome: Outcome,
 }
 
+// What a throw is made for. specs/Exceptions.antt has the code of each.
+pub enum Exception {
+    // -9: the address lies outside memory
+    Range(Address),
+    // -23: the address is no multiple of 4
+    Alignment(Address),
+    // -3: the data stack below its area
+    DataOverflow,
+    // -4: the data stack at or above its top
+    DataUnderflow,
+    // -5: the return stack below its area
+    ReturnOverflow,
+    // -6: the return stack at or above its top
+    ReturnUnderflow,
+    // -10: division by zero
+    Divisor,
+    // -256: an opcode with no meaning
+    Illegal,
+    // -257: an unknown library routine
+    Library,
+}
+
 // How a cycle ended.
 pub enum Ended {
     Went,
-    Threw(Fault),
+    Threw(Exception),
     Stopped(u32),
 }
 

@@ -1,5 +1,6 @@
 // Arithmetic.
 ghost use mathlib.Core.Path.{_≡_};
+ghost use lib.ListN.{length};
 ghost use Rattle.machine.specs.Places as places;
 ghost use Rattle.machine.specs.Effects as effects;
 ghost use Rattle.instruction.specs.Plain as plain;
@@ -23,23 +24,22 @@ use instruction::shape::fail_two;
 use instruction::shape::reduce;
 use instruction::shape::replace;
 use instruction::shape::replace_both;
-use machine::Access;
 use machine::Machine;
 use machine::OneStore;
 use machine::Registers;
 use machine::TwoStores;
-use machine::places::fetch;
+use machine::places::fetch_data;
 
 // 1Eh + ( n1 n2 -- n3 )
 pub fn plus(machine: Machine, memory: &[u8], r: Registers) -> OneStore
-    requires { ⌜ places.Whole (now memory) ⌝ }
+    requires { ⌜ places.Fits machine (length (now memory)) ⌝ }
     ensures { λ e. ⌜ effects.oneStore e ≡ plain.plainAt machine Instruction.Plus (now (memory .entry)) r ⌝ }
 {
-    let got = fetch(machine, Access::DataRead, memory, Address(r.sp));
+    let got = fetch_data(machine, memory, Address(r.sp));
     let Fetched::Cell(x2) = got else {
         return fail_one(got);
     };
-    let got2 = fetch(machine, Access::DataRead, memory, Address(add(r.sp, 4)));
+    let got2 = fetch_data(machine, memory, Address(add(r.sp, 4)));
     let Fetched::Cell(x1) = got2 else {
         return fail_one(got2);
     };
@@ -48,14 +48,14 @@ pub fn plus(machine: Machine, memory: &[u8], r: Registers) -> OneStore
 
 // 1Fh - ( n1 n2 -- n3 )
 pub fn minus(machine: Machine, memory: &[u8], r: Registers) -> OneStore
-    requires { ⌜ places.Whole (now memory) ⌝ }
+    requires { ⌜ places.Fits machine (length (now memory)) ⌝ }
     ensures { λ e. ⌜ effects.oneStore e ≡ plain.plainAt machine Instruction.Minus (now (memory .entry)) r ⌝ }
 {
-    let got = fetch(machine, Access::DataRead, memory, Address(r.sp));
+    let got = fetch_data(machine, memory, Address(r.sp));
     let Fetched::Cell(x2) = got else {
         return fail_one(got);
     };
-    let got2 = fetch(machine, Access::DataRead, memory, Address(add(r.sp, 4)));
+    let got2 = fetch_data(machine, memory, Address(add(r.sp, 4)));
     let Fetched::Cell(x1) = got2 else {
         return fail_one(got2);
     };
@@ -64,14 +64,14 @@ pub fn minus(machine: Machine, memory: &[u8], r: Registers) -> OneStore
 
 // 20h >-< ( n1 n2 -- n3 )
 pub fn swap_minus(machine: Machine, memory: &[u8], r: Registers) -> OneStore
-    requires { ⌜ places.Whole (now memory) ⌝ }
+    requires { ⌜ places.Fits machine (length (now memory)) ⌝ }
     ensures { λ e. ⌜ effects.oneStore e ≡ plain.plainAt machine Instruction.SwapMinus (now (memory .entry)) r ⌝ }
 {
-    let got = fetch(machine, Access::DataRead, memory, Address(r.sp));
+    let got = fetch_data(machine, memory, Address(r.sp));
     let Fetched::Cell(x2) = got else {
         return fail_one(got);
     };
-    let got2 = fetch(machine, Access::DataRead, memory, Address(add(r.sp, 4)));
+    let got2 = fetch_data(machine, memory, Address(add(r.sp, 4)));
     let Fetched::Cell(x1) = got2 else {
         return fail_one(got2);
     };
@@ -80,10 +80,10 @@ pub fn swap_minus(machine: Machine, memory: &[u8], r: Registers) -> OneStore
 
 // 21h 1+ ( n1 -- n2 )
 pub fn one_plus(machine: Machine, memory: &[u8], r: Registers) -> OneStore
-    requires { ⌜ places.Whole (now memory) ⌝ }
+    requires { ⌜ places.Fits machine (length (now memory)) ⌝ }
     ensures { λ e. ⌜ effects.oneStore e ≡ plain.plainAt machine Instruction.OnePlus (now (memory .entry)) r ⌝ }
 {
-    let got = fetch(machine, Access::DataRead, memory, Address(r.sp));
+    let got = fetch_data(machine, memory, Address(r.sp));
     let Fetched::Cell(x) = got else {
         return fail_one(got);
     };
@@ -92,10 +92,10 @@ pub fn one_plus(machine: Machine, memory: &[u8], r: Registers) -> OneStore
 
 // 22h 1- ( n1 -- n2 )
 pub fn one_minus(machine: Machine, memory: &[u8], r: Registers) -> OneStore
-    requires { ⌜ places.Whole (now memory) ⌝ }
+    requires { ⌜ places.Fits machine (length (now memory)) ⌝ }
     ensures { λ e. ⌜ effects.oneStore e ≡ plain.plainAt machine Instruction.OneMinus (now (memory .entry)) r ⌝ }
 {
-    let got = fetch(machine, Access::DataRead, memory, Address(r.sp));
+    let got = fetch_data(machine, memory, Address(r.sp));
     let Fetched::Cell(x) = got else {
         return fail_one(got);
     };
@@ -104,10 +104,10 @@ pub fn one_minus(machine: Machine, memory: &[u8], r: Registers) -> OneStore
 
 // 23h CELL+ ( n1 -- n2 )
 pub fn cell_plus(machine: Machine, memory: &[u8], r: Registers) -> OneStore
-    requires { ⌜ places.Whole (now memory) ⌝ }
+    requires { ⌜ places.Fits machine (length (now memory)) ⌝ }
     ensures { λ e. ⌜ effects.oneStore e ≡ plain.plainAt machine Instruction.CellPlus (now (memory .entry)) r ⌝ }
 {
-    let got = fetch(machine, Access::DataRead, memory, Address(r.sp));
+    let got = fetch_data(machine, memory, Address(r.sp));
     let Fetched::Cell(x) = got else {
         return fail_one(got);
     };
@@ -116,10 +116,10 @@ pub fn cell_plus(machine: Machine, memory: &[u8], r: Registers) -> OneStore
 
 // 24h CELL- ( n1 -- n2 )
 pub fn cell_minus(machine: Machine, memory: &[u8], r: Registers) -> OneStore
-    requires { ⌜ places.Whole (now memory) ⌝ }
+    requires { ⌜ places.Fits machine (length (now memory)) ⌝ }
     ensures { λ e. ⌜ effects.oneStore e ≡ plain.plainAt machine Instruction.CellMinus (now (memory .entry)) r ⌝ }
 {
-    let got = fetch(machine, Access::DataRead, memory, Address(r.sp));
+    let got = fetch_data(machine, memory, Address(r.sp));
     let Fetched::Cell(x) = got else {
         return fail_one(got);
     };
@@ -128,14 +128,14 @@ pub fn cell_minus(machine: Machine, memory: &[u8], r: Registers) -> OneStore
 
 // 25h * ( n1 n2 -- n3 )
 pub fn star(machine: Machine, memory: &[u8], r: Registers) -> OneStore
-    requires { ⌜ places.Whole (now memory) ⌝ }
+    requires { ⌜ places.Fits machine (length (now memory)) ⌝ }
     ensures { λ e. ⌜ effects.oneStore e ≡ plain.plainAt machine Instruction.Star (now (memory .entry)) r ⌝ }
 {
-    let got = fetch(machine, Access::DataRead, memory, Address(r.sp));
+    let got = fetch_data(machine, memory, Address(r.sp));
     let Fetched::Cell(x2) = got else {
         return fail_one(got);
     };
-    let got2 = fetch(machine, Access::DataRead, memory, Address(add(r.sp, 4)));
+    let got2 = fetch_data(machine, memory, Address(add(r.sp, 4)));
     let Fetched::Cell(x1) = got2 else {
         return fail_one(got2);
     };
@@ -144,14 +144,14 @@ pub fn star(machine: Machine, memory: &[u8], r: Registers) -> OneStore
 
 // 26h / ( n1 n2 -- n3 )
 pub fn slash(machine: Machine, memory: &[u8], r: Registers) -> OneStore
-    requires { ⌜ places.Whole (now memory) ⌝ }
+    requires { ⌜ places.Fits machine (length (now memory)) ⌝ }
     ensures { λ e. ⌜ effects.oneStore e ≡ plain.plainAt machine Instruction.Slash (now (memory .entry)) r ⌝ }
 {
-    let got = fetch(machine, Access::DataRead, memory, Address(r.sp));
+    let got = fetch_data(machine, memory, Address(r.sp));
     let Fetched::Cell(n2) = got else {
         return fail_one(got);
     };
-    let got2 = fetch(machine, Access::DataRead, memory, Address(add(r.sp, 4)));
+    let got2 = fetch_data(machine, memory, Address(add(r.sp, 4)));
     let Fetched::Cell(n1) = got2 else {
         return fail_one(got2);
     };
@@ -164,14 +164,14 @@ pub fn slash(machine: Machine, memory: &[u8], r: Registers) -> OneStore
 
 // 27h MOD ( n1 n2 -- n3 )
 pub fn modulo(machine: Machine, memory: &[u8], r: Registers) -> OneStore
-    requires { ⌜ places.Whole (now memory) ⌝ }
+    requires { ⌜ places.Fits machine (length (now memory)) ⌝ }
     ensures { λ e. ⌜ effects.oneStore e ≡ plain.plainAt machine Instruction.Mod (now (memory .entry)) r ⌝ }
 {
-    let got = fetch(machine, Access::DataRead, memory, Address(r.sp));
+    let got = fetch_data(machine, memory, Address(r.sp));
     let Fetched::Cell(n2) = got else {
         return fail_one(got);
     };
-    let got2 = fetch(machine, Access::DataRead, memory, Address(add(r.sp, 4)));
+    let got2 = fetch_data(machine, memory, Address(add(r.sp, 4)));
     let Fetched::Cell(n1) = got2 else {
         return fail_one(got2);
     };
@@ -184,14 +184,14 @@ pub fn modulo(machine: Machine, memory: &[u8], r: Registers) -> OneStore
 
 // 28h /MOD ( n1 n2 -- n3 n4 )
 pub fn slash_mod(machine: Machine, memory: &[u8], r: Registers) -> TwoStores
-    requires { ⌜ places.Whole (now memory) ⌝ }
+    requires { ⌜ places.Fits machine (length (now memory)) ⌝ }
     ensures { λ e. ⌜ effects.twoStores e ≡ plain.plainAt machine Instruction.SlashMod (now (memory .entry)) r ⌝ }
 {
-    let got = fetch(machine, Access::DataRead, memory, Address(r.sp));
+    let got = fetch_data(machine, memory, Address(r.sp));
     let Fetched::Cell(n2) = got else {
         return fail_two(got);
     };
-    let got2 = fetch(machine, Access::DataRead, memory, Address(add(r.sp, 4)));
+    let got2 = fetch_data(machine, memory, Address(add(r.sp, 4)));
     let Fetched::Cell(n1) = got2 else {
         return fail_two(got2);
     };
@@ -203,14 +203,14 @@ pub fn slash_mod(machine: Machine, memory: &[u8], r: Registers) -> TwoStores
 
 // 29h U/MOD ( u1 u2 -- u3 u4 )
 pub fn u_slash_mod(machine: Machine, memory: &[u8], r: Registers) -> TwoStores
-    requires { ⌜ places.Whole (now memory) ⌝ }
+    requires { ⌜ places.Fits machine (length (now memory)) ⌝ }
     ensures { λ e. ⌜ effects.twoStores e ≡ plain.plainAt machine Instruction.USlashMod (now (memory .entry)) r ⌝ }
 {
-    let got = fetch(machine, Access::DataRead, memory, Address(r.sp));
+    let got = fetch_data(machine, memory, Address(r.sp));
     let Fetched::Cell(n2) = got else {
         return fail_two(got);
     };
-    let got2 = fetch(machine, Access::DataRead, memory, Address(add(r.sp, 4)));
+    let got2 = fetch_data(machine, memory, Address(add(r.sp, 4)));
     let Fetched::Cell(n1) = got2 else {
         return fail_two(got2);
     };
@@ -222,14 +222,14 @@ pub fn u_slash_mod(machine: Machine, memory: &[u8], r: Registers) -> TwoStores
 
 // 2Ah S/REM ( n1 n2 -- n3 n4 )
 pub fn s_slash_rem(machine: Machine, memory: &[u8], r: Registers) -> TwoStores
-    requires { ⌜ places.Whole (now memory) ⌝ }
+    requires { ⌜ places.Fits machine (length (now memory)) ⌝ }
     ensures { λ e. ⌜ effects.twoStores e ≡ plain.plainAt machine Instruction.SSlashRem (now (memory .entry)) r ⌝ }
 {
-    let got = fetch(machine, Access::DataRead, memory, Address(r.sp));
+    let got = fetch_data(machine, memory, Address(r.sp));
     let Fetched::Cell(n2) = got else {
         return fail_two(got);
     };
-    let got2 = fetch(machine, Access::DataRead, memory, Address(add(r.sp, 4)));
+    let got2 = fetch_data(machine, memory, Address(add(r.sp, 4)));
     let Fetched::Cell(n1) = got2 else {
         return fail_two(got2);
     };
@@ -241,10 +241,10 @@ pub fn s_slash_rem(machine: Machine, memory: &[u8], r: Registers) -> TwoStores
 
 // 2Bh 2/ ( x1 -- x2 )
 pub fn two_slash(machine: Machine, memory: &[u8], r: Registers) -> OneStore
-    requires { ⌜ places.Whole (now memory) ⌝ }
+    requires { ⌜ places.Fits machine (length (now memory)) ⌝ }
     ensures { λ e. ⌜ effects.oneStore e ≡ plain.plainAt machine Instruction.TwoSlash (now (memory .entry)) r ⌝ }
 {
-    let got = fetch(machine, Access::DataRead, memory, Address(r.sp));
+    let got = fetch_data(machine, memory, Address(r.sp));
     let Fetched::Cell(x) = got else {
         return fail_one(got);
     };
@@ -253,10 +253,10 @@ pub fn two_slash(machine: Machine, memory: &[u8], r: Registers) -> OneStore
 
 // 2Ch CELLS ( n1 -- n2 )
 pub fn cells(machine: Machine, memory: &[u8], r: Registers) -> OneStore
-    requires { ⌜ places.Whole (now memory) ⌝ }
+    requires { ⌜ places.Fits machine (length (now memory)) ⌝ }
     ensures { λ e. ⌜ effects.oneStore e ≡ plain.plainAt machine Instruction.Cells (now (memory .entry)) r ⌝ }
 {
-    let got = fetch(machine, Access::DataRead, memory, Address(r.sp));
+    let got = fetch_data(machine, memory, Address(r.sp));
     let Fetched::Cell(x) = got else {
         return fail_one(got);
     };
@@ -265,10 +265,10 @@ pub fn cells(machine: Machine, memory: &[u8], r: Registers) -> OneStore
 
 // 2Dh ABS ( n -- u )
 pub fn abs(machine: Machine, memory: &[u8], r: Registers) -> OneStore
-    requires { ⌜ places.Whole (now memory) ⌝ }
+    requires { ⌜ places.Fits machine (length (now memory)) ⌝ }
     ensures { λ e. ⌜ effects.oneStore e ≡ plain.plainAt machine Instruction.Abs (now (memory .entry)) r ⌝ }
 {
-    let got = fetch(machine, Access::DataRead, memory, Address(r.sp));
+    let got = fetch_data(machine, memory, Address(r.sp));
     let Fetched::Cell(x) = got else {
         return fail_one(got);
     };
@@ -277,10 +277,10 @@ pub fn abs(machine: Machine, memory: &[u8], r: Registers) -> OneStore
 
 // 2Eh NEGATE ( n1 -- n2 )
 pub fn negate(machine: Machine, memory: &[u8], r: Registers) -> OneStore
-    requires { ⌜ places.Whole (now memory) ⌝ }
+    requires { ⌜ places.Fits machine (length (now memory)) ⌝ }
     ensures { λ e. ⌜ effects.oneStore e ≡ plain.plainAt machine Instruction.Negate (now (memory .entry)) r ⌝ }
 {
-    let got = fetch(machine, Access::DataRead, memory, Address(r.sp));
+    let got = fetch_data(machine, memory, Address(r.sp));
     let Fetched::Cell(x) = got else {
         return fail_one(got);
     };
@@ -289,14 +289,14 @@ pub fn negate(machine: Machine, memory: &[u8], r: Registers) -> OneStore
 
 // 2Fh MAX ( n1 n2 -- n3 )
 pub fn max(machine: Machine, memory: &[u8], r: Registers) -> OneStore
-    requires { ⌜ places.Whole (now memory) ⌝ }
+    requires { ⌜ places.Fits machine (length (now memory)) ⌝ }
     ensures { λ e. ⌜ effects.oneStore e ≡ plain.plainAt machine Instruction.Max (now (memory .entry)) r ⌝ }
 {
-    let got = fetch(machine, Access::DataRead, memory, Address(r.sp));
+    let got = fetch_data(machine, memory, Address(r.sp));
     let Fetched::Cell(x2) = got else {
         return fail_one(got);
     };
-    let got2 = fetch(machine, Access::DataRead, memory, Address(add(r.sp, 4)));
+    let got2 = fetch_data(machine, memory, Address(add(r.sp, 4)));
     let Fetched::Cell(x1) = got2 else {
         return fail_one(got2);
     };
@@ -305,14 +305,14 @@ pub fn max(machine: Machine, memory: &[u8], r: Registers) -> OneStore
 
 // 30h MIN ( n1 n2 -- n3 )
 pub fn min(machine: Machine, memory: &[u8], r: Registers) -> OneStore
-    requires { ⌜ places.Whole (now memory) ⌝ }
+    requires { ⌜ places.Fits machine (length (now memory)) ⌝ }
     ensures { λ e. ⌜ effects.oneStore e ≡ plain.plainAt machine Instruction.Min (now (memory .entry)) r ⌝ }
 {
-    let got = fetch(machine, Access::DataRead, memory, Address(r.sp));
+    let got = fetch_data(machine, memory, Address(r.sp));
     let Fetched::Cell(x2) = got else {
         return fail_one(got);
     };
-    let got2 = fetch(machine, Access::DataRead, memory, Address(add(r.sp, 4)));
+    let got2 = fetch_data(machine, memory, Address(add(r.sp, 4)));
     let Fetched::Cell(x1) = got2 else {
         return fail_one(got2);
     };

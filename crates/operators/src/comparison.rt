@@ -1,5 +1,6 @@
 // Comparison.
 ghost use mathlib.Core.Path.{_≡_};
+ghost use lib.ListN.{length};
 ghost use Rattle.machine.specs.Places as places;
 ghost use Rattle.machine.specs.Effects as effects;
 ghost use Rattle.instruction.specs.Plain as plain;
@@ -12,22 +13,21 @@ use instruction::Instruction;
 use instruction::shape::fail_one;
 use instruction::shape::reduce;
 use instruction::shape::replace;
-use machine::Access;
 use machine::Machine;
 use machine::OneStore;
 use machine::Registers;
-use machine::places::fetch;
+use machine::places::fetch_data;
 
 // 0Fh < ( n1 n2 -- flag )
 pub fn less(machine: Machine, memory: &[u8], r: Registers) -> OneStore
-    requires { ⌜ places.Whole (now memory) ⌝ }
+    requires { ⌜ places.Fits machine (length (now memory)) ⌝ }
     ensures { λ e. ⌜ effects.oneStore e ≡ plain.plainAt machine Instruction.Less (now (memory .entry)) r ⌝ }
 {
-    let got = fetch(machine, Access::DataRead, memory, Address(r.sp));
+    let got = fetch_data(machine, memory, Address(r.sp));
     let Fetched::Cell(x2) = got else {
         return fail_one(got);
     };
-    let got2 = fetch(machine, Access::DataRead, memory, Address(add(r.sp, 4)));
+    let got2 = fetch_data(machine, memory, Address(add(r.sp, 4)));
     let Fetched::Cell(x1) = got2 else {
         return fail_one(got2);
     };
@@ -36,14 +36,14 @@ pub fn less(machine: Machine, memory: &[u8], r: Registers) -> OneStore
 
 // 10h > ( n1 n2 -- flag )
 pub fn greater(machine: Machine, memory: &[u8], r: Registers) -> OneStore
-    requires { ⌜ places.Whole (now memory) ⌝ }
+    requires { ⌜ places.Fits machine (length (now memory)) ⌝ }
     ensures { λ e. ⌜ effects.oneStore e ≡ plain.plainAt machine Instruction.Greater (now (memory .entry)) r ⌝ }
 {
-    let got = fetch(machine, Access::DataRead, memory, Address(r.sp));
+    let got = fetch_data(machine, memory, Address(r.sp));
     let Fetched::Cell(x2) = got else {
         return fail_one(got);
     };
-    let got2 = fetch(machine, Access::DataRead, memory, Address(add(r.sp, 4)));
+    let got2 = fetch_data(machine, memory, Address(add(r.sp, 4)));
     let Fetched::Cell(x1) = got2 else {
         return fail_one(got2);
     };
@@ -52,14 +52,14 @@ pub fn greater(machine: Machine, memory: &[u8], r: Registers) -> OneStore
 
 // 11h = ( x1 x2 -- flag )
 pub fn equal(machine: Machine, memory: &[u8], r: Registers) -> OneStore
-    requires { ⌜ places.Whole (now memory) ⌝ }
+    requires { ⌜ places.Fits machine (length (now memory)) ⌝ }
     ensures { λ e. ⌜ effects.oneStore e ≡ plain.plainAt machine Instruction.Equal (now (memory .entry)) r ⌝ }
 {
-    let got = fetch(machine, Access::DataRead, memory, Address(r.sp));
+    let got = fetch_data(machine, memory, Address(r.sp));
     let Fetched::Cell(x2) = got else {
         return fail_one(got);
     };
-    let got2 = fetch(machine, Access::DataRead, memory, Address(add(r.sp, 4)));
+    let got2 = fetch_data(machine, memory, Address(add(r.sp, 4)));
     let Fetched::Cell(x1) = got2 else {
         return fail_one(got2);
     };
@@ -68,14 +68,14 @@ pub fn equal(machine: Machine, memory: &[u8], r: Registers) -> OneStore
 
 // 12h <> ( x1 x2 -- flag )
 pub fn not_equal(machine: Machine, memory: &[u8], r: Registers) -> OneStore
-    requires { ⌜ places.Whole (now memory) ⌝ }
+    requires { ⌜ places.Fits machine (length (now memory)) ⌝ }
     ensures { λ e. ⌜ effects.oneStore e ≡ plain.plainAt machine Instruction.NotEqual (now (memory .entry)) r ⌝ }
 {
-    let got = fetch(machine, Access::DataRead, memory, Address(r.sp));
+    let got = fetch_data(machine, memory, Address(r.sp));
     let Fetched::Cell(x2) = got else {
         return fail_one(got);
     };
-    let got2 = fetch(machine, Access::DataRead, memory, Address(add(r.sp, 4)));
+    let got2 = fetch_data(machine, memory, Address(add(r.sp, 4)));
     let Fetched::Cell(x1) = got2 else {
         return fail_one(got2);
     };
@@ -84,10 +84,10 @@ pub fn not_equal(machine: Machine, memory: &[u8], r: Registers) -> OneStore
 
 // 13h 0< ( n -- flag )
 pub fn zero_less(machine: Machine, memory: &[u8], r: Registers) -> OneStore
-    requires { ⌜ places.Whole (now memory) ⌝ }
+    requires { ⌜ places.Fits machine (length (now memory)) ⌝ }
     ensures { λ e. ⌜ effects.oneStore e ≡ plain.plainAt machine Instruction.ZeroLess (now (memory .entry)) r ⌝ }
 {
-    let got = fetch(machine, Access::DataRead, memory, Address(r.sp));
+    let got = fetch_data(machine, memory, Address(r.sp));
     let Fetched::Cell(x) = got else {
         return fail_one(got);
     };
@@ -96,10 +96,10 @@ pub fn zero_less(machine: Machine, memory: &[u8], r: Registers) -> OneStore
 
 // 14h 0> ( n -- flag )
 pub fn zero_greater(machine: Machine, memory: &[u8], r: Registers) -> OneStore
-    requires { ⌜ places.Whole (now memory) ⌝ }
+    requires { ⌜ places.Fits machine (length (now memory)) ⌝ }
     ensures { λ e. ⌜ effects.oneStore e ≡ plain.plainAt machine Instruction.ZeroGreater (now (memory .entry)) r ⌝ }
 {
-    let got = fetch(machine, Access::DataRead, memory, Address(r.sp));
+    let got = fetch_data(machine, memory, Address(r.sp));
     let Fetched::Cell(x) = got else {
         return fail_one(got);
     };
@@ -108,10 +108,10 @@ pub fn zero_greater(machine: Machine, memory: &[u8], r: Registers) -> OneStore
 
 // 15h 0= ( x -- flag )
 pub fn zero_equal(machine: Machine, memory: &[u8], r: Registers) -> OneStore
-    requires { ⌜ places.Whole (now memory) ⌝ }
+    requires { ⌜ places.Fits machine (length (now memory)) ⌝ }
     ensures { λ e. ⌜ effects.oneStore e ≡ plain.plainAt machine Instruction.ZeroEqual (now (memory .entry)) r ⌝ }
 {
-    let got = fetch(machine, Access::DataRead, memory, Address(r.sp));
+    let got = fetch_data(machine, memory, Address(r.sp));
     let Fetched::Cell(x) = got else {
         return fail_one(got);
     };
@@ -120,10 +120,10 @@ pub fn zero_equal(machine: Machine, memory: &[u8], r: Registers) -> OneStore
 
 // 16h 0<> ( x -- flag )
 pub fn zero_not_equal(machine: Machine, memory: &[u8], r: Registers) -> OneStore
-    requires { ⌜ places.Whole (now memory) ⌝ }
+    requires { ⌜ places.Fits machine (length (now memory)) ⌝ }
     ensures { λ e. ⌜ effects.oneStore e ≡ plain.plainAt machine Instruction.ZeroNotEqual (now (memory .entry)) r ⌝ }
 {
-    let got = fetch(machine, Access::DataRead, memory, Address(r.sp));
+    let got = fetch_data(machine, memory, Address(r.sp));
     let Fetched::Cell(x) = got else {
         return fail_one(got);
     };
@@ -132,14 +132,14 @@ pub fn zero_not_equal(machine: Machine, memory: &[u8], r: Registers) -> OneStore
 
 // 17h U< ( u1 u2 -- flag )
 pub fn u_less(machine: Machine, memory: &[u8], r: Registers) -> OneStore
-    requires { ⌜ places.Whole (now memory) ⌝ }
+    requires { ⌜ places.Fits machine (length (now memory)) ⌝ }
     ensures { λ e. ⌜ effects.oneStore e ≡ plain.plainAt machine Instruction.ULess (now (memory .entry)) r ⌝ }
 {
-    let got = fetch(machine, Access::DataRead, memory, Address(r.sp));
+    let got = fetch_data(machine, memory, Address(r.sp));
     let Fetched::Cell(x2) = got else {
         return fail_one(got);
     };
-    let got2 = fetch(machine, Access::DataRead, memory, Address(add(r.sp, 4)));
+    let got2 = fetch_data(machine, memory, Address(add(r.sp, 4)));
     let Fetched::Cell(x1) = got2 else {
         return fail_one(got2);
     };
@@ -148,14 +148,14 @@ pub fn u_less(machine: Machine, memory: &[u8], r: Registers) -> OneStore
 
 // 18h U> ( u1 u2 -- flag )
 pub fn u_greater(machine: Machine, memory: &[u8], r: Registers) -> OneStore
-    requires { ⌜ places.Whole (now memory) ⌝ }
+    requires { ⌜ places.Fits machine (length (now memory)) ⌝ }
     ensures { λ e. ⌜ effects.oneStore e ≡ plain.plainAt machine Instruction.UGreater (now (memory .entry)) r ⌝ }
 {
-    let got = fetch(machine, Access::DataRead, memory, Address(r.sp));
+    let got = fetch_data(machine, memory, Address(r.sp));
     let Fetched::Cell(x2) = got else {
         return fail_one(got);
     };
-    let got2 = fetch(machine, Access::DataRead, memory, Address(add(r.sp, 4)));
+    let got2 = fetch_data(machine, memory, Address(add(r.sp, 4)));
     let Fetched::Cell(x1) = got2 else {
         return fail_one(got2);
     };

@@ -2,15 +2,16 @@
 use mathlib.Core.List.{List}
 use Prim.Native.Nat.{ℕ}
 use lib.ListN.{length}
-use Rattle.cell.specs.Place.{faultCode}
 use Rattle.cell.specs.Refusals.{judgeMachine, refusalNumber}
-use Rattle.cell.specs.declared.Fault.{Fault}
-use Rattle.cell.specs.declared.Fault.the-variants.{Range, Alignment, Divisor, Illegal, Library}
 use Rattle.cell.specs.declared.Judged.{Judged}
 use Rattle.cell.specs.declared.Judged.the-variants as judged
+use Rattle.machine.specs.Places.{unbounded}
+use Rattle.machine.specs.Exceptions.{exceptionCode}
 use Rattle.machine.specs.Throws.{CycleState}
 use Rattle.machine.specs.declared.Machine.{Machine}
 use Rattle.machine.specs.declared.Registers.{Registers}
+use Rattle.machine.specs.declared.Exception.{Exception}
+use Rattle.machine.specs.declared.Exception.the-variants.{Range, Alignment, DataOverflow, DataUnderflow, ReturnOverflow, ReturnUnderflow, Divisor, Illegal, Library}
 use Rattle.machine.specs.declared.Ended.{Ended}
 use Rattle.machine.specs.declared.Ended.the-variants.{Went, Threw, Stopped}
 use Rattle.cycles.specs.Cycles.{cycleOf, cyclesOf}
@@ -23,16 +24,21 @@ use Rattle.processor.specs.declared.Cycled.the-variants as cycled
 use Rattle.processor.specs.declared.Ran.{Ran}
 use Rattle.processor.specs.declared.Ran.the-variants as ran
 
-abbrev pub machineOf : ℕ → Machine
-machineOf order = record { order = order }
+-- the machine of a byte order and a memory's length: its stacks may lie anywhere in memory
+abbrev pub machineOf : ℕ → ℕ → Machine
+machineOf order len = unbounded order len
 
--- the address that a fault names: -9 and -23 alone have one
-abbrev pub faultAddress : Fault → ℕ
-faultAddress (Range a) = a .0
-faultAddress (Alignment a) = a .0
-faultAddress Divisor = 0
-faultAddress Illegal = 0
-faultAddress Library = 0
+-- the address that an exception names: -9 and -23 alone have one
+abbrev pub exceptionAddress : Exception → ℕ
+exceptionAddress (Range a) = a .0
+exceptionAddress (Alignment a) = a .0
+exceptionAddress DataOverflow = 0
+exceptionAddress DataUnderflow = 0
+exceptionAddress ReturnOverflow = 0
+exceptionAddress ReturnUnderflow = 0
+exceptionAddress Divisor = 0
+exceptionAddress Illegal = 0
+exceptionAddress Library = 0
 
 -- start: the number of each answer (0 ready, 1 stopped, or the refusal's), the reason of a stop, and the registers, which are zeros on a refusal.
 -- Document 01, Turned back for the state, and Code places and their forms, its last paragraph
@@ -66,48 +72,48 @@ startedTo m a =
 -- a NEXT that threw is ready in its handler; one whose throw finds no handler has stopped
 abbrev pub startedAs : Registers → Ended → Started
 startedAs r Went = started.Ready r
-startedAs r (Threw f) = started.Ready r
+startedAs r (Threw e) = started.Ready r
 startedAs r (Stopped x) = started.Stopped r x
 
 abbrev pub startIf : Judged → ℕ → List ℕ → ℕ → ℕ → StartAnswer
 startIf (judged.Refused n) order m ep handler = startedTo m (started.Refused n)
 startIf judged.Passed order m ep handler =
-    let t = startOf (machineOf order) m ep handler in
+    let t = startOf (machineOf order (length m)) m ep handler in
     startedTo (t .memory) (startedAs (t .result .registers) (t .result .ended))
 
 unfoldable pub startAnswer : ℕ → List ℕ → ℕ → ℕ → StartAnswer
 startAnswer order m ep handler = startIf (judgeMachine (length m) order) order m ep handler
 
 -- cycle: the number (0 went on or threw, 1 stopped, or the refusal's), the reason of a stop, the registers (those given, r, on a refusal), and the
--- code and the address of the fault that was thrown
+-- code and the address of the exception that was thrown
 abbrev pub cycleNumber : Cycled → ℕ
 cycleNumber (cycled.Refused n) = refusalNumber n
 cycleNumber (cycled.Went r) = 0
-cycleNumber (cycled.Threw r f) = 0
+cycleNumber (cycled.Threw r e) = 0
 cycleNumber (cycled.Stopped r x) = 1
 
 abbrev pub cycleReason : Cycled → ℕ
 cycleReason (cycled.Refused n) = 0
 cycleReason (cycled.Went r) = 0
-cycleReason (cycled.Threw r f) = 0
+cycleReason (cycled.Threw r e) = 0
 cycleReason (cycled.Stopped r x) = x
 
 abbrev pub cycleRegisters : Registers → Cycled → Registers
 cycleRegisters given (cycled.Refused n) = given
 cycleRegisters given (cycled.Went r) = r
-cycleRegisters given (cycled.Threw r f) = r
+cycleRegisters given (cycled.Threw r e) = r
 cycleRegisters given (cycled.Stopped r x) = r
 
 abbrev pub cycleCode : Cycled → ℕ
 cycleCode (cycled.Refused n) = 0
 cycleCode (cycled.Went r) = 0
-cycleCode (cycled.Threw r f) = faultCode f
+cycleCode (cycled.Threw r e) = exceptionCode e
 cycleCode (cycled.Stopped r x) = 0
 
 abbrev pub cycleAddress : Cycled → ℕ
 cycleAddress (cycled.Refused n) = 0
 cycleAddress (cycled.Went r) = 0
-cycleAddress (cycled.Threw r f) = faultAddress f
+cycleAddress (cycled.Threw r e) = exceptionAddress e
 cycleAddress (cycled.Stopped r x) = 0
 
 pub record CycleAnswer : Type 0 where
@@ -133,13 +139,13 @@ cycledTo given m a =
 
 abbrev pub cycledAs : Registers → Ended → Cycled
 cycledAs r Went = cycled.Went r
-cycledAs r (Threw f) = cycled.Threw r f
+cycledAs r (Threw e) = cycled.Threw r e
 cycledAs r (Stopped x) = cycled.Stopped r x
 
 abbrev pub cycleIf : Judged → ℕ → List ℕ → Registers → CycleAnswer
 cycleIf (judged.Refused n) order m r = cycledTo r m (cycled.Refused n)
 cycleIf judged.Passed order m r =
-    let t = cycleOf (machineOf order) m r in
+    let t = cycleOf (machineOf order (length m)) m r in
     cycledTo r (t .memory) (cycledAs (t .result .registers) (t .result .ended))
 
 unfoldable pub cycleAnswer : ℕ → List ℕ → Registers → CycleAnswer
@@ -190,7 +196,7 @@ ranTo given budget m a =
 
 abbrev pub ranAs : Registers → ℕ → Ended → Ran
 ranAs r n Went = ran.Spent r
-ranAs r n (Threw f) = ran.Spent r
+ranAs r n (Threw e) = ran.Spent r
 ranAs r n (Stopped x) = ran.Stopped r x n
 
 -- n cycles were done, and left t
@@ -212,8 +218,8 @@ pub record Given (R : Type 0) : Type 0 where
 abbrev pub givenOf : {R : Type 0} → ℕ → List ℕ → R → ℕ → Given R
 givenOf order m r budget = record { setting = record { order = order }; memory = m; registers = r; budget = budget }
 
-abbrev pub machineIn : Setting → Machine
-machineIn setting = machineOf (setting .order)
+abbrev pub machineIn : Setting → ℕ → Machine
+machineIn setting len = machineOf (setting .order) len
 
 -- what it is judged by: -4101 and -4102
 abbrev pub judgeRun : {R : Type 0} → Given R → Judged
@@ -222,7 +228,7 @@ judgeRun g = judgeMachine (length (g .memory)) (g .setting .order)
 abbrev pub runIf : Judged → Given Registers → RunAnswer
 runIf (judged.Refused n) g = ranTo (g .registers) (g .budget) (g .memory) (ran.Refused n)
 runIf judged.Passed g =
-    let machine = machineIn (g .setting) in
+    let machine = machineIn (g .setting) (length (g .memory)) in
     let s = begun (g .memory) (g .registers) in
     let n = doneOf machine (g .budget) s in
     runFor (g .registers) (g .budget) n (cyclesOf machine n s)

@@ -24,10 +24,11 @@ use machine::fixed::ADDRESS_CELL;
 use machine::fixed::BAD_CELL;
 use machine::fixed::HANDLER_CELL;
 use machine::fixed::MEMORY_CELL;
+use machine::places::unbounded;
 
 // The four cells at the start of memory, the registers, then NEXT.
 fn begin(machine: Machine, memory: &mut [u8], ep: Address, handler: Address) -> CycleResult
-    requires { ⌜ places.Whole (now memory) ⌝ }
+    requires { ⌜ places.Fits machine (length (now memory)) ⌝ }
     requires { ⌜ 1024 ≤ length (now memory) ⌝ }
     requires { ⌜ length (now memory) ≤ 16777216 ⌝ }
     ensures { λ t. ⌜ throws.withResult (now (memory .exit)) t ≡ starting.startOf machine (now (memory .entry)) (ep .0) (handler .0) ⌝ }
@@ -67,7 +68,7 @@ pub fn start(order: u8, memory: &mut [u8], ep: Address, handler: Address) -> Sta
 {
     match judge_machine(memory.len(), order) {
         Judged::Refused(n) => Started::Refused(n),
-        Judged::Passed => started_as(begin(Machine { order: order }, memory, ep, handler)),
+        Judged::Passed => started_as(begin(unbounded(order, memory.len()), memory, ep, handler)),
     }
 }
 
@@ -89,7 +90,7 @@ pub fn cycle(order: u8, memory: &mut [u8], r: Registers) -> Cycled
     match judge_machine(memory.len(), order) {
         Judged::Refused(n) => Cycled::Refused(n),
         Judged::Passed => {
-            let t = run_cycles(Machine { order: order }, memory, r, 1);
+            let t = run_cycles(unbounded(order, memory.len()), memory, r, 1);
             let u = t.result;
             cycled_as(u)
         }
@@ -116,7 +117,7 @@ pub fn run(order: u8, memory: &mut [u8], r: Registers, budget: u32) -> Ran
     match judge_machine(memory.len(), order) {
         Judged::Refused(n) => Ran::Refused(n),
         Judged::Passed => ran_as(
-            run_cycles(Machine { order: order }, memory, r, budget),
+            run_cycles(unbounded(order, memory.len()), memory, r, budget),
             budget,
         ),
     }

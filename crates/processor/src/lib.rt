@@ -1,8 +1,8 @@
 // The processor: start, cycle and run.
 pub mod entry;
 
-use cell::Fault;
 use cell::Refusal;
+use machine::Exception;
 use machine::Registers;
 
 // What start answers. A refusal stands for zero registers.
@@ -16,7 +16,7 @@ pub enum Started {
 pub enum Cycled {
     Refused(Refusal),
     Went(Registers),
-    Threw(Registers, Fault),
+    Threw(Registers, Exception),
     Stopped(Registers, u32),
 }
 

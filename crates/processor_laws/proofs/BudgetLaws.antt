@@ -111,18 +111,19 @@ cut-if : (g : Given Registers) (c : ℕ) (j : Judged) → runIf j g .number ≡ 
     → runIf j (withBudget (g .budget + c) g) ≡ withCycles (g .budget) (runIf j (carriedOn g (runIf j g .memory) (runIf j g .registers) c))
 cut-if g c (Refused n) e = absurd (refusal-some n e)
 cut-if g c Passed e =
-    let machine : Machine = machineIn (g .setting) in
+    let machine : Machine = machineIn (g .setting) (length (g .memory)) in
     let s : CycleState = begun (g .memory) (g .registers) in
     let t : CycleState = endOf machine (g .budget) s in
     let n : ℕ = doneOf machine (g .budget) s in
-    cut-answer machine (g .registers) (g .budget) c s (is-spent (t .result .registers) n (t .result .ended) e)
+    rw (cycles-keep-length machine n s)
+    (cut-answer machine (g .registers) (g .budget) c s (is-spent (t .result .registers) n (t .result .ended) e)
     ∙ ap (λ (r : Registers). withCycles (g .budget) (answered machine r c (begun (t .memory) r)))
-    (sym (its-registers (g .registers) (t .result .registers) n (t .result .ended)))
+    (sym (its-registers (g .registers) (t .result .registers) n (t .result .ended))))
 
 more-if : (g : Given Registers) (c : ℕ) (j : Judged) → runIf j g .number ≢ 0 → runIf j (withBudget (g .budget + c) g) ≡ runIf j g
 more-if g c (Refused n) h = refl
 more-if g c Passed h =
-    let machine : Machine = machineIn (g .setting) in
+    let machine : Machine = machineIn (g .setting) (length (g .memory)) in
     let s : CycleState = begun (g .memory) (g .registers) in
     let t : CycleState = endOf machine (g .budget) s in
     more-answer machine (g .registers) (g .budget) c s refl
@@ -132,7 +133,7 @@ more-if g c Passed h =
 long-if : (g : Given Registers) (j : Judged) → length (runIf j g .memory) ≡ length (g .memory)
 long-if g (Refused n) = refl
 long-if g Passed =
-    let machine : Machine = machineIn (g .setting) in
+    let machine : Machine = machineIn (g .setting) (length (g .memory)) in
     let s : CycleState = begun (g .memory) (g .registers) in
     cycles-keep-length machine (doneOf machine (g .budget) s) s
 
@@ -159,7 +160,7 @@ pub record Accepted (g : Given Registers) : Type 0 where
 pub accepted : (g : Given Registers) → judgeRun g ≡ Passed → Accepted g
 unfolding runAnswer
 accepted g q =
-    let machine : Machine = machineIn (g .setting) in
+    let machine : Machine = machineIn (g .setting) (length (g .memory)) in
     let s : CycleState = begun (g .memory) (g .registers) in
     let t : CycleState = endOf machine (g .budget) s in
     record { registers = t .result .registers; done = doneOf machine (g .budget) s; ended = t .result .ended; answers = rw q }

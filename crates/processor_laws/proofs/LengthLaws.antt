@@ -8,14 +8,14 @@ use lib.ListN.{length, length-set}
 use Rattle.cell.specs.Choice.{if}
 use Rattle.cell.specs.Memory.{storeCell, cellAt}
 use Rattle.cell.specs.Number.{difference}
-use Rattle.cell.specs.Place.{faultCode}
-use Rattle.cell.specs.declared.Fault.{Fault}
-use Rattle.cell.specs.declared.Fault.the-variants.{Range, Alignment, Divisor, Illegal, Library}
 use Rattle.cell.specs.declared.Checked.{Checked}
 use Rattle.cell.specs.declared.Checked.the-variants.{Good, Bad}
 use Rattle.cell.specs.declared.Fetched.{Fetched}
 use Rattle.cell.specs.declared.Fetched.the-variants.{Cell, Failed}
 use Rattle.cell.proofs.MemoryLaws.{store-length}
+use Rattle.machine.specs.declared.Exception.{Exception}
+use Rattle.machine.specs.declared.Exception.the-variants.{Range, Alignment, DataOverflow, DataUnderflow, ReturnOverflow, ReturnUnderflow, Divisor, Illegal, Library}
+use Rattle.machine.specs.Exceptions.{exceptionOf, exceptionCode}
 use Rattle.machine.specs.Places.{Width, oneByte, oneCell, placeOf, fetchOf}
 use Rattle.machine.specs.Effects.{Store, Action, Effect, act, raise}
 use Rattle.machine.specs.Commits.{Stepped, putStore, storedOf, placesOf, carriedOut, commitOf}
@@ -58,25 +58,29 @@ module _ (machine : Machine) where
       let h : ℕ = cellAt (machine .order) stored handlerCell in
       handed-length stored r e h (fetchOf machine Stream stored h) ∙ store-length (machine .order) m badCell (r .ep)
 
-  pub noted-length : (m : List ℕ) (f : Fault) → length (noted machine m f) ≡ length m
+  pub noted-length : (m : List ℕ) (e : Exception) → length (noted machine m e) ≡ length m
   noted-length m (Range a) = store-length (machine .order) m _ _
   noted-length m (Alignment a) = store-length (machine .order) m _ _
+  noted-length m DataOverflow = refl
+  noted-length m DataUnderflow = refl
+  noted-length m ReturnOverflow = refl
+  noted-length m ReturnUnderflow = refl
   noted-length m Divisor = refl
   noted-length m Illegal = refl
   noted-length m Library = refl
 
-  pushed-length : (m : List ℕ) (r : Registers) (f : Fault) (sp : ℕ) (c : Checked) → length (pushed machine m r f sp c .memory) ≡ length m
-  pushed-length m r f sp (Bad g) = refl
-  pushed-length m r f sp Good =
-      handler-length _ _ _ ∙ store-length (machine .order) (noted machine m f) sp (faultCode f) ∙ noted-length m f
+  pushed-length : (m : List ℕ) (r : Registers) (e : Exception) (sp : ℕ) (c : Checked) → length (pushed machine m r e sp c .memory) ≡ length m
+  pushed-length m r e sp (Bad f) = refl
+  pushed-length m r e sp Good =
+      handler-length _ _ _ ∙ store-length (machine .order) (noted machine m e) sp (exceptionCode e) ∙ noted-length m e
 
-  throw-length : (m : List ℕ) (r : Registers) (f : Fault) → length (throwOf machine m r f .memory) ≡ length m
+  pub throw-length : (m : List ℕ) (r : Registers) (e : Exception) → length (throwOf machine m r e .memory) ≡ length m
   unfolding throwOf
-  throw-length m r f =
+  throw-length m r e =
       let sp : ℕ = difference (r .sp) 4 in
-      pushed-length m r f sp (placeOf machine oneCell Push (length m) sp)
+      pushed-length m r e sp (placeOf machine oneCell Push (length m) sp)
 
-  throwing-length : (m : List ℕ) (r : Registers) → length (throwingOf machine m r .memory) ≡ length m
+  pub throwing-length : (m : List ℕ) (r : Registers) → length (throwingOf machine m r .memory) ≡ length m
   unfolding throwingOf
   throwing-length m r = go (eqb (r .sp % 4) 0)
     where
@@ -86,7 +90,7 @@ module _ (machine : Machine) where
 
   nexted-length : (m : List ℕ) (r : Registers) (g : Fetched) → length (nexted machine m r g .memory) ≡ length m
   nexted-length m r (Cell x) = refl
-  nexted-length m r (Failed f) = throw-length m r f
+  nexted-length m r (Failed f) = throw-length m r (exceptionOf machine f)
 
   pub next-length : (m : List ℕ) (r : Registers) → length (nextOf machine m r .memory) ≡ length m
   unfolding nextOf
@@ -95,7 +99,7 @@ module _ (machine : Machine) where
   finished-length : (m : List ℕ) (r : Registers) (o : Outcome) → length (finished machine m r o .memory) ≡ length m
   finished-length m r outcome.Went = refl
   finished-length m r outcome.Next = next-length m r
-  finished-length m r (outcome.Raise f) = throw-length m r f
+  finished-length m r (outcome.Raise f) = throw-length m r (exceptionOf machine f)
   finished-length m r (outcome.Halt x) = refl
   finished-length m r outcome.Throw = throwing-length m r
 

@@ -7,14 +7,14 @@ use lib.ListN.{length}
 use Rattle.cell.specs.Choice.{if}
 use Rattle.cell.specs.Memory.{Bytewise, storeCell, cellAt}
 use Rattle.cell.specs.Number.{difference}
-use Rattle.cell.specs.Place.{faultCode}
-use Rattle.cell.specs.declared.Fault.{Fault}
-use Rattle.cell.specs.declared.Fault.the-variants.{Range, Alignment, Divisor, Illegal, Library}
 use Rattle.cell.specs.declared.Checked.{Checked}
 use Rattle.cell.specs.declared.Checked.the-variants.{Good, Bad}
 use Rattle.cell.specs.declared.Fetched.{Fetched}
 use Rattle.cell.specs.declared.Fetched.the-variants.{Cell, Failed}
 use Rattle.cell.proofs.MemoryLaws.{set-bytewise, store-bytewise}
+use Rattle.machine.specs.declared.Exception.{Exception}
+use Rattle.machine.specs.declared.Exception.the-variants.{Range, Alignment, DataOverflow, DataUnderflow, ReturnOverflow, ReturnUnderflow, Divisor, Illegal, Library}
+use Rattle.machine.specs.Exceptions.{exceptionOf, exceptionCode}
 use Rattle.machine.specs.Places.{Width, oneByte, oneCell, placeOf, fetchOf}
 use Rattle.machine.specs.Effects.{Store, Control, goOn, jump, halt, throwing, Action, Effect, act, raise}
 use Rattle.machine.specs.Commits.{Stepped, putStore, storedOf, placesOf, controlled, carriedOut, commitOf}
@@ -74,25 +74,29 @@ module _ (machine : Machine) where
       let b : Bytewise stored = store-bytewise (machine .order) m badCell (r .ep) (s .bytes) in
       handed-sound stored r e h (fetchOf machine Stream stored h) (fetch-below machine stored b Stream h) (remembers b s)
 
-  noted-bytewise : (m : List ℕ) (f : Fault) → Bytewise m → Bytewise (noted machine m f)
+  noted-bytewise : (m : List ℕ) (e : Exception) → Bytewise m → Bytewise (noted machine m e)
   noted-bytewise m (Range a) b = store-bytewise (machine .order) m addressCell (a .0) b
   noted-bytewise m (Alignment a) b = store-bytewise (machine .order) m addressCell (a .0) b
+  noted-bytewise m DataOverflow b = b
+  noted-bytewise m DataUnderflow b = b
+  noted-bytewise m ReturnOverflow b = b
+  noted-bytewise m ReturnUnderflow b = b
   noted-bytewise m Divisor b = b
   noted-bytewise m Illegal b = b
   noted-bytewise m Library b = b
 
-  pushed-sound : (m : List ℕ) (r : Registers) (f : Fault) (sp : ℕ) (c : Checked) → sp < 2 ^ 32 → Sound m r
-      → SoundState (pushed machine m r f sp c)
-  pushed-sound m r f sp (Bad g) h s = s
-  pushed-sound m r f sp Good h s =
-      let b = store-bytewise (machine .order) (noted machine m f) sp (faultCode f) (noted-bytewise m f (s .bytes)) in
+  pushed-sound : (m : List ℕ) (r : Registers) (e : Exception) (sp : ℕ) (c : Checked) → sp < 2 ^ 32 → Sound m r
+      → SoundState (pushed machine m r e sp c)
+  pushed-sound m r e sp (Bad f) h s = s
+  pushed-sound m r e sp Good h s =
+      let b = store-bytewise (machine .order) (noted machine m e) sp (exceptionCode e) (noted-bytewise m e (s .bytes)) in
       handler-sound _ _ _ (record { bytes = b; ep = s .ep; a = s .a; sp = h; rp = s .rp })
 
-  throw-sound : (m : List ℕ) (r : Registers) (f : Fault) → Sound m r → SoundState (throwOf machine m r f)
+  throw-sound : (m : List ℕ) (r : Registers) (e : Exception) → Sound m r → SoundState (throwOf machine m r e)
   unfolding throwOf
-  throw-sound m r f s =
+  throw-sound m r e s =
       let sp : ℕ = difference (r .sp) 4 in
-      pushed-sound m r f sp (placeOf machine oneCell Push (length m) sp) (difference-below (r .sp) 4) s
+      pushed-sound m r e sp (placeOf machine oneCell Push (length m) sp) (difference-below (r .sp) 4) s
 
   throwing-sound : (m : List ℕ) (r : Registers) → Sound m r → SoundState (throwingOf machine m r)
   unfolding throwingOf
@@ -104,7 +108,7 @@ module _ (machine : Machine) where
 
   nexted-sound : (m : List ℕ) (r : Registers) (g : Fetched) → Below g → Sound m r → SoundState (nexted machine m r g)
   nexted-sound m r (Cell x) b s = record { bytes = s .bytes; ep = sum-below (r .ep) 4; a = b; sp = s .sp; rp = s .rp }
-  nexted-sound m r (Failed f) b s = throw-sound m r f s
+  nexted-sound m r (Failed f) b s = throw-sound m r (exceptionOf machine f) s
 
   pub next-sound : (m : List ℕ) (r : Registers) → Sound m r → SoundState (nextOf machine m r)
   unfolding nextOf
@@ -113,7 +117,7 @@ module _ (machine : Machine) where
   finished-sound : (m : List ℕ) (r : Registers) (o : Outcome) → Sound m r → SoundState (finished machine m r o)
   finished-sound m r outcome.Went s = s
   finished-sound m r outcome.Next s = next-sound m r s
-  finished-sound m r (outcome.Raise f) s = throw-sound m r f s
+  finished-sound m r (outcome.Raise f) s = throw-sound m r (exceptionOf machine f) s
   finished-sound m r (outcome.Halt x) s = s
   finished-sound m r outcome.Throw s = throwing-sound m r s
 

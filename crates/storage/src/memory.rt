@@ -1,5 +1,6 @@
 // Memory.
 ghost use mathlib.Core.Path.{_≡_};
+ghost use lib.ListN.{length};
 ghost use Rattle.machine.specs.Places as places;
 ghost use Rattle.machine.specs.Effects as effects;
 ghost use Rattle.instruction.specs.Plain as plain;
@@ -16,21 +17,23 @@ use machine::ByteStore;
 use machine::Machine;
 use machine::OneStore;
 use machine::Registers;
+use machine::Target;
 use machine::Then;
 use machine::Write;
 use machine::places::fetch;
 use machine::places::fetch_byte;
+use machine::places::fetch_data;
 
 // 39h @ ( a-addr -- x )
 pub fn fetch_named(machine: Machine, memory: &[u8], r: Registers) -> OneStore
-    requires { ⌜ places.Whole (now memory) ⌝ }
+    requires { ⌜ places.Fits machine (length (now memory)) ⌝ }
     ensures { λ e. ⌜ effects.oneStore e ≡ plain.plainAt machine Instruction.FetchCell (now (memory .entry)) r ⌝ }
 {
-    let got = fetch(machine, Access::DataRead, memory, Address(r.sp));
+    let got = fetch_data(machine, memory, Address(r.sp));
     let Fetched::Cell(a) = got else {
         return fail_one(got);
     };
-    let got2 = fetch(machine, Access::NamedRead, memory, Address(a));
+    let got2 = fetch(machine, memory, Address(a));
     let Fetched::Cell(x) = got2 else {
         return fail_one(got2);
     };
@@ -39,22 +42,22 @@ pub fn fetch_named(machine: Machine, memory: &[u8], r: Registers) -> OneStore
 
 // 3Ah ! ( x a-addr -- )
 pub fn store_named(machine: Machine, memory: &[u8], r: Registers) -> OneStore
-    requires { ⌜ places.Whole (now memory) ⌝ }
+    requires { ⌜ places.Fits machine (length (now memory)) ⌝ }
     ensures { λ e. ⌜ effects.oneStore e ≡ plain.plainAt machine Instruction.StoreCell (now (memory .entry)) r ⌝ }
 {
-    let got = fetch(machine, Access::DataRead, memory, Address(r.sp));
+    let got = fetch_data(machine, memory, Address(r.sp));
     let Fetched::Cell(a) = got else {
         return fail_one(got);
     };
-    let got2 = fetch(machine, Access::DataRead, memory, Address(add(r.sp, 4)));
+    let got2 = fetch_data(machine, memory, Address(add(r.sp, 4)));
     let Fetched::Cell(x) = got2 else {
         return fail_one(got2);
     };
     OneStore {
         sp: add(r.sp, 8),
         rp: r.rp,
+        target: Target::Named,
         write: Write {
-            access: Access::NamedWrite,
             at: Address(a),
             value: x,
         },
@@ -64,10 +67,10 @@ pub fn store_named(machine: Machine, memory: &[u8], r: Registers) -> OneStore
 
 // 3Bh C@ ( c-addr -- char )
 pub fn c_fetch(machine: Machine, memory: &[u8], r: Registers) -> OneStore
-    requires { ⌜ places.Whole (now memory) ⌝ }
+    requires { ⌜ places.Fits machine (length (now memory)) ⌝ }
     ensures { λ e. ⌜ effects.oneStore e ≡ plain.plainAt machine Instruction.CFetch (now (memory .entry)) r ⌝ }
 {
-    let got = fetch(machine, Access::DataRead, memory, Address(r.sp));
+    let got = fetch_data(machine, memory, Address(r.sp));
     let Fetched::Cell(a) = got else {
         return fail_one(got);
     };
@@ -85,14 +88,14 @@ pub fn c_fetch(machine: Machine, memory: &[u8], r: Registers) -> OneStore
 
 // 3Ch C! ( char c-addr -- )
 pub fn c_store(machine: Machine, memory: &[u8], r: Registers) -> ByteStore
-    requires { ⌜ places.Whole (now memory) ⌝ }
+    requires { ⌜ places.Fits machine (length (now memory)) ⌝ }
     ensures { λ e. ⌜ effects.byteStore e ≡ plain.plainAt machine Instruction.CStore (now (memory .entry)) r ⌝ }
 {
-    let got = fetch(machine, Access::DataRead, memory, Address(r.sp));
+    let got = fetch_data(machine, memory, Address(r.sp));
     let Fetched::Cell(a) = got else {
         return fail_byte(got);
     };
-    let got2 = fetch(machine, Access::DataRead, memory, Address(add(r.sp, 4)));
+    let got2 = fetch_data(machine, memory, Address(add(r.sp, 4)));
     let Fetched::Cell(x) = got2 else {
         return fail_byte(got2);
     };
@@ -107,26 +110,26 @@ pub fn c_store(machine: Machine, memory: &[u8], r: Registers) -> ByteStore
 
 // 3Dh +! ( n a-addr -- )
 pub fn plus_store(machine: Machine, memory: &[u8], r: Registers) -> OneStore
-    requires { ⌜ places.Whole (now memory) ⌝ }
+    requires { ⌜ places.Fits machine (length (now memory)) ⌝ }
     ensures { λ e. ⌜ effects.oneStore e ≡ plain.plainAt machine Instruction.PlusStore (now (memory .entry)) r ⌝ }
 {
-    let got = fetch(machine, Access::DataRead, memory, Address(r.sp));
+    let got = fetch_data(machine, memory, Address(r.sp));
     let Fetched::Cell(a) = got else {
         return fail_one(got);
     };
-    let got2 = fetch(machine, Access::DataRead, memory, Address(add(r.sp, 4)));
+    let got2 = fetch_data(machine, memory, Address(add(r.sp, 4)));
     let Fetched::Cell(n) = got2 else {
         return fail_one(got2);
     };
-    let got3 = fetch(machine, Access::NamedRead, memory, Address(a));
+    let got3 = fetch(machine, memory, Address(a));
     let Fetched::Cell(x) = got3 else {
         return fail_one(got3);
     };
     OneStore {
         sp: add(r.sp, 8),
         rp: r.rp,
+        target: Target::Named,
         write: Write {
-            access: Access::NamedWrite,
             at: Address(a),
             value: add(x, n),
         },

@@ -1,5 +1,6 @@
 // ROLL.
 ghost use mathlib.Core.Path.{_≡_};
+ghost use lib.ListN.{length};
 ghost use Rattle.machine.specs.Places as places;
 ghost use Rattle.machine.specs.Effects as effects;
 ghost use Rattle.instruction.specs.Plain as plain;
@@ -10,20 +11,19 @@ use cell::number::add;
 use instruction::Instruction;
 use instruction::shape::fail_roll;
 use instruction::shape::fetch_deep;
-use machine::Access;
 use machine::Machine;
 use machine::Registers;
 use machine::RollStores;
 use machine::Then;
-use machine::places::fetch;
+use machine::places::fetch_data;
 
 // 0Ah ROLL ( x_u .. x_0 u -- x_u-1 .. x_0 x_u )
 pub fn roll(machine: Machine, memory: &[u8], r: Registers) -> RollStores
-    requires { ⌜ places.Whole (now memory) ⌝ }
+    requires { ⌜ places.Fits machine (length (now memory)) ⌝ }
     ensures { λ e. ⌜ effects.rollEffect (machine .order) (now (memory .entry)) e ≡ plain.plainAt machine Instruction.Roll (now (memory .entry)) r ⌝ }
     ensures { λ e. ⌜ effects.Reached e ⌝ }
 {
-    let got = fetch(machine, Access::DataRead, memory, Address(r.sp));
+    let got = fetch_data(machine, memory, Address(r.sp));
     let Fetched::Cell(u) = got else {
         return fail_roll(got);
     };

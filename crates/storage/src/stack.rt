@@ -1,5 +1,6 @@
 // Stack manipulation.
 ghost use mathlib.Core.Path.{_≡_};
+ghost use lib.ListN.{length};
 ghost use Rattle.machine.specs.Places as places;
 ghost use Rattle.machine.specs.Effects as effects;
 ghost use Rattle.instruction.specs.Plain as plain;
@@ -19,24 +20,25 @@ use instruction::shape::push;
 use instruction::shape::reduce;
 use instruction::shape::replace;
 use instruction::shape::write_nothing;
-use machine::Access;
 use machine::Machine;
 use machine::MaybeStore;
 use machine::NoStore;
 use machine::OneStore;
 use machine::Registers;
+use machine::Target;
 use machine::Then;
 use machine::ThreeStores;
 use machine::TwoStores;
 use machine::Write;
-use machine::places::fetch;
+use machine::places::fetch_data;
+use machine::places::fetch_return;
 
 // 01h DUP ( x -- x x )
 pub fn dup(machine: Machine, memory: &[u8], r: Registers) -> OneStore
-    requires { ⌜ places.Whole (now memory) ⌝ }
+    requires { ⌜ places.Fits machine (length (now memory)) ⌝ }
     ensures { λ e. ⌜ effects.oneStore e ≡ plain.plainAt machine Instruction.Dup (now (memory .entry)) r ⌝ }
 {
-    let got = fetch(machine, Access::DataRead, memory, Address(r.sp));
+    let got = fetch_data(machine, memory, Address(r.sp));
     let Fetched::Cell(x) = got else {
         return fail_one(got);
     };
@@ -45,10 +47,10 @@ pub fn dup(machine: Machine, memory: &[u8], r: Registers) -> OneStore
 
 // 02h DROP ( x -- )
 pub fn drop(machine: Machine, memory: &[u8], r: Registers) -> NoStore
-    requires { ⌜ places.Whole (now memory) ⌝ }
+    requires { ⌜ places.Fits machine (length (now memory)) ⌝ }
     ensures { λ e. ⌜ effects.noStore e ≡ plain.plainAt machine Instruction.Drop (now (memory .entry)) r ⌝ }
 {
-    let got = fetch(machine, Access::DataRead, memory, Address(r.sp));
+    let got = fetch_data(machine, memory, Address(r.sp));
     let Fetched::Cell(_) = got else {
         return fail_none(got);
     };
@@ -61,14 +63,14 @@ pub fn drop(machine: Machine, memory: &[u8], r: Registers) -> NoStore
 
 // 03h SWAP ( x1 x2 -- x2 x1 )
 pub fn swap(machine: Machine, memory: &[u8], r: Registers) -> TwoStores
-    requires { ⌜ places.Whole (now memory) ⌝ }
+    requires { ⌜ places.Fits machine (length (now memory)) ⌝ }
     ensures { λ e. ⌜ effects.twoStores e ≡ plain.plainAt machine Instruction.Swap (now (memory .entry)) r ⌝ }
 {
-    let got = fetch(machine, Access::DataRead, memory, Address(r.sp));
+    let got = fetch_data(machine, memory, Address(r.sp));
     let Fetched::Cell(top) = got else {
         return fail_two(got);
     };
-    let got2 = fetch(machine, Access::DataRead, memory, Address(add(r.sp, 4)));
+    let got2 = fetch_data(machine, memory, Address(add(r.sp, 4)));
     let Fetched::Cell(below) = got2 else {
         return fail_two(got2);
     };
@@ -76,12 +78,10 @@ pub fn swap(machine: Machine, memory: &[u8], r: Registers) -> TwoStores
         sp: r.sp,
         rp: r.rp,
         first: Write {
-            access: Access::DataWrite,
             at: Address(add(r.sp, 4)),
             value: top,
         },
         second: Write {
-            access: Access::DataWrite,
             at: Address(r.sp),
             value: below,
         },
@@ -91,14 +91,14 @@ pub fn swap(machine: Machine, memory: &[u8], r: Registers) -> TwoStores
 
 // 04h OVER ( x1 x2 -- x1 x2 x1 )
 pub fn over(machine: Machine, memory: &[u8], r: Registers) -> OneStore
-    requires { ⌜ places.Whole (now memory) ⌝ }
+    requires { ⌜ places.Fits machine (length (now memory)) ⌝ }
     ensures { λ e. ⌜ effects.oneStore e ≡ plain.plainAt machine Instruction.Over (now (memory .entry)) r ⌝ }
 {
-    let got = fetch(machine, Access::DataRead, memory, Address(r.sp));
+    let got = fetch_data(machine, memory, Address(r.sp));
     let Fetched::Cell(_) = got else {
         return fail_one(got);
     };
-    let got2 = fetch(machine, Access::DataRead, memory, Address(add(r.sp, 4)));
+    let got2 = fetch_data(machine, memory, Address(add(r.sp, 4)));
     let Fetched::Cell(x1) = got2 else {
         return fail_one(got2);
     };
@@ -107,18 +107,18 @@ pub fn over(machine: Machine, memory: &[u8], r: Registers) -> OneStore
 
 // 05h ROT ( x1 x2 x3 -- x2 x3 x1 )
 pub fn rot(machine: Machine, memory: &[u8], r: Registers) -> ThreeStores
-    requires { ⌜ places.Whole (now memory) ⌝ }
+    requires { ⌜ places.Fits machine (length (now memory)) ⌝ }
     ensures { λ e. ⌜ effects.threeStores e ≡ plain.plainAt machine Instruction.Rot (now (memory .entry)) r ⌝ }
 {
-    let got = fetch(machine, Access::DataRead, memory, Address(r.sp));
+    let got = fetch_data(machine, memory, Address(r.sp));
     let Fetched::Cell(x3) = got else {
         return fail_three(got);
     };
-    let second = fetch(machine, Access::DataRead, memory, Address(add(r.sp, 4)));
+    let second = fetch_data(machine, memory, Address(add(r.sp, 4)));
     let Fetched::Cell(x2) = second else {
         return fail_three(second);
     };
-    let third = fetch(machine, Access::DataRead, memory, Address(add(r.sp, 8)));
+    let third = fetch_data(machine, memory, Address(add(r.sp, 8)));
     let Fetched::Cell(x1) = third else {
         return fail_three(third);
     };
@@ -126,17 +126,14 @@ pub fn rot(machine: Machine, memory: &[u8], r: Registers) -> ThreeStores
         sp: r.sp,
         rp: r.rp,
         first: Write {
-            access: Access::DataWrite,
             at: Address(add(r.sp, 8)),
             value: x2,
         },
         second: Write {
-            access: Access::DataWrite,
             at: Address(add(r.sp, 4)),
             value: x3,
         },
         third: Write {
-            access: Access::DataWrite,
             at: Address(r.sp),
             value: x1,
         },
@@ -146,18 +143,18 @@ pub fn rot(machine: Machine, memory: &[u8], r: Registers) -> ThreeStores
 
 // 06h -ROT ( x1 x2 x3 -- x3 x1 x2 )
 pub fn minus_rot(machine: Machine, memory: &[u8], r: Registers) -> ThreeStores
-    requires { ⌜ places.Whole (now memory) ⌝ }
+    requires { ⌜ places.Fits machine (length (now memory)) ⌝ }
     ensures { λ e. ⌜ effects.threeStores e ≡ plain.plainAt machine Instruction.MinusRot (now (memory .entry)) r ⌝ }
 {
-    let got = fetch(machine, Access::DataRead, memory, Address(r.sp));
+    let got = fetch_data(machine, memory, Address(r.sp));
     let Fetched::Cell(x3) = got else {
         return fail_three(got);
     };
-    let got2 = fetch(machine, Access::DataRead, memory, Address(add(r.sp, 4)));
+    let got2 = fetch_data(machine, memory, Address(add(r.sp, 4)));
     let Fetched::Cell(x2) = got2 else {
         return fail_three(got2);
     };
-    let got3 = fetch(machine, Access::DataRead, memory, Address(add(r.sp, 8)));
+    let got3 = fetch_data(machine, memory, Address(add(r.sp, 8)));
     let Fetched::Cell(x1) = got3 else {
         return fail_three(got3);
     };
@@ -165,17 +162,14 @@ pub fn minus_rot(machine: Machine, memory: &[u8], r: Registers) -> ThreeStores
         sp: r.sp,
         rp: r.rp,
         first: Write {
-            access: Access::DataWrite,
             at: Address(add(r.sp, 8)),
             value: x3,
         },
         second: Write {
-            access: Access::DataWrite,
             at: Address(add(r.sp, 4)),
             value: x1,
         },
         third: Write {
-            access: Access::DataWrite,
             at: Address(r.sp),
             value: x2,
         },
@@ -185,14 +179,14 @@ pub fn minus_rot(machine: Machine, memory: &[u8], r: Registers) -> ThreeStores
 
 // 07h TUCK ( x1 x2 -- x2 x1 x2 )
 pub fn tuck(machine: Machine, memory: &[u8], r: Registers) -> ThreeStores
-    requires { ⌜ places.Whole (now memory) ⌝ }
+    requires { ⌜ places.Fits machine (length (now memory)) ⌝ }
     ensures { λ e. ⌜ effects.threeStores e ≡ plain.plainAt machine Instruction.Tuck (now (memory .entry)) r ⌝ }
 {
-    let got = fetch(machine, Access::DataRead, memory, Address(r.sp));
+    let got = fetch_data(machine, memory, Address(r.sp));
     let Fetched::Cell(x2) = got else {
         return fail_three(got);
     };
-    let got2 = fetch(machine, Access::DataRead, memory, Address(add(r.sp, 4)));
+    let got2 = fetch_data(machine, memory, Address(add(r.sp, 4)));
     let Fetched::Cell(x1) = got2 else {
         return fail_three(got2);
     };
@@ -200,17 +194,14 @@ pub fn tuck(machine: Machine, memory: &[u8], r: Registers) -> ThreeStores
         sp: subtract(r.sp, 4),
         rp: r.rp,
         first: Write {
-            access: Access::DataWrite,
             at: Address(add(r.sp, 4)),
             value: x2,
         },
         second: Write {
-            access: Access::DataWrite,
             at: Address(r.sp),
             value: x1,
         },
         third: Write {
-            access: Access::DataWrite,
             at: Address(subtract(r.sp, 4)),
             value: x2,
         },
@@ -220,14 +211,14 @@ pub fn tuck(machine: Machine, memory: &[u8], r: Registers) -> ThreeStores
 
 // 08h NIP ( x1 x2 -- x2 )
 pub fn nip(machine: Machine, memory: &[u8], r: Registers) -> OneStore
-    requires { ⌜ places.Whole (now memory) ⌝ }
+    requires { ⌜ places.Fits machine (length (now memory)) ⌝ }
     ensures { λ e. ⌜ effects.oneStore e ≡ plain.plainAt machine Instruction.Nip (now (memory .entry)) r ⌝ }
 {
-    let got = fetch(machine, Access::DataRead, memory, Address(r.sp));
+    let got = fetch_data(machine, memory, Address(r.sp));
     let Fetched::Cell(x2) = got else {
         return fail_one(got);
     };
-    let got2 = fetch(machine, Access::DataRead, memory, Address(add(r.sp, 4)));
+    let got2 = fetch_data(machine, memory, Address(add(r.sp, 4)));
     let Fetched::Cell(_) = got2 else {
         return fail_one(got2);
     };
@@ -236,10 +227,10 @@ pub fn nip(machine: Machine, memory: &[u8], r: Registers) -> OneStore
 
 // 09h PICK ( x_u .. x_0 u -- x_u .. x_0 x_u )
 pub fn pick(machine: Machine, memory: &[u8], r: Registers) -> OneStore
-    requires { ⌜ places.Whole (now memory) ⌝ }
+    requires { ⌜ places.Fits machine (length (now memory)) ⌝ }
     ensures { λ e. ⌜ effects.oneStore e ≡ plain.plainAt machine Instruction.Pick (now (memory .entry)) r ⌝ }
 {
-    let got = fetch(machine, Access::DataRead, memory, Address(r.sp));
+    let got = fetch_data(machine, memory, Address(r.sp));
     let Fetched::Cell(u) = got else {
         return fail_one(got);
     };
@@ -252,10 +243,10 @@ pub fn pick(machine: Machine, memory: &[u8], r: Registers) -> OneStore
 
 // 0Bh ?DUP ( x -- 0 | x x )
 pub fn question_dup(machine: Machine, memory: &[u8], r: Registers) -> MaybeStore
-    requires { ⌜ places.Whole (now memory) ⌝ }
+    requires { ⌜ places.Fits machine (length (now memory)) ⌝ }
     ensures { λ e. ⌜ effects.maybeStore e ≡ plain.plainAt machine Instruction.QuestionDup (now (memory .entry)) r ⌝ }
 {
-    let got = fetch(machine, Access::DataRead, memory, Address(r.sp));
+    let got = fetch_data(machine, memory, Address(r.sp));
     let Fetched::Cell(x) = got else {
         return fail_maybe(got);
     };
@@ -267,8 +258,8 @@ pub fn question_dup(machine: Machine, memory: &[u8], r: Registers) -> MaybeStore
         sp: sp,
         rp: r.rp,
         writes: true,
+        target: Target::Data,
         write: Write {
-            access: Access::DataWrite,
             at: Address(sp),
             value: x,
         },
@@ -278,18 +269,18 @@ pub fn question_dup(machine: Machine, memory: &[u8], r: Registers) -> MaybeStore
 
 // 0Ch >R ( x -- ) R: ( -- x )
 pub fn to_r(machine: Machine, memory: &[u8], r: Registers) -> OneStore
-    requires { ⌜ places.Whole (now memory) ⌝ }
+    requires { ⌜ places.Fits machine (length (now memory)) ⌝ }
     ensures { λ e. ⌜ effects.oneStore e ≡ plain.plainAt machine Instruction.ToR (now (memory .entry)) r ⌝ }
 {
-    let got = fetch(machine, Access::DataRead, memory, Address(r.sp));
+    let got = fetch_data(machine, memory, Address(r.sp));
     let Fetched::Cell(x) = got else {
         return fail_one(got);
     };
     OneStore {
         sp: add(r.sp, 4),
         rp: subtract(r.rp, 4),
+        target: Target::Return,
         write: Write {
-            access: Access::ReturnWrite,
             at: Address(subtract(r.rp, 4)),
             value: x,
         },
@@ -299,18 +290,18 @@ pub fn to_r(machine: Machine, memory: &[u8], r: Registers) -> OneStore
 
 // 0Dh R> ( -- x ) R: ( x -- )
 pub fn r_from(machine: Machine, memory: &[u8], r: Registers) -> OneStore
-    requires { ⌜ places.Whole (now memory) ⌝ }
+    requires { ⌜ places.Fits machine (length (now memory)) ⌝ }
     ensures { λ e. ⌜ effects.oneStore e ≡ plain.plainAt machine Instruction.RFrom (now (memory .entry)) r ⌝ }
 {
-    let got = fetch(machine, Access::ReturnRead, memory, Address(r.rp));
+    let got = fetch_return(machine, memory, Address(r.rp));
     let Fetched::Cell(x) = got else {
         return fail_one(got);
     };
     OneStore {
         sp: subtract(r.sp, 4),
         rp: add(r.rp, 4),
+        target: Target::Data,
         write: Write {
-            access: Access::DataWrite,
             at: Address(subtract(r.sp, 4)),
             value: x,
         },
@@ -320,10 +311,10 @@ pub fn r_from(machine: Machine, memory: &[u8], r: Registers) -> OneStore
 
 // 0Eh R@ ( -- x ) R: ( x -- x )
 pub fn r_fetch(machine: Machine, memory: &[u8], r: Registers) -> OneStore
-    requires { ⌜ places.Whole (now memory) ⌝ }
+    requires { ⌜ places.Fits machine (length (now memory)) ⌝ }
     ensures { λ e. ⌜ effects.oneStore e ≡ plain.plainAt machine Instruction.RFetch (now (memory .entry)) r ⌝ }
 {
-    let got = fetch(machine, Access::ReturnRead, memory, Address(r.rp));
+    let got = fetch_return(machine, memory, Address(r.rp));
     let Fetched::Cell(x) = got else {
         return fail_one(got);
     };

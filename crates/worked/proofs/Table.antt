@@ -7,6 +7,7 @@ use Rattle.cell.specs.Division.{symmetricOf, flooredOf}
 use Rattle.cell.specs.Shift.{asr8}
 use Rattle.cell.specs.Refusals.{judgeMachine}
 use Rattle.machine.specs.Places.{placeOf, fetchOf}
+use Rattle.machine.specs.Exceptions.{exceptionOf}
 use Rattle.machine.specs.Commits.{placesOf, storedOf, commitOf}
 use Rattle.machine.specs.Throws.{handlerOf, throwOf, nextOf, finishOf}
 use Rattle.instruction.specs.Plain.{plainOf}
@@ -32,7 +33,7 @@ use Rattle.worked.specs.Rows.{tableHolds}
 use Rattle.worked.specs.Table.{table}
 
 pub worked-on-paper : tableHolds table ≡ true
-unfolding tableHolds cellAt storeCell sum difference negated symmetricOf flooredOf asr8 placeOf fetchOf placesOf storedOf commitOf handlerOf throwOf
+unfolding tableHolds cellAt storeCell sum difference negated symmetricOf flooredOf asr8 placeOf fetchOf exceptionOf placesOf storedOf commitOf handlerOf throwOf
     nextOf finishOf plainOf plusEnds takingOf decodeOf executeOf cycleOf advance cyclesOf startOf judgeMachine startAnswer cycleAnswer doneOf runAnswer classOf
     fits pack any entry judgedFrom judgedListing judgedArrays cur word cells rounds settle settled marks image countOf judgeLoad copied loadOf loadFirstOf
 worked-on-paper = refl

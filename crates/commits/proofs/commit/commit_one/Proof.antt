@@ -5,6 +5,7 @@ use Rattle.commits.proofs.commit.commit_one.Tie as tie
 use Rattle.machine.proofs.CommitLaws.{commit-raising, commit-bad, commit-good, room-place}
 use Rattle.machine.specs.Commits as commits
 use Rattle.machine.specs.Effects as effects
+use Rattle.machine.specs.Places as places
 use denote.Ref.{now}
 use mathlib.Core.List.{[], _∷_}
 use mathlib.Core.Path.{sym, _∙_}
@@ -24,11 +25,11 @@ raise-requires c κs = search needs
 returns : tie.Need-returns
 returns c =
     let a = c .before .before .before .before .before .before .args in rw (c .raise .ensures, c .before .enum-told2 .given .1) (sym (commit-raising (a .machine)
-    (now (a .memory)) (a .r) (a .e .sp) (a .e .rp) (effects.storeOf (a .e .write) ∷ []) (a .e .then) _ (sym (c .before .before .before .fault-of .ensures) ∙
+    (now (a .memory)) (a .r) (a .e .sp) (a .e .rp) (effects.storeOf (places.accessTo (a .e .target)) (a .e .write) ∷ []) (a .e .then) _ (sym (c .before .before .before .fault-of .ensures) ∙
     c .before .enum-told2 .given .1)))
 
-check-write-requires : tie.Need-check-write-requires
-check-write-requires c κs = search needs
+check-store-requires : tie.Need-check-store-requires
+check-store-requires c κs = search needs
 
 enum-told-3 : tie.Need-enum-told-3
 enum-told-3 c = search needs
@@ -43,13 +44,13 @@ returns-2 : tie.Need-returns-2
 unfolding commits.placesOf
 returns-2 c =
     let a = c .before .before .before .before .before .before .before .before .before .args in rw (c .raise2 .ensures, c .before .enum-told4 .given .1) (sym
-    (commit-bad (a .machine) (now (a .memory)) (a .r) (a .e .sp) (a .e .rp) (effects.storeOf (a .e .write) ∷ []) (a .e .then) _ (sym
+    (commit-bad (a .machine) (now (a .memory)) (a .r) (a .e .sp) (a .e .rp) (effects.storeOf (places.accessTo (a .e .target)) (a .e .write) ∷ []) (a .e .then) _ (sym
     (c .before .before .before .before .before .before .fault-of .ensures) ∙ c .before .before .before .before .enum-told .given .1) (simp (sym
-    (c .before .before .before .check-write .ensures) ∙ c .before .enum-told4 .given .1))))
+    (c .before .before .before .check-store .ensures) ∙ c .before .enum-told4 .given .1))))
 
 put-requires : tie.Need-put-requires
 put-requires c κs =
-    room-place _ _ _ _ (c .before .before .before .before .before .before .before .before .before .pre) (sym (c .before .before .before .check-write .ensures) ∙
+    room-place _ _ _ _ (c .before .before .before .before .before .before .before .before .before .pre .whole) (sym (c .before .before .before .check-store .ensures) ∙
     c .before .enum-told3 .given .1)
 
 settle-requires : tie.Need-settle-requires
@@ -64,10 +65,10 @@ returns-3 c =
     let a = c .before .before .before .before .before .before .before .before .before .before .before .before .before .args in rw (
       c .settle .ensures,
       c .before .before .before .put .ensures,
-    ) (sym (commit-good (a .machine) (now (a .memory)) (a .r) (a .e .sp) (a .e .rp) (effects.storeOf (a .e .write) ∷ [])
+    ) (sym (commit-good (a .machine) (now (a .memory)) (a .r) (a .e .sp) (a .e .rp) (effects.storeOf (places.accessTo (a .e .target)) (a .e .write) ∷ [])
     (a .e .then) (sym (c .before .before .before .before .before .before .before .before .before .before .fault-of .ensures) ∙
     c .before .before .before .before .before .before .before .before .enum-told .given .1) (simp (sym
-    (c .before .before .before .before .before .before .before .check-write .ensures) ∙ c .before .before .before .before .before .enum-told3 .given .1))))
+    (c .before .before .before .before .before .before .before .check-store .ensures) ∙ c .before .before .before .before .before .enum-told3 .given .1))))
 
 pub commit-one-spec : {M : Type 1} → statement M
 commit-one-spec =
@@ -78,7 +79,7 @@ commit-one-spec =
     enum-told-2
     raise-requires
     returns
-    check-write-requires
+    check-store-requires
     enum-told-3
     enum-told-4
     raise-requires-2

@@ -5,6 +5,7 @@ use Rattle.commits.proofs.commit.commit_three.Tie as tie
 use Rattle.machine.proofs.CommitLaws.{commit-raising, commit-bad, commit-good, room-place}
 use Rattle.machine.specs.Commits as commits
 use Rattle.machine.specs.Effects as effects
+use Rattle.machine.specs.declared.Access.the-variants.{DataWrite}
 use denote.Ref.{now}
 use mathlib.Core.List.{[], _∷_}
 use mathlib.Core.Path.{sym, _∙_}
@@ -26,11 +27,11 @@ raise-requires c κs = search needs
 returns : tie.Need-returns
 returns c =
     let a = c .before .before .before .before .before .before .before .before .args in rw (c .raise .ensures, c .before .enum-told2 .given .1) (sym
-    (commit-raising (a .machine) (now (a .memory)) (a .r) (a .e .sp) (a .e .rp) (effects.storeOf (a .e .first) ∷ effects.storeOf (a .e .second) ∷
-    effects.storeOf (a .e .third) ∷ []) (a .e .then) _ (sym (c .before .before .before .fault-of .ensures) ∙ c .before .enum-told2 .given .1)))
+    (commit-raising (a .machine) (now (a .memory)) (a .r) (a .e .sp) (a .e .rp) (effects.storeOf DataWrite (a .e .first) ∷ effects.storeOf DataWrite (a .e .second) ∷
+    effects.storeOf DataWrite (a .e .third) ∷ []) (a .e .then) _ (sym (c .before .before .before .fault-of .ensures) ∙ c .before .enum-told2 .given .1)))
 
-check-write-requires : tie.Need-check-write-requires
-check-write-requires c κs = search needs
+check-item-requires : tie.Need-check-item-requires
+check-item-requires c κs = search needs
 
 enum-told-3 : tie.Need-enum-told-3
 enum-told-3 c = search needs
@@ -47,13 +48,13 @@ returns-2 c =
     let a = c .before .before .before .before .before .before .before .before .before .before .before .args in rw (
       c .raise2 .ensures,
       c .before .enum-told4 .given .1,
-    ) (sym (commit-bad (a .machine) (now (a .memory)) (a .r) (a .e .sp) (a .e .rp) (effects.storeOf (a .e .first) ∷
-    effects.storeOf (a .e .second) ∷ effects.storeOf (a .e .third) ∷ []) (a .e .then) _ (sym
+    ) (sym (commit-bad (a .machine) (now (a .memory)) (a .r) (a .e .sp) (a .e .rp) (effects.storeOf DataWrite (a .e .first) ∷
+    effects.storeOf DataWrite (a .e .second) ∷ effects.storeOf DataWrite (a .e .third) ∷ []) (a .e .then) _ (sym
     (c .before .before .before .before .before .before .fault-of .ensures) ∙ c .before .before .before .before .enum-told .given .1) (simp (sym
-    (c .before .before .before .check-write .ensures) ∙ c .before .enum-told4 .given .1))))
+    (c .before .before .before .check-item .ensures) ∙ c .before .enum-told4 .given .1))))
 
-check-write-requires-2 : tie.Need-check-write-requires-2
-check-write-requires-2 c κs = search needs
+check-item-requires-2 : tie.Need-check-item-requires-2
+check-item-requires-2 c κs = search needs
 
 enum-told-5 : tie.Need-enum-told-5
 enum-told-5 c = search needs
@@ -70,18 +71,18 @@ returns-3 c =
     let a = c .before .before .before .before .before .before .before .before .before .before .before .before .before .before .args in rw (
       c .raise3 .ensures,
       c .before .enum-told6 .given .1,
-    ) (sym (commit-bad (a .machine) (now (a .memory)) (a .r) (a .e .sp) (a .e .rp) (effects.storeOf (a .e .first) ∷
-    effects.storeOf (a .e .second) ∷ effects.storeOf (a .e .third) ∷ []) (a .e .then) _ (sym
+    ) (sym (commit-bad (a .machine) (now (a .memory)) (a .r) (a .e .sp) (a .e .rp) (effects.storeOf DataWrite (a .e .first) ∷
+    effects.storeOf DataWrite (a .e .second) ∷ effects.storeOf DataWrite (a .e .third) ∷ []) (a .e .then) _ (sym
     (c .before .before .before .before .before .before .before .before .before .fault-of .ensures) ∙
     c .before .before .before .before .before .before .before .enum-told .given .1) (simp (
       sym
-          (c .before .before .before .before .before .before .check-write .ensures) ∙ c .before .before .before .before .enum-told3 .given .1,
+          (c .before .before .before .before .before .before .check-item .ensures) ∙ c .before .before .before .before .enum-told3 .given .1,
       sym
-          (c .before .before .before .check-write2 .ensures) ∙ c .before .enum-told6 .given .1,
+          (c .before .before .before .check-item2 .ensures) ∙ c .before .enum-told6 .given .1,
     ))))
 
-check-write-requires-3 : tie.Need-check-write-requires-3
-check-write-requires-3 c κs = search needs
+check-item-requires-3 : tie.Need-check-item-requires-3
+check-item-requires-3 c κs = search needs
 
 enum-told-7 : tie.Need-enum-told-7
 enum-told-7 c = search needs
@@ -96,24 +97,23 @@ returns-4 : tie.Need-returns-4
 unfolding commits.placesOf
 returns-4 c =
     let a = c .before .before .before .before .before .before .before .before .before .before .before .before .before .before .before .before .before .args in
-    rw (c .raise4 .ensures, c .before .enum-told8 .given .1) (sym (commit-bad (a .machine) (now (a .memory)) (a .r) (a .e .sp) (a .e .rp) (effects.storeOf
-    (a .e .first) ∷ effects.storeOf (a .e .second) ∷ effects.storeOf (a .e .third) ∷ []) (a .e .then) _ (sym
+    rw (c .raise4 .ensures, c .before .enum-told8 .given .1) (sym (commit-bad (a .machine) (now (a .memory)) (a .r) (a .e .sp) (a .e .rp) (effects.storeOf DataWrite (a .e .first) ∷ effects.storeOf DataWrite (a .e .second) ∷ effects.storeOf DataWrite (a .e .third) ∷ []) (a .e .then) _ (sym
     (c .before .before .before .before .before .before .before .before .before .before .before .before .fault-of .ensures) ∙
     c .before .before .before .before .before .before .before .before .before .before .enum-told .given .1) (simp (
       sym
-          (c .before .before .before .before .before .before .before .before .before .check-write .ensures) ∙
+          (c .before .before .before .before .before .before .before .before .before .check-item .ensures) ∙
           c .before .before .before .before .before .before .before .enum-told3 .given .1,
       sym
-          (c .before .before .before .before .before .before .check-write2 .ensures) ∙ c .before .before .before .before .enum-told5 .given .1,
+          (c .before .before .before .before .before .before .check-item2 .ensures) ∙ c .before .before .before .before .enum-told5 .given .1,
       sym
-          (c .before .before .before .check-write3 .ensures) ∙ c .before .enum-told8 .given .1,
+          (c .before .before .before .check-item3 .ensures) ∙ c .before .enum-told8 .given .1,
     ))))
 
 put-requires : tie.Need-put-requires
 put-requires c κs =
     room-place _ _ _ _
-    (c .before .before .before .before .before .before .before .before .before .before .before .before .before .before .before .before .before .pre) (sym
-    (c .before .before .before .before .before .before .before .before .before .check-write .ensures) ∙
+    (c .before .before .before .before .before .before .before .before .before .before .before .before .before .before .before .before .before .pre .whole) (sym
+    (c .before .before .before .before .before .before .before .before .before .check-item .ensures) ∙
     c .before .before .before .before .before .before .before .enum-told3 .given .1)
 
 put-requires-2 : tie.Need-put-requires-2
@@ -123,26 +123,24 @@ put-requires-2 c κs =
     in omega (
       arith,
       c .before .before .before .put .kept .1 .0,
-      room-place (a .machine) (a .e .second .access) (length (now (a .memory))) (a .e .second .at .0)
-          (c .before .before .before .before .before .before .before .before .before .before .before .before .before .before .before .before .before .before .before .before .before .pre)
-          (sym (c .before .before .before .before .before .before .before .before .before .before .check-write2 .ensures) ∙
+      room-place (a .machine) DataWrite (length (now (a .memory))) (a .e .second .at .0)
+          (c .before .before .before .before .before .before .before .before .before .before .before .before .before .before .before .before .before .before .before .before .before .pre .whole)
+          (sym (c .before .before .before .before .before .before .before .before .before .before .check-item2 .ensures) ∙
           c .before .before .before .before .before .before .before .before .enum-told5 .given .1),
     )
 
 put-requires-3 : tie.Need-put-requires-3
 put-requires-3 c κs =
     let a =
-    c .before .before .before .before .before .before .before .before .before .before .before .before .before .before .before .before .before
-    .before .before .before .before .before .before .before .before .args
+    c .before .before .before .before .before .before .before .before .before .before .before .before .before .before .before .before .before .before .before .before .before .before .before .before .before .args
     in omega (
       arith,
       c .before .before .before .before .before .before .before .put .kept .1 .0,
       c .before .before .before .put2 .kept .1 .0,
       room-place
-          (a .machine) (a .e .third .access) (length (now (a .memory))) (a .e .third .at .0)
-          (c .before .before .before .before .before .before .before .before .before .before .before .before .before .before .before .before
-          .before .before .before .before .before .before .before .before .before .pre)
-          (sym (c .before .before .before .before .before .before .before .before .before .before .before .check-write3 .ensures) ∙
+          (a .machine) DataWrite (length (now (a .memory))) (a .e .third .at .0)
+          (c .before .before .before .before .before .before .before .before .before .before .before .before .before .before .before .before .before .before .before .before .before .before .before .before .before .pre .whole)
+          (sym (c .before .before .before .before .before .before .before .before .before .before .before .check-item3 .ensures) ∙
           c .before .before .before .before .before .before .before .before .before .enum-told7 .given .1),
     )
 
@@ -156,30 +154,26 @@ returns-5 : tie.Need-returns-5
 unfolding commits.placesOf commits.storedOf
 returns-5 c =
     let a =
-    c .before .before .before .before .before .before .before .before .before .before .before .before .before .before .before .before .before
-    .before .before .before .before .before .before .before .before .before .before .before .before .args
+    c .before .before .before .before .before .before .before .before .before .before .before .before .before .before .before .before .before .before .before .before .before .before .before .before .before .before .before .before .before .args
     in rw (
       c .settle .ensures,
       c .before .before .before .put3 .ensures,
       c .before .before .before .before .before .before .before .put2 .ensures,
       c .before .before .before .before .before .before .before .before .before .before .before .put .ensures,
     ) (sym (commit-good (a .machine) (now (a .memory))
-    (a .r) (a .e .sp) (a .e .rp) (effects.storeOf (a .e .first) ∷ effects.storeOf (a .e .second) ∷ effects.storeOf (a .e .third) ∷ []) (a .e .then) (sym
-    (c .before .before .before .before .before .before .before .before .before .before .before .before .before .before .before .before .before
-    .before .before .before .before .before .before .before .fault-of .ensures)
+    (a .r) (a .e .sp) (a .e .rp) (effects.storeOf DataWrite (a .e .first) ∷ effects.storeOf DataWrite (a .e .second) ∷ effects.storeOf DataWrite (a .e .third) ∷ []) (a .e .then) (sym
+    (c .before .before .before .before .before .before .before .before .before .before .before .before .before .before .before .before .before .before .before .before .before .before .before .before .fault-of .ensures)
     ∙
-    c .before .before .before .before .before .before .before .before .before .before .before .before .before .before .before .before .before
-    .before .before .before .before .before .enum-told .given .1)
+    c .before .before .before .before .before .before .before .before .before .before .before .before .before .before .before .before .before .before .before .before .before .before .enum-told .given .1)
     (simp (
       sym
-          (c .before .before .before .before .before .before .before .before .before .before .before .before .before .before .before .before
-          .before .before .before .before .before .check-write .ensures)
+          (c .before .before .before .before .before .before .before .before .before .before .before .before .before .before .before .before .before .before .before .before .before .check-item .ensures)
           ∙
           c .before .before .before .before .before .before .before .before .before .before .before .before .before .before .before .before .before .before .before .enum-told3 .given .1,
       sym
-          (c .before .before .before .before .before .before .before .before .before .before .before .before .before .before .before .before .before .before .check-write2 .ensures)
+          (c .before .before .before .before .before .before .before .before .before .before .before .before .before .before .before .before .before .before .check-item2 .ensures)
           ∙ c .before .before .before .before .before .before .before .before .before .before .before .before .before .before .before .before .enum-told5 .given .1,
-      sym (c .before .before .before .before .before .before .before .before .before .before .before .before .before .before .before .check-write3 .ensures) ∙
+      sym (c .before .before .before .before .before .before .before .before .before .before .before .before .before .before .before .check-item3 .ensures) ∙
           c .before .before .before .before .before .before .before .before .before .before .before .before .before .enum-told7 .given .1,
     ))))
 
@@ -192,17 +186,17 @@ commit-three-spec =
     enum-told-2
     raise-requires
     returns
-    check-write-requires
+    check-item-requires
     enum-told-3
     enum-told-4
     raise-requires-2
     returns-2
-    check-write-requires-2
+    check-item-requires-2
     enum-told-5
     enum-told-6
     raise-requires-3
     returns-3
-    check-write-requires-3
+    check-item-requires-3
     enum-told-7
     enum-told-8
     raise-requires-4

@@ -23,8 +23,8 @@ loop-holds c = judge-begins _ _ _ _ (c .if1 .left)
 address-at-requires : tie.Need-address-at-requires Inv-loop μ-loop
 address-at-requires c κs = omega (arith, c .before .loop .inv .within, c .before .before .before .before .before .pre)
 
-check-place-requires : tie.Need-check-place-requires Inv-loop μ-loop
-check-place-requires c κs = search needs
+check-data-write-requires : tie.Need-check-data-write-requires Inv-loop μ-loop
+check-data-write-requires c κs = search needs
 
 enum-told : tie.Need-enum-told Inv-loop μ-loop
 enum-told c = search needs
@@ -36,7 +36,7 @@ returns-2 : tie.Need-returns-2 Inv-loop μ-loop
 returns-2 c =
     let a = c .before .before .before .before .before .before .before .before .before .args in judge-bad (a .machine) (now (a .memory)) (a .top .0)
     (a .depth .0) (c .before .before .before .before .before .loop .k) _ _ (c .before .before .before .before .loop-test .taken) (rw
-    (c .before .before .before .address-at .ensures) at (c .before .before .check-place .ensures)) (c .enum-told2 .given .1)
+    (c .before .before .before .address-at .ensures) at (c .before .before .check-data-write .ensures)) (c .enum-told2 .given .1)
     (c .before .before .before .before .before .loop .inv)
 
 sub-k : tie.Need-sub-k Inv-loop μ-loop
@@ -49,16 +49,16 @@ loop-again : tie.Need-loop-again Inv-loop μ-loop
 loop-again c =
     let a = c .before .before .before .before .before .before .before .before .before .args in judge-again (a .machine) (now (a .memory)) (a .top .0)
     (a .depth .0) (c .before .before .before .before .before .loop .k) _ (c .before .before .before .before .loop-test .taken) (rw
-    (c .before .before .before .address-at .ensures) at (c .before .before .check-place .ensures)) (c .enum-told .given .1)
+    (c .before .before .before .address-at .ensures) at (c .before .before .check-data-write .ensures)) (c .enum-told .given .1)
     (c .before .before .before .before .before .loop .inv)
 
-check-place-requires-2 : tie.Need-check-place-requires-2 Inv-loop μ-loop
-check-place-requires-2 c κs = search needs
+check-data-write-requires-2 : tie.Need-check-data-write-requires-2 Inv-loop μ-loop
+check-data-write-requires-2 c κs = search needs
 
 returns-3 : tie.Need-returns-3 Inv-loop μ-loop
 returns-3 c =
     let a = c .before .before .before .before .before .before .args in judge-done (a .machine) (now (a .memory)) (a .top .0) (a .depth .0)
-    (c .before .before .loop .k) _ (c .before .loop-test .left) (c .check-place2 .ensures) (c .before .before .loop .inv)
+    (c .before .before .loop .k) _ (c .before .loop-test .left) (c .check-data-write2 .ensures) (c .before .before .loop .inv)
 
 pub check-roll-spec : {M : Type 1} → statement M
 check-roll-spec =
@@ -69,12 +69,12 @@ check-roll-spec =
     returns
     loop-holds
     address-at-requires
-    check-place-requires
+    check-data-write-requires
     enum-told
     enum-told-2
     returns-2
     sub-k
     loop-less
     loop-again
-    check-place-requires-2
+    check-data-write-requires-2
     returns-3)

@@ -55,7 +55,7 @@ roll-cells-requires : tie.Need-roll-cells-requires
 roll-cells-requires c κs =
     let a = c .before .before .before .before .before .before .before .before .before .before .before .args in (
       c .before .before .before .before .before .before .before .before .before .before .before .pre .1,
-      rolled-room (a .machine) (now (a .memory)) (a .e .top .0) (a .e .depth .0) (c .before .before .before .before .before .before .before .before .before .before .before .pre .0)
+      rolled-room (a .machine) (now (a .memory)) (a .e .top .0) (a .e .depth .0) (c .before .before .before .before .before .before .before .before .before .before .before .pre .0 .whole)
           (sym (c .before .before .before .check-roll .ensures) ∙ c .before .enum-told3 .given .1),
     )
 

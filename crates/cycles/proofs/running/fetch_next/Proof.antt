@@ -26,7 +26,7 @@ fault-in-requires c κs = search needs
 returns-2 : tie.Need-returns-2
 unfolding throws.finishOf throws.nextOf
 returns-2 c =
-    rw (c .before .before .before .before .before .enum-told .given .1, sym (c .before .before .before .fetch .ensures) ∙ c .fault-in .ensures)
+    rw (c .before .before .before .before .before .enum-told .given .1, sym (c .before .before .before .fetch .ensures .0) ∙ c .fault-in .ensures)
 
 add-requires : tie.Need-add-requires
 add-requires c κs = search needs
@@ -34,7 +34,7 @@ add-requires c κs = search needs
 returns-3 : tie.Need-returns-3
 unfolding throws.finishOf throws.nextOf
 returns-3 c =
-    rw (c .before .before .before .before .before .before .enum-told .given .1, sym (c .before .before .before .before .fetch .ensures) ∙ c .before .before .got .given .1, c .add .ensures)
+    rw (c .before .before .before .before .before .before .enum-told .given .1, sym (c .before .before .before .before .fetch .ensures .0) ∙ c .before .before .got .given .1, c .add .ensures)
 
 pub fetch-next-spec : {M : Type 1} → statement M
 fetch-next-spec =

@@ -88,8 +88,8 @@ commit-none-requires-5 c κs = search needs
 start-loop-requires : tie.Need-start-loop-requires
 start-loop-requires c κs = search needs
 
-commit-two-requires : tie.Need-commit-two-requires
-commit-two-requires c κs = search needs
+commit-two-returns-requires : tie.Need-commit-two-returns-requires
+commit-two-returns-requires c κs = search needs
 
 unloop-requires : tie.Need-unloop-requires
 unloop-requires c κs = search needs
@@ -250,7 +250,7 @@ returns-11 : tie.Need-returns-11
 unfolding dispatch.executeOf dispatch.decodeOf
 returns-11 c =
     let a = c .before .before .before .before .before .before .before .before .args in rw (c .before .before .before .before .before .before .match .keys10)
-    (c .before .before .commit-two .ensures ∙ ap (commits.commitOf (a .machine) (now (a .memory)) (a .r)) (c .before .before .before .start-loop .ensures))
+    (c .before .before .commit-two-returns .ensures ∙ ap (commits.commitOf (a .machine) (now (a .memory)) (a .r)) (c .before .before .before .start-loop .ensures))
 
 same-length-11 : tie.Need-same-length-11
 same-length-11 c = search needs
@@ -370,7 +370,7 @@ execute-from-42-spec =
     exit-requires
     commit-none-requires-5
     start-loop-requires
-    commit-two-requires
+    commit-two-returns-requires
     unloop-requires
     commit-none-requires-6
     outer-index-requires

@@ -5,8 +5,8 @@ use Rattle.flow.proofs.control.exit.Tie as tie
 use Rattle.instruction.specs.Plain as plain
 use mathlib.Core.Path.{_∙_, sym, ap}
 
-fetch-requires : tie.Need-fetch-requires
-fetch-requires c κs = search needs
+fetch-return-requires : tie.Need-fetch-return-requires
+fetch-return-requires c κs = search needs
 
 enum-known-got : tie.Need-enum-known-got
 enum-known-got c = search needs
@@ -19,20 +19,20 @@ fail-none-requires c κs = (_, c .enum-told .given .1)
 
 returns : tie.Need-returns
 unfolding plain.plainOf
-returns c = simp (sym (c .before .before .before .fetch .ensures) ∙ c .before .enum-told .given .1) (c .fail-none .ensures ∙ ap plain.failed (c .before .enum-told .given .1))
+returns c = simp (sym (c .before .before .before .fetch-return .ensures) ∙ c .before .enum-told .given .1) (c .fail-none .ensures ∙ ap plain.failed (c .before .enum-told .given .1))
 
 add-requires : tie.Need-add-requires
 add-requires c κs = search needs
 
 returns-2 : tie.Need-returns-2
 unfolding plain.plainOf
-returns-2 c = simp (sym (c .before .before .before .before .fetch .ensures) ∙ c .before .before .got .given .1, c .add .ensures)
+returns-2 c = simp (sym (c .before .before .before .before .fetch-return .ensures) ∙ c .before .before .got .given .1, c .add .ensures)
 
 pub exit-spec : {M : Type 1} → statement M
 exit-spec =
     tie.close
     (tie.spec
-    fetch-requires
+    fetch-return-requires
     enum-known-got
     enum-told
     fail-none-requires

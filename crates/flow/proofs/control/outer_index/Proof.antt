@@ -5,8 +5,8 @@ use Rattle.flow.proofs.control.outer_index.Tie as tie
 use Rattle.instruction.specs.Plain as plain
 use mathlib.Core.Path.{_∙_, sym, ap}
 
-fetch-requires : tie.Need-fetch-requires
-fetch-requires c κs = search needs
+fetch-return-requires : tie.Need-fetch-return-requires
+fetch-return-requires c κs = search needs
 
 enum-told : tie.Need-enum-told
 enum-told c = search needs
@@ -19,13 +19,13 @@ fail-one-requires c κs = (_, c .enum-told2 .given .1)
 
 returns : tie.Need-returns
 unfolding plain.plainOf
-returns c = simp (sym (c .before .before .before .fetch .ensures) ∙ c .before .enum-told2 .given .1) (c .fail-one .ensures ∙ ap plain.failed (c .before .enum-told2 .given .1))
+returns c = simp (sym (c .before .before .before .fetch-return .ensures) ∙ c .before .enum-told2 .given .1) (c .fail-one .ensures ∙ ap plain.failed (c .before .enum-told2 .given .1))
 
 add-requires : tie.Need-add-requires
 add-requires c κs = search needs
 
-fetch-requires-2 : tie.Need-fetch-requires-2
-fetch-requires-2 c κs = search needs
+fetch-return-requires-2 : tie.Need-fetch-return-requires-2
+fetch-return-requires-2 c κs = search needs
 
 enum-told-3 : tie.Need-enum-told-3
 enum-told-3 c = search needs
@@ -40,17 +40,17 @@ returns-2 : tie.Need-returns-2
 unfolding plain.plainOf
 returns-2 c =
     simp (
-      sym (c .before .before .before .before .before .before .before .fetch .ensures) ∙ c .before .before .before .before .before .enum-told .given .1,
+      sym (c .before .before .before .before .before .before .before .fetch-return .ensures) ∙ c .before .before .before .before .before .enum-told .given .1,
       rw
-          (c .before .before .before .before .add .ensures) at (sym (c .before .before .before .fetch2 .ensures) ∙ c .before .enum-told4 .given .1),
+          (c .before .before .before .before .add .ensures) at (sym (c .before .before .before .fetch-return2 .ensures) ∙ c .before .enum-told4 .given .1),
     )
     (c .fail-one2 .ensures ∙ ap plain.failed (c .before .enum-told4 .given .1))
 
 add-requires-2 : tie.Need-add-requires-2
 add-requires-2 c κs = search needs
 
-fetch-requires-3 : tie.Need-fetch-requires-3
-fetch-requires-3 c κs = search needs
+fetch-return-requires-3 : tie.Need-fetch-return-requires-3
+fetch-return-requires-3 c κs = search needs
 
 enum-known-got3 : tie.Need-enum-known-got3
 enum-known-got3 c = search needs
@@ -65,13 +65,13 @@ returns-3 : tie.Need-returns-3
 unfolding plain.plainOf
 returns-3 c =
     simp (
-      sym (c .before .before .before .before .before .before .before .before .before .before .before .fetch .ensures) ∙
+      sym (c .before .before .before .before .before .before .before .before .before .before .before .fetch-return .ensures) ∙
           c .before .before .before .before .before .before .before .before .before .enum-told .given .1,
       rw
           (c .before .before .before .before .before .before .before .before .add .ensures) at (sym
-          (c .before .before .before .before .before .before .before .fetch2 .ensures) ∙ c .before .before .before .before .before .enum-told3 .given .1),
+          (c .before .before .before .before .before .before .before .fetch-return2 .ensures) ∙ c .before .before .before .before .before .enum-told3 .given .1),
       rw
-          (c .before .before .before .before .add2 .ensures) at (sym (c .before .before .before .fetch3 .ensures) ∙ c .before .enum-told5 .given .1),
+          (c .before .before .before .before .add2 .ensures) at (sym (c .before .before .before .fetch-return3 .ensures) ∙ c .before .enum-told5 .given .1),
     )
     (c .fail-one3 .ensures ∙ ap plain.failed (c .before .enum-told5 .given .1))
 
@@ -82,33 +82,33 @@ returns-4 : tie.Need-returns-4
 unfolding plain.plainOf
 returns-4 c =
     simp (
-      sym (c .before .before .before .before .before .before .before .before .before .before .before .before .fetch .ensures) ∙
+      sym (c .before .before .before .before .before .before .before .before .before .before .before .before .fetch-return .ensures) ∙
           c .before .before .before .before .before .before .before .before .before .before .enum-told .given .1,
       rw
           (c .before .before .before .before .before .before .before .before .before .add .ensures) at (sym
-          (c .before .before .before .before .before .before .before .before .fetch2 .ensures) ∙
+          (c .before .before .before .before .before .before .before .before .fetch-return2 .ensures) ∙
           c .before .before .before .before .before .before .enum-told3 .given .1),
       rw (c .before .before .before .before .before .add2 .ensures) at (sym
-          (c .before .before .before .before .fetch3 .ensures) ∙ c .before .before .got3 .given .1),
+          (c .before .before .before .before .fetch-return3 .ensures) ∙ c .before .before .got3 .given .1),
     ) (c .push .ensures)
 
 pub outer-index-spec : {M : Type 1} → statement M
 outer-index-spec =
     tie.close
     (tie.spec
-    fetch-requires
+    fetch-return-requires
     enum-told
     enum-told-2
     fail-one-requires
     returns
     add-requires
-    fetch-requires-2
+    fetch-return-requires-2
     enum-told-3
     enum-told-4
     fail-one-requires-2
     returns-2
     add-requires-2
-    fetch-requires-3
+    fetch-return-requires-3
     enum-known-got3
     enum-told-5
     fail-one-requires-3

@@ -7,8 +7,8 @@ use Rattle.instruction.specs.Plain as plain
 use borrow.Author.Tests.{eq-eqb, ne-eqb}
 use mathlib.Core.Path.{_∙_, sym, ap}
 
-fetch-requires : tie.Need-fetch-requires
-fetch-requires c κs = search needs
+fetch-data-requires : tie.Need-fetch-data-requires
+fetch-data-requires c κs = search needs
 
 enum-known-got : tie.Need-enum-known-got
 enum-known-got c = search needs
@@ -21,14 +21,14 @@ fail-none-requires c κs = (_, c .enum-told .given .1)
 
 returns : tie.Need-returns
 unfolding taking.takingOf
-returns c = simp (sym (c .before .before .before .fetch .ensures) ∙ c .before .enum-told .given .1) (c .fail-none .ensures ∙ ap plain.failed (c .before .enum-told .given .1))
+returns c = simp (sym (c .before .before .before .fetch-data .ensures) ∙ c .before .enum-told .given .1) (c .fail-none .ensures ∙ ap plain.failed (c .before .enum-told .given .1))
 
 add-requires : tie.Need-add-requires
 add-requires c κs = search needs
 
 returns-2 : tie.Need-returns-2
 unfolding taking.takingOf
-returns-2 c = simp (sym (c .before .before .before .before .before .fetch .ensures) ∙ c .before .before .before .got .given .1, ne-eqb _ _ (c .before .if1 .taken), c .add .ensures)
+returns-2 c = simp (sym (c .before .before .before .before .before .fetch-data .ensures) ∙ c .before .before .before .got .given .1, ne-eqb _ _ (c .before .if1 .taken), c .add .ensures)
 
 branch-operand-requires : tie.Need-branch-operand-requires
 branch-operand-requires c κs = search needs
@@ -46,7 +46,7 @@ returns-3 : tie.Need-returns-3
 unfolding taking.takingOf
 returns-3 c =
     simp (
-      sym (c .before .before .before .before .before .before .before .before .fetch .ensures) ∙
+      sym (c .before .before .before .before .before .before .before .before .fetch-data .ensures) ∙
           c .before .before .before .before .before .before .got .given .1,
       sym (c .before .before .before .branch-operand .ensures) ∙
           c .before .enum-told2 .given .1,
@@ -61,7 +61,7 @@ returns-4 : tie.Need-returns-4
 unfolding taking.takingOf
 returns-4 c =
     simp (
-      sym (c .before .before .before .before .before .before .before .before .before .fetch .ensures) ∙
+      sym (c .before .before .before .before .before .before .before .before .before .fetch-data .ensures) ∙
           c .before .before .before .before .before .before .before .got .given .1,
       sym (c .before .before .before .before .branch-operand .ensures) ∙
           c .before .before .got2 .given .1,
@@ -73,7 +73,7 @@ pub question-branch-spec : {M : Type 1} → statement M
 question-branch-spec =
     tie.close
     (tie.spec
-    fetch-requires
+    fetch-data-requires
     enum-known-got
     enum-told
     fail-none-requires

@@ -8,8 +8,8 @@ use mathlib.Core.Path.{_∙_, sym, ap, ap₂}
 use Rattle.flow.proofs.LoopLaws.{plus-loop-ends, plus-loop-fails, plus-loop-goes-on}
 use denote.Ref.{now}
 
-fetch-requires : tie.Need-fetch-requires
-fetch-requires c κs = search needs
+fetch-data-requires : tie.Need-fetch-data-requires
+fetch-data-requires c κs = search needs
 
 enum-known-got : tie.Need-enum-known-got
 enum-known-got c = search needs
@@ -22,10 +22,10 @@ fail-maybe-requires c κs = (_, c .enum-told .given .1)
 
 returns : tie.Need-returns
 unfolding taking.takingOf
-returns c = simp (sym (c .before .before .before .fetch .ensures) ∙ c .before .enum-told .given .1) (c .fail-maybe .ensures ∙ ap plain.failed (c .before .enum-told .given .1))
+returns c = simp (sym (c .before .before .before .fetch-data .ensures) ∙ c .before .enum-told .given .1) (c .fail-maybe .ensures ∙ ap plain.failed (c .before .enum-told .given .1))
 
-fetch-requires-2 : tie.Need-fetch-requires-2
-fetch-requires-2 c κs = search needs
+fetch-return-requires : tie.Need-fetch-return-requires
+fetch-return-requires c κs = search needs
 
 enum-known-got2 : tie.Need-enum-known-got2
 enum-known-got2 c = search needs
@@ -40,17 +40,17 @@ returns-2 : tie.Need-returns-2
 unfolding taking.takingOf
 returns-2 c =
     simp (
-      sym (c .before .before .before .before .before .before .before .fetch .ensures) ∙ c .before .before .before .before .before .got .given .1,
+      sym (c .before .before .before .before .before .before .before .fetch-data .ensures) ∙ c .before .before .before .before .before .got .given .1,
       sym
-          (c .before .before .before .fetch2 .ensures) ∙ c .before .enum-told2 .given .1,
+          (c .before .before .before .fetch-return .ensures) ∙ c .before .enum-told2 .given .1,
     ) (c .fail-maybe2 .ensures ∙ ap plain.failed
     (c .before .enum-told2 .given .1))
 
 add-requires : tie.Need-add-requires
 add-requires c κs = search needs
 
-fetch-requires-3 : tie.Need-fetch-requires-3
-fetch-requires-3 c κs = search needs
+fetch-return-requires-2 : tie.Need-fetch-return-requires-2
+fetch-return-requires-2 c κs = search needs
 
 enum-known-got3 : tie.Need-enum-known-got3
 enum-known-got3 c = search needs
@@ -65,12 +65,12 @@ returns-3 : tie.Need-returns-3
 unfolding taking.takingOf
 returns-3 c =
     simp (
-      sym (c .before .before .before .before .before .before .before .before .before .before .before .before .fetch .ensures) ∙
+      sym (c .before .before .before .before .before .before .before .before .before .before .before .before .fetch-data .ensures) ∙
           c .before .before .before .before .before .before .before .before .before .before .got .given .1,
       sym
-          (c .before .before .before .before .before .before .before .before .fetch2 .ensures) ∙ c .before .before .before .before .before .before .got2 .given .1,
+          (c .before .before .before .before .before .before .before .before .fetch-return .ensures) ∙ c .before .before .before .before .before .before .got2 .given .1,
       rw
-          (c .before .before .before .before .add .ensures) at (sym (c .before .before .before .fetch3 .ensures) ∙ c .before .enum-told3 .given .1),
+          (c .before .before .before .before .add .ensures) at (sym (c .before .before .before .fetch-return2 .ensures) ∙ c .before .enum-told3 .given .1),
     )
     (c .fail-maybe3 .ensures ∙ ap plain.failed (c .before .enum-told3 .given .1))
 
@@ -95,12 +95,12 @@ returns-4 c =
     c .before .before .before .before .before .before .before .before .before .before .before .before .before .before .before .before .before .before .before .before .args
     in c .write-nothing .ensures ∙ ap₂ plain.moved (c .before .before .add3 .ensures) (c .before .add4 .ensures) ∙ sym (plus-loop-ends (a .machine) (now
     (a .memory)) (a .r .sp) (a .r .rp) _ _ _ (sym
-    (c .before .before .before .before .before .before .before .before .before .before .before .before .before .before .fetch2 .ensures) ∙
+    (c .before .before .before .before .before .before .before .before .before .before .before .before .before .before .fetch-return .ensures) ∙
     c .before .before .before .before .before .before .before .before .before .before .before .before .got2 .given .1) (rw
     (c .before .before .before .before .before .before .before .before .before .before .add .ensures) at (sym
-    (c .before .before .before .before .before .before .before .before .before .fetch3 .ensures) ∙
+    (c .before .before .before .before .before .before .before .before .before .fetch-return2 .ensures) ∙
     c .before .before .before .before .before .before .before .got3 .given .1)) _ (sym
-    (c .before .before .before .before .before .before .before .before .before .before .before .before .before .before .before .before .before .before .fetch .ensures)
+    (c .before .before .before .before .before .before .before .before .before .before .before .before .before .before .before .before .before .before .fetch-data .ensures)
     ∙ c .before .before .before .before .before .before .before .before .before .before .before .before .before .before .before .before .got .given .1) _ (sym (c .before .before .before .before .plus-ends .ensures _ (search needs) (c .before .before .before .before .before .add2 .ensures)) ∙
     c .before .before .before .if1 .taken))
 
@@ -121,12 +121,12 @@ returns-5 c =
     let a =
     c .before .before .before .before .before .before .before .before .before .before .before .before .before .before .before .before .before .before .before .before .before .args
     in c .fail-maybe4 .ensures ∙ ap plain.failed (c .before .enum-told4 .given .1) ∙ sym (plus-loop-fails (a .machine) (now (a .memory)) (a .r .sp) (a .r .rp) _
-    _ _ (sym (c .before .before .before .before .before .before .before .before .before .before .before .before .before .before .before .fetch2 .ensures) ∙
+    _ _ (sym (c .before .before .before .before .before .before .before .before .before .before .before .before .before .before .before .fetch-return .ensures) ∙
     c .before .before .before .before .before .before .before .before .before .before .before .before .before .got2 .given .1) (rw
     (c .before .before .before .before .before .before .before .before .before .before .before .add .ensures) at (sym
-    (c .before .before .before .before .before .before .before .before .before .before .fetch3 .ensures) ∙
+    (c .before .before .before .before .before .before .before .before .before .before .fetch-return2 .ensures) ∙
     c .before .before .before .before .before .before .before .before .got3 .given .1)) _ (sym
-    (c .before .before .before .before .before .before .before .before .before .before .before .before .before .before .before .before .before .before .before .fetch .ensures)
+    (c .before .before .before .before .before .before .before .before .before .before .before .before .before .before .before .before .before .before .before .fetch-data .ensures)
     ∙ c .before .before .before .before .before .before .before .before .before .before .before .before .before .before .before .before .before .got .given .1)
     _ _ (sym (c .before .before .before .before .before .plus-ends .ensures _ (search needs) (c .before .before .before .before .before .before .add2 .ensures)) ∙
     c .before .before .before .before .if1 .left) (sym (c .before .before .before .branch-operand .ensures) ∙ c .before .enum-told4 .given .1))
@@ -140,12 +140,12 @@ returns-6 c =
     c .before .before .before .before .before .before .before .before .before .before .before .before .before .before .before .before .before .before .before .before .before .before .args
     in rw (c .before .before .before .before .before .before .before .add2 .ensures, c .add5 .ensures) (sym (plus-loop-goes-on (a .machine) (now (a .memory))
     (a .r .sp) (a .r .rp) _ _ _ (sym
-    (c .before .before .before .before .before .before .before .before .before .before .before .before .before .before .before .before .fetch2 .ensures) ∙
+    (c .before .before .before .before .before .before .before .before .before .before .before .before .before .before .before .before .fetch-return .ensures) ∙
     c .before .before .before .before .before .before .before .before .before .before .before .before .before .before .got2 .given .1) (rw
     (c .before .before .before .before .before .before .before .before .before .before .before .before .add .ensures) at (sym
-    (c .before .before .before .before .before .before .before .before .before .before .before .fetch3 .ensures) ∙
+    (c .before .before .before .before .before .before .before .before .before .before .before .fetch-return2 .ensures) ∙
     c .before .before .before .before .before .before .before .before .before .got3 .given .1)) _ (sym
-    (c .before .before .before .before .before .before .before .before .before .before .before .before .before .before .before .before .before .before .before .before .fetch .ensures)
+    (c .before .before .before .before .before .before .before .before .before .before .before .before .before .before .before .before .before .before .before .before .fetch-data .ensures)
     ∙
     c .before .before .before .before .before .before .before .before .before .before .before .before .before .before .before .before .before .before .got .given .1)
     _ _ (sym
@@ -156,18 +156,18 @@ pub step-plus-loop-spec : {M : Type 1} → statement M
 step-plus-loop-spec =
     tie.close
     (tie.spec
-    fetch-requires
+    fetch-data-requires
     enum-known-got
     enum-told
     fail-maybe-requires
     returns
-    fetch-requires-2
+    fetch-return-requires
     enum-known-got2
     enum-told-2
     fail-maybe-requires-2
     returns-2
     add-requires
-    fetch-requires-3
+    fetch-return-requires-2
     enum-known-got3
     enum-told-3
     fail-maybe-requires-3

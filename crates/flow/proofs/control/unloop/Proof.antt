@@ -5,8 +5,8 @@ use Rattle.flow.proofs.control.unloop.Tie as tie
 use Rattle.instruction.specs.Plain as plain
 use mathlib.Core.Path.{_∙_, sym, ap}
 
-fetch-requires : tie.Need-fetch-requires
-fetch-requires c κs = search needs
+fetch-return-requires : tie.Need-fetch-return-requires
+fetch-return-requires c κs = search needs
 
 enum-told : tie.Need-enum-told
 enum-told c = search needs
@@ -19,13 +19,13 @@ fail-none-requires c κs = (_, c .enum-told2 .given .1)
 
 returns : tie.Need-returns
 unfolding plain.plainOf
-returns c = simp (sym (c .before .before .before .fetch .ensures) ∙ c .before .enum-told2 .given .1) (c .fail-none .ensures ∙ ap plain.failed (c .before .enum-told2 .given .1))
+returns c = simp (sym (c .before .before .before .fetch-return .ensures) ∙ c .before .enum-told2 .given .1) (c .fail-none .ensures ∙ ap plain.failed (c .before .enum-told2 .given .1))
 
 add-requires : tie.Need-add-requires
 add-requires c κs = search needs
 
-fetch-requires-2 : tie.Need-fetch-requires-2
-fetch-requires-2 c κs = search needs
+fetch-return-requires-2 : tie.Need-fetch-return-requires-2
+fetch-return-requires-2 c κs = search needs
 
 enum-told-3 : tie.Need-enum-told-3
 enum-told-3 c = search needs
@@ -40,9 +40,9 @@ returns-2 : tie.Need-returns-2
 unfolding plain.plainOf
 returns-2 c =
     simp (
-      sym (c .before .before .before .before .before .before .before .fetch .ensures) ∙ c .before .before .before .before .before .enum-told .given .1,
+      sym (c .before .before .before .before .before .before .before .fetch-return .ensures) ∙ c .before .before .before .before .before .enum-told .given .1,
       rw
-          (c .before .before .before .before .add .ensures) at (sym (c .before .before .before .fetch2 .ensures) ∙ c .before .enum-told4 .given .1),
+          (c .before .before .before .before .add .ensures) at (sym (c .before .before .before .fetch-return2 .ensures) ∙ c .before .enum-told4 .given .1),
     )
     (c .fail-none2 .ensures ∙ ap plain.failed (c .before .enum-told4 .given .1))
 
@@ -53,9 +53,9 @@ returns-3 : tie.Need-returns-3
 unfolding plain.plainOf
 returns-3 c =
     simp (
-      sym (c .before .before .before .before .before .before .before .fetch .ensures) ∙ c .before .before .before .before .before .enum-told .given .1,
+      sym (c .before .before .before .before .before .before .before .fetch-return .ensures) ∙ c .before .before .before .before .before .enum-told .given .1,
       rw
-          (c .before .before .before .before .add .ensures) at (sym (c .before .before .before .fetch2 .ensures) ∙ c .before .enum-told3 .given .1),
+          (c .before .before .before .before .add .ensures) at (sym (c .before .before .before .fetch-return2 .ensures) ∙ c .before .enum-told3 .given .1),
       c .before .before .before .before .add .ensures,
       c .add2 .ensures,
     )
@@ -64,13 +64,13 @@ pub unloop-spec : {M : Type 1} → statement M
 unloop-spec =
     tie.close
     (tie.spec
-    fetch-requires
+    fetch-return-requires
     enum-told
     enum-told-2
     fail-none-requires
     returns
     add-requires
-    fetch-requires-2
+    fetch-return-requires-2
     enum-told-3
     enum-told-4
     fail-none-requires-2

@@ -22,7 +22,7 @@ add-requires : tie.Need-add-requires
 add-requires c κs = search needs
 
 returns : tie.Need-returns
-returns c = rw (c .before .enum-told .given .1) (c .fetch .ensures)
+returns c = rw (c .before .enum-told .given .1) (c .fetch .ensures .0)
 
 returns-2 : tie.Need-returns-2
 returns-2 c =

@@ -19,17 +19,17 @@ mul-a c = search needs
 add-a-2 : tie.Need-add-a-2
 add-a-2 c = search needs
 
-cast-t13 : tie.Need-cast-t13
-cast-t13 c = search needs
+cast-t12 : tie.Need-cast-t12
+cast-t12 c = search needs
 
-fetch-requires : tie.Need-fetch-requires
-fetch-requires c κs = search needs
+fetch-data-requires : tie.Need-fetch-data-requires
+fetch-data-requires c κs = search needs
 
-cast-t16 : tie.Need-cast-t16
-cast-t16 c = search needs
+cast-t15 : tie.Need-cast-t15
+cast-t15 c = search needs
 
 returns : tie.Need-returns
-returns c = simp (lt-ltb _ _ (c .before .if1 .taken)) (c .fetch .ensures)
+returns c = simp (lt-ltb _ _ (c .before .if1 .taken)) (c .fetch-data .ensures)
 
 returns-2 : tie.Need-returns-2
 returns-2 c = simp (le-ltb _ _ (c .if1 .left))
@@ -43,8 +43,8 @@ fetch-deep-spec =
     cast-a-2
     mul-a
     add-a-2
-    cast-t13
-    fetch-requires
-    cast-t16
+    cast-t12
+    fetch-data-requires
+    cast-t15
     returns
     returns-2)

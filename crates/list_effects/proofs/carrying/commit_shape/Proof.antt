@@ -45,6 +45,12 @@ enum-known-shape-7 c = search needs
 commit-roll-requires : tie.Need-commit-roll-requires
 commit-roll-requires c κs = (c .before .before .before .before .before .pre .0, rw (c .before .before .shape7 .given .1) at (c .before .before .before .before .before .pre .1))
 
+enum-known-shape-8 : tie.Need-enum-known-shape-8
+enum-known-shape-8 c = search needs
+
+commit-two-returns-requires : tie.Need-commit-two-returns-requires
+commit-two-returns-requires c κs = search needs
+
 same-length : tie.Need-same-length
 same-length c = search needs
 
@@ -87,6 +93,12 @@ same-length-7 c = search needs
 returns-7 : tie.Need-returns-7
 returns-7 c = rw (c .before .before .before .before .before .shape7 .given .1) (c .before .before .commit-roll .ensures)
 
+same-length-8 : tie.Need-same-length-8
+same-length-8 c = search needs
+
+returns-8 : tie.Need-returns-8
+returns-8 c = rw (c .before .before .before .before .before .shape8 .given .1) (c .before .before .commit-two-returns .ensures)
+
 pub commit-shape-spec : {M : Type 1} → statement M
 commit-shape-spec =
     tie.close
@@ -105,6 +117,8 @@ commit-shape-spec =
     commit-byte-requires
     enum-known-shape-7
     commit-roll-requires
+    enum-known-shape-8
+    commit-two-returns-requires
     same-length
     returns
     same-length-2
@@ -118,4 +132,6 @@ commit-shape-spec =
     same-length-6
     returns-6
     same-length-7
-    returns-7)
+    returns-7
+    same-length-8
+    returns-8)

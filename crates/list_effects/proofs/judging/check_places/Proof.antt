@@ -66,7 +66,8 @@ enum-known-shape-6 : tie.Need-enum-known-shape-6
 enum-known-shape-6 c = search needs
 
 check-roll-requires : tie.Need-check-roll-requires
-check-roll-requires c κs = rw (c .before .before .before .shape6 .given .1) at (c .before .before .before .before .before .before .pre)
+check-roll-requires c κs =
+    (rw (c .before .before .before .shape6 .given .1) at (c .before .before .before .before .before .before .pre .1), search needs)
 
 returns-2 : tie.Need-returns-2
 unfolding commits.placesOf
@@ -98,6 +99,23 @@ returns-7 c = rw (c .before .before .before .shape5 .given .1) (c .check-byte-pl
 returns-8 : tie.Need-returns-8
 returns-8 c = rw (c .before .before .before .before .shape6 .given .1) (c .check-roll .ensures)
 
+enum-known-shape-7 : tie.Need-enum-known-shape-7
+enum-known-shape-7 c = search needs
+
+check-write-requires-8 : tie.Need-check-write-requires-8
+check-write-requires-8 c κs = search needs
+
+check-write-requires-9 : tie.Need-check-write-requires-9
+check-write-requires-9 c κs = search needs
+
+first-bad-requires-4 : tie.Need-first-bad-requires-4
+first-bad-requires-4 c κs = search needs
+
+returns-9 : tie.Need-returns-9
+returns-9 c =
+    rw (c .before .before .before .before .before .before .shape7 .given .1) (c .first-bad4 .ensures ∙ ap₂ commits.firstBad (c
+    .before .before .check-write8 .ensures) (c .before .check-write9 .ensures) ∙ places-more _ _ _ _)
+
 pub check-places-spec : {M : Type 1} → statement M
 check-places-spec =
     tie.close
@@ -122,10 +140,15 @@ check-places-spec =
     check-byte-place-requires
     enum-known-shape-6
     check-roll-requires
+    enum-known-shape-7
+    check-write-requires-8
+    check-write-requires-9
+    first-bad-requires-4
     returns-2
     returns-3
     returns-4
     returns-5
     returns-6
     returns-7
-    returns-8)
+    returns-8
+    returns-9)

@@ -6,12 +6,12 @@ use mathlib.Core.Path.{sym, _∙_}
 use Rattle.machine.specs.Commits as commits
 use Rattle.machine.proofs.CommitLaws.{first-good}
 
-check-place-requires : tie.Need-check-place-requires
-check-place-requires c κs = search needs
+check-target-requires : tie.Need-check-target-requires
+check-target-requires c κs = search needs
 
 returns : tie.Need-returns
 unfolding commits.placesOf
-returns c = c .check-place .ensures ∙ sym (first-good _)
+returns c = c .check-target .ensures ∙ sym (first-good _)
 
 pub check-write-spec : {M : Type 1} → statement M
-check-write-spec = tie.close (tie.spec check-place-requires returns)
+check-write-spec = tie.close (tie.spec check-target-requires returns)

@@ -26,6 +26,9 @@ enum-known-shape-6 c = search needs
 enum-known-shape-7 : tie.Need-enum-known-shape-7
 enum-known-shape-7 c = search needs
 
+enum-known-shape-8 : tie.Need-enum-known-shape-8
+enum-known-shape-8 c = search needs
+
 returns : tie.Need-returns
 returns c = search needs
 
@@ -47,6 +50,9 @@ returns-6 c = search needs
 returns-7 : tie.Need-returns-7
 returns-7 c = search needs
 
+returns-8 : tie.Need-returns-8
+returns-8 c = ap shapes.shapeThen (sym (c .before .shape8 .given .1))
+
 pub then-of-spec : {M : Type 1} → statement M
 then-of-spec =
     tie.close
@@ -58,10 +64,12 @@ then-of-spec =
     enum-known-shape-5
     enum-known-shape-6
     enum-known-shape-7
+    enum-known-shape-8
     returns
     returns-2
     returns-3
     returns-4
     returns-5
     returns-6
-    returns-7)
+    returns-7
+    returns-8)

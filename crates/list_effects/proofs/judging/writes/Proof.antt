@@ -7,7 +7,7 @@ use Rattle.machine.specs.Commits as commits
 use Rattle.list_effects.proofs.WritesLaws.{rolled-touches}
 use mathlib.Core.Path.{ap₂}
 use mathlib.Core.Bool.{_||_, or-false}
-use Rattle.list_effects.proofs.WritesLaws.{touches-more}
+use Rattle.list_effects.proofs.WritesLaws.{touches-more, touches-one}
 use denote.Ref.{now}
 
 enum-told : tie.Need-enum-told
@@ -26,7 +26,7 @@ meets-write-requires-2 : tie.Need-meets-write-requires-2
 meets-write-requires-2 c κs = search needs
 
 returns : tie.Need-returns
-returns c = rw (c .before .before .before .before .shape2 .given .1, c .before .if1 .taken) (c .meets-write2 .ensures)
+returns c = rw (c .before .before .before .before .shape2 .given .1, c .before .if1 .taken) (c .meets-write2 .ensures ∙ touches-one _ _ _ _)
 
 enum-known-shape-3 : tie.Need-enum-known-shape-3
 enum-known-shape-3 c = search needs
@@ -75,7 +75,7 @@ unfolding commits.touches
 returns-2 c = rw (c .enum-told .given .1)
 
 returns-3 : tie.Need-returns-3
-returns-3 c = rw (c .before .before .before .shape .given .1) (c .meets-write .ensures)
+returns-3 c = rw (c .before .before .before .shape .given .1) (c .meets-write .ensures ∙ touches-one _ _ _ _)
 
 returns-4 : tie.Need-returns-4
 unfolding commits.touches
@@ -84,14 +84,14 @@ returns-4 c = rw (c .before .before .before .shape2 .given .1, c .if1 .left)
 returns-5 : tie.Need-returns-5
 returns-5 c =
     rw (c .before .before .before .before .before .before .shape3 .given .1) (c .either .ensures ∙ ap₂ _||_ (c .before .before
-    .meets-write3 .ensures) (c .before .meets-write4 .ensures) ∙ touches-more _ _ _ _)
+    .meets-write3 .ensures ∙ touches-one _ _ _ _) (c .before .meets-write4 .ensures ∙ touches-one _ _ _ _) ∙ touches-more _ _ _ _)
 
 returns-6 : tie.Need-returns-6
 returns-6 c =
     let shape4 = c .before .before .before .before .before .before .before .before .before .shape4 in
-    rw (shape4 .given .1) (c .either3 .ensures ∙ ap₂ _||_ (c .before .before .before .before .meets-write5 .ensures) (c
-    .before .either2 .ensures ∙ ap₂ _||_ (c .before .before .before .meets-write6 .ensures) (c .before .before .meets-write7
-    .ensures) ∙ touches-more _ _ _ _) ∙ touches-more _ _ _ _)
+    rw (shape4 .given .1) (c .either3 .ensures ∙ ap₂ _||_ (c .before .before .before .before .meets-write5 .ensures ∙ touches-one _ _ _ _) (c
+    .before .either2 .ensures ∙ ap₂ _||_ (c .before .before .before .meets-write6 .ensures ∙ touches-one _ _ _ _) (c .before .before .meets-write7
+    .ensures ∙ touches-one _ _ _ _) ∙ touches-more _ _ _ _) ∙ touches-more _ _ _ _)
 
 returns-7 : tie.Need-returns-7
 unfolding commits.touches
@@ -103,6 +103,23 @@ returns-8 c =
     let shape6 = c .before .before .before .before .shape6 in
     rw (shape6 .given .1) (c .meets-roll .ensures ∙ rolled-touches (args .machine .order) (now (args .memory)) (shape6 .given
     .0 .0 .top .0) (shape6 .given .0 .0 .depth .0) (args .lo .0) (args .hi .0) (c .before .before .before .before .before .before .before .pre))
+
+enum-known-shape-7 : tie.Need-enum-known-shape-7
+enum-known-shape-7 c = search needs
+
+meets-write-requires-8 : tie.Need-meets-write-requires-8
+meets-write-requires-8 c κs = search needs
+
+meets-write-requires-9 : tie.Need-meets-write-requires-9
+meets-write-requires-9 c κs = search needs
+
+either-requires-4 : tie.Need-either-requires-4
+either-requires-4 c κs = search needs
+
+returns-9 : tie.Need-returns-9
+returns-9 c =
+    rw (c .before .before .before .before .before .before .shape7 .given .1) (c .either4 .ensures ∙ ap₂ _||_ (c .before .before
+    .meets-write8 .ensures ∙ touches-one _ _ _ _) (c .before .meets-write9 .ensures ∙ touches-one _ _ _ _) ∙ touches-more _ _ _ _)
 
 pub writes-spec : {M : Type 1} → statement M
 writes-spec =
@@ -128,10 +145,15 @@ writes-spec =
     meets-requires
     enum-known-shape-6
     meets-roll-requires
+    enum-known-shape-7
+    meets-write-requires-8
+    meets-write-requires-9
+    either-requires-4
     returns-2
     returns-3
     returns-4
     returns-5
     returns-6
     returns-7
-    returns-8)
+    returns-8
+    returns-9)

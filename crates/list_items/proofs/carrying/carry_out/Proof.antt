@@ -16,7 +16,7 @@ intent-of-requires : tie.Need-intent-of-requires
 intent-of-requires c κs =
     let args = c .before .before .before .before .before .before .before .before .args in let pre =
     c .before .before .before .before .before .before .before .before .pre in (
-      omega (arith, pre .0 .least),
+      omega (arith, pre .0 .0 .least),
       (
         c .before .shape-of .ensures .fits,
         (
@@ -46,9 +46,9 @@ perform-requires : tie.Need-perform-requires
 perform-requires c κs =
     let args = c .before .before .before .before .before .before .before .before .before .before .before .args in let pre =
     c .before .before .before .before .before .before .before .before .before .before .before .pre in (
-      pre .0 .whole,
+      pre .0 .1,
       (
-        omega (arith, pre .0 .least),
+        omega (arith, pre .0 .0 .least),
         c .before .before .before .before .shape-of .ensures .fits,
       ),
     )
@@ -61,7 +61,7 @@ returns c =
     let args = c .before .before .before .before .before .before .before .before .before .before .before .before .before .before .args in let pre =
     c .before .before .before .before .before .before .before .before .before .before .before .before .before .before .pre in
     c .before .before .perform .ensures ∙ ap (leaves (now (args .memory))) (carry-is (args .kinds .now) (args .operands .now) (args .table .now) (args .image)
-    (pre .1 .0) (args .machine) (now (args .memory)) (args .s) (pre .1 .1) (pre .0)
+    (pre .1 .0) (args .machine) (now (args .memory)) (args .s) (pre .1 .1) (pre .0 .0)
     (c .before .before .before .before .before .before .before .shape-of .result)
     (c .before .before .before .before .before .before .before .shape-of .ensures .effect) (c .before .before .before .before .before .intent-of .result)
     (c .before .before .before .before .before .intent-of .ensures) (c .before .before .before .before .registers-at .result)

@@ -15,6 +15,9 @@ check-shape-requires c κs = search needs
 enum-known-checked : tie.Need-enum-known-checked
 enum-known-checked c = search needs
 
+tell-requires : tie.Need-tell-requires
+tell-requires c κs = search needs
+
 throw-way-requires : tie.Need-throw-way-requires
 throw-way-requires c κs = search needs
 
@@ -45,12 +48,12 @@ intent-then-requires c κs = search needs
 
 returns-2 : tie.Need-returns-2
 returns-2 c =
-    let args = c .before .before .before .before .before .before .before .before .before .args in
+    let args = c .before .before .before .before .before .before .before .before .before .before .args in
     let table = args .table .now in
     means-throw (args .machine) (now (args .memory)) (entryBelow table (args .image .base .0) (rows table)) (args .image .base .0) (args .image .cells .0) (rows table)
-    (args .s .item .0) (immediateIn table (args .s .item .0)) (args .s .sp) (args .shape) (c .before .before .before .before .check-shape .result)
-    (c .before .before .before .before .check-shape .ensures)
-    _ (c .before .before .checked .given .1) (c .throw-way .result) (c .throw-way .ensures)
+    (args .s .item .0) (immediateIn table (args .s .item .0)) (args .s .sp) (args .shape) (c .before .before .before .before .before .check-shape .result)
+    (c .before .before .before .before .before .check-shape .ensures)
+    _ (c .before .before .before .checked .given .1) (c .before .tell .result) (c .before .tell .ensures) (c .throw-way .result) (c .throw-way .ensures)
 
 returns-3 : tie.Need-returns-3
 returns-3 c =
@@ -70,6 +73,7 @@ intent-of-spec =
     (tie.spec
     check-shape-requires
     enum-known-checked
+    tell-requires
     throw-way-requires
     enum-told
     address-at-requires

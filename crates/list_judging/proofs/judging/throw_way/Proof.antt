@@ -9,8 +9,8 @@ use Rattle.list_judging.proofs.judging.throw_way.Tie as tie
 subtract-requires : tie.Need-subtract-requires
 subtract-requires c κs = search needs
 
-check-place-requires : tie.Need-check-place-requires
-check-place-requires c κs = search needs
+check-data-requires : tie.Need-check-data-requires
+check-data-requires c κs = search needs
 
 enum-told : tie.Need-enum-told
 enum-told c = search needs
@@ -22,8 +22,8 @@ returns : tie.Need-returns
 returns c =
     let args = c .before .before .before .before .before .before .before .before .args in
     let table = args .table .now in
-    push-bad (args .machine) (now (args .memory)) (entryBelow table (args .image .base .0) (rows table)) (args .image .base .0) (args .image .cells .0) (args .sp) (args .f)
-    (c .before .before .before .subtract .result) (c .before .before .before .subtract .ensures) (c .before .before .check-place .result) (c .before .before .check-place .ensures)
+    push-bad (args .machine) (now (args .memory)) (entryBelow table (args .image .base .0) (rows table)) (args .image .base .0) (args .image .cells .0) (args .sp) (args .e)
+    (c .before .before .before .subtract .result) (c .before .before .before .subtract .ensures) (c .before .before .check-data .result) (c .before .before .check-data .ensures .1)
     _ (c .enum-told2 .given .1)
 
 address-at-requires : tie.Need-address-at-requires
@@ -36,14 +36,14 @@ returns-2 : tie.Need-returns-2
 returns-2 c =
     let args = c .before .before .before .before .before .before .before .before .before .before .before .args in
     let table = args .table .now in
-    push-meets (args .machine) (now (args .memory)) (entryBelow table (args .image .base .0) (rows table)) (args .image .base .0) (args .image .cells .0) (args .sp) (args .f)
+    push-meets (args .machine) (now (args .memory)) (entryBelow table (args .image .base .0) (rows table)) (args .image .base .0) (args .image .cells .0) (args .sp) (args .e)
     (c .before .before .before .before .before .before .subtract .result) (c .before .before .before .before .before .before .subtract .ensures)
-    (c .before .before .before .before .before .check-place .result) (c .before .before .before .before .before .check-place .ensures)
+    (c .before .before .before .before .before .check-data .result) (c .before .before .before .before .before .check-data .ensures .1)
     (c .before .before .before .enum-told .given .1) (c .before .before .address-at .result) (c .before .before .address-at .ensures) (c .before .meets .result)
     (c .before .meets .ensures) (c .if1 .taken)
 
-fault-code-requires : tie.Need-fault-code-requires
-fault-code-requires c κs = search needs
+code-of-requires : tie.Need-code-of-requires
+code-of-requires c κs = search needs
 
 handler-way-requires : tie.Need-handler-way-requires
 handler-way-requires c κs = search needs
@@ -52,17 +52,17 @@ returns-3 : tie.Need-returns-3
 returns-3 c =
     let args = c .before .before .before .before .before .before .before .before .before .before .before .before .before .before .before .before .args in
     let table = args .table .now in
-    push-there (args .machine) (now (args .memory)) (entryBelow table (args .image .base .0) (rows table)) (args .image .base .0) (args .image .cells .0) (args .sp) (args .f)
+    push-there (args .machine) (now (args .memory)) (entryBelow table (args .image .base .0) (rows table)) (args .image .base .0) (args .image .cells .0) (args .sp) (args .e)
     (c .before .before .before .before .before .before .before .before .before .before .before .subtract .result)
     (c .before .before .before .before .before .before .before .before .before .before .before .subtract .ensures)
-    (c .before .before .before .before .before .before .before .before .before .before .check-place .result)
-    (c .before .before .before .before .before .before .before .before .before .before .check-place .ensures)
+    (c .before .before .before .before .before .before .before .before .before .before .check-data .result)
+    (c .before .before .before .before .before .before .before .before .before .before .check-data .ensures .1)
     (c .before .before .before .before .before .before .before .before .enum-told .given .1)
     (c .before .before .before .before .before .before .before .address-at .result)
     (c .before .before .before .before .before .before .before .address-at .ensures) (c .before .before .before .before .before .before .meets .result)
     (c .before .before .before .before .before .before .meets .ensures)
-    (c .before .before .before .before .before .if1 .left) (c .handler-way .result) (c .before .fault-code .result) (c .handler-way .ensures)
-    (c .before .before .if2 .taken) (c .before .fault-code .ensures)
+    (c .before .before .before .before .before .if1 .left) (c .handler-way .result) (c .before .code-of .result) (c .handler-way .ensures)
+    (c .before .before .if2 .taken) (c .before .code-of .ensures)
 
 load-requires : tie.Need-load-requires
 load-requires c κs = search needs
@@ -74,11 +74,11 @@ returns-4 : tie.Need-returns-4
 returns-4 c =
     let args = c .before .before .before .before .before .before .before .before .before .before .before .before .before .before .before .before .args in
     let table = args .table .now in
-    push-elsewhere (args .machine) (now (args .memory)) (entryBelow table (args .image .base .0) (rows table)) (args .image .base .0) (args .image .cells .0) (args .sp) (args .f)
+    push-elsewhere (args .machine) (now (args .memory)) (entryBelow table (args .image .base .0) (rows table)) (args .image .base .0) (args .image .cells .0) (args .sp) (args .e)
     (c .before .before .before .before .before .before .before .before .before .before .before .subtract .result)
     (c .before .before .before .before .before .before .before .before .before .before .before .subtract .ensures)
-    (c .before .before .before .before .before .before .before .before .before .before .check-place .result)
-    (c .before .before .before .before .before .before .before .before .before .before .check-place .ensures)
+    (c .before .before .before .before .before .before .before .before .before .before .check-data .result)
+    (c .before .before .before .before .before .before .before .before .before .before .check-data .ensures .1)
     (c .before .before .before .before .before .before .before .before .enum-told .given .1)
     (c .before .before .before .before .before .before .before .address-at .result)
     (c .before .before .before .before .before .before .before .address-at .ensures) (c .before .before .before .before .before .before .meets .result)
@@ -90,14 +90,14 @@ throw-way-spec =
     tie.close
     (tie.spec
     subtract-requires
-    check-place-requires
+    check-data-requires
     enum-told
     enum-told-2
     returns
     address-at-requires
     meets-requires
     returns-2
-    fault-code-requires
+    code-of-requires
     handler-way-requires
     returns-3
     load-requires

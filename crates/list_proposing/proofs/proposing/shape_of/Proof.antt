@@ -53,7 +53,7 @@ propose-from-01-requires : tie.Need-propose-from-01-requires
 propose-from-01-requires c κs =
     let args = c .before .before .before .before .before .before .before .before .before .before .before .before .before .before .args in let pre =
     c .before .before .before .before .before .before .before .before .before .before .before .before .before .before .pre in (
-      pre .0 .whole,
+      pre .0 .1,
       (plain-some (getD
           (args .kinds .now) (args .s .item .0) 0) (sym (c .before .before .before .class-of .ensures) ∙ c .before .enum-told .given .1)),
     )

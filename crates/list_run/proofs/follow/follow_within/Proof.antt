@@ -2,6 +2,7 @@
 use mathlib.Core.Path.{sym, _∙_}
 use native.Mathlib.Omega.{arith}
 use lib.ListN.{length}
+use Rattle.machine.proofs.SpanLaws.{unbounded-fits}
 use Rattle.pack_prepare.proofs.Checking.{items-most}
 use Rattle.list_run.proofs.Following.{begin-lent, begin-checked, begin-refused, begin-passed}
 use borrow.Author.Needs.{needs}
@@ -19,12 +20,18 @@ enum-told c = search needs
 
 mul-size : tie.Need-mul-size
 mul-size c =
-    let args = c .before .before .before .before .before .before .args in omega (
+    let args = c .before .before .before .before .before .before .args in
+    let e = sym (c .before .before .judge-begin .ensures) ∙ c .enum-told .given .1 in omega (
       arith,
-      items-most (args .kinds .now) (args .operands .now) (begin-checked
-          (length (args .memory .now)) (args .order) (args .kinds .now) (args .operands .now) (sym (c .before .before .judge-begin .ensures) ∙
-          c .enum-told .given .1)),
+      items-most (args .kinds .now) (args .operands .now)
+          (begin-checked (length (args .memory .now)) (args .order) (args .kinds .now) (args .operands .now) e),
     )
+
+unbounded-requires : tie.Need-unbounded-requires
+unbounded-requires c κs =
+    let args = c .before .before .before .before .before .before .args in
+    let e = sym (c .before .before .judge-begin .ensures) ∙ c .enum-told .given .1 in
+    begin-lent (length (args .memory .now)) (args .order) (args .kinds .now) (args .operands .now) e .most
 
 sub-follow-checked : tie.Need-sub-follow-checked
 sub-follow-checked c = search needs
@@ -34,40 +41,41 @@ part-table-start c = search needs
 
 part-table-end : tie.Need-part-table-end
 part-table-end c =
-    let args = c .before .before .before .before .before .before .before .args in omega (
+    let args = c .before .before .before .before .before .before .before .before .args in
+    let e = sym (c .before .before .before .before .judge-begin .ensures) ∙ c .before .before .enum-told .given .1 in omega (
       arith,
       items-most (args .kinds .now) (args .operands .now)
-          (begin-checked (length (args .memory .now)) (args .order) (args .kinds .now) (args .operands .now) (sym (c .before .before .before .judge-begin .ensures) ∙
-          c .before .enum-told .given .1)),
+          (begin-checked (length (args .memory .now)) (args .order) (args .kinds .now) (args .operands .now) e),
     )
 
 follow-checked-requires : tie.Need-follow-checked-requires
 follow-checked-requires c κs =
-    let args = c .before .before .before .before .before .before .before .before .args in (
-      begin-lent (length (args .memory .now)) (args .order)
-          (args .kinds .now) (args .operands .now) (sym (c .before .before .before .before .judge-begin .ensures) ∙ c .before .before .enum-told .given .1),
-      (
-        begin-checked (length (args .memory .now)) (args .order) (args .kinds .now) (args .operands .now) (sym
-            (c .before .before .before .before .judge-begin .ensures) ∙ c .before .before .enum-told .given .1),
-        search needs,
-      ),
+    let args = c .before .before .before .before .before .before .before .before .before .args in
+    let e = sym (c .before .before .before .before .before .judge-begin .ensures) ∙ c .before .before .before .enum-told .given .1 in
+    let lent = begin-lent (length (args .memory .now)) (args .order) (args .kinds .now) (args .operands .now) e in (
+      (lent, rw (c .before .before .unbounded .ensures) (unbounded-fits (args .order) (length (args .memory .now)) lent)),
+      (begin-checked (length (args .memory .now)) (args .order) (args .kinds .now) (args .operands .now) e, search needs),
     )
 
 returns : tie.Need-returns
 returns c =
-    let args = c .before .before .before .before .before .before .before .args in begin-refused (args .room) (args .order) (args .kinds .now)
-    (args .operands .now) (args .base .0) (args .memory .now) (args .start) (args .items) _ (sym (c .before .before .before .judge-begin .ensures) ∙
-    c .before .r .given .1)
+    let args = c .before .before .before .before .before .before .before .args in
+    begin-refused (args .room) (args .order) (args .kinds .now)
+    (args .operands .now) (args .base .0) (args .memory .now) (args .start) (args .items) _
+    (sym (c .before .before .before .judge-begin .ensures) ∙ c .before .r .given .1)
 
 same-length : tie.Need-same-length
 same-length c = search needs
 
 returns-2 : tie.Need-returns-2
 returns-2 c =
-    let args = c .before .before .before .before .before .before .before .before .before .before .before .before .args in begin-passed (args .room)
-    (args .order) (args .kinds .now) (args .operands .now) (args .base .0) (args .memory .now) (args .start) (args .items) _ (sym
-    (c .before .before .before .before .before .before .before .before .judge-begin .ensures) ∙
-    c .before .before .before .before .before .before .enum-told .given .1) (c .before .before .before .follow-checked .ensures)
+    let args = c .before .before .before .before .before .before .before .before .before .before .before .before .before .args in
+    let machine = c .before .before .before .before .before .before .unbounded .ensures in
+    begin-passed (args .room)
+    (args .order) (args .kinds .now) (args .operands .now) (args .base .0) (args .memory .now) (args .start) (args .items) _
+    (sym (c .before .before .before .before .before .before .before .before .before .judge-begin .ensures)
+    ∙ c .before .before .before .before .before .before .before .enum-told .given .1)
+    (rw machine at (c .before .before .before .follow-checked .ensures))
 
 pub follow-within-spec : {M : Type 1} → statement M
 follow-within-spec =
@@ -77,6 +85,7 @@ follow-within-spec =
     enum-known-r
     enum-told
     mul-size
+    unbounded-requires
     sub-follow-checked
     part-table-start
     part-table-end

@@ -16,6 +16,9 @@ next-requires c κs = search needs
 enum-known-outcome : tie.Need-enum-known-outcome
 enum-known-outcome c = search needs
 
+tell-requires : tie.Need-tell-requires
+tell-requires c κs = search needs
+
 throw-requires : tie.Need-throw-requires
 throw-requires c κs = search needs
 
@@ -44,7 +47,8 @@ same-length-2 c = search needs
 
 returns-3 : tie.Need-returns-3
 unfolding throws.finishOf
-returns-3 c = rw (c .before .before .before .before .before .outcome .given .1) (c .before .before .throw .ensures)
+returns-3 c =
+    rw (c .before .before .before .before .before .before .outcome .given .1, ← c .before .before .before .tell .ensures) (c .before .before .throw .ensures)
 
 returns-4 : tie.Need-returns-4
 unfolding throws.finishOf
@@ -65,6 +69,7 @@ finish-spec =
     enum-told-2
     next-requires
     enum-known-outcome
+    tell-requires
     throw-requires
     enum-known-outcome-2
     enum-told-3

@@ -17,6 +17,9 @@ enum-told c = search needs
 fault-in-requires : tie.Need-fault-in-requires
 fault-in-requires c κs = search needs
 
+tell-requires : tie.Need-tell-requires
+tell-requires c κs = search needs
+
 throw-requires : tie.Need-throw-requires
 throw-requires c κs = search needs
 
@@ -25,7 +28,12 @@ same-length c = search needs
 
 returns : tie.Need-returns
 unfolding throws.nextOf
-returns c = rw (sym (c .before .before .before .before .before .before .before .fetch .ensures) ∙ c .before .before .before .fault-in .ensures) (c .before .before .throw .ensures)
+returns c =
+    rw (
+      sym (c .before .before .before .before .before .before .before .before .fetch .ensures .0) ∙ c .before .before .before .before .fault-in .ensures,
+      ← c .before .before .before .tell .ensures,
+    )
+    (c .before .before .throw .ensures)
 
 enter-requires : tie.Need-enter-requires
 enter-requires c κs = search needs
@@ -35,7 +43,7 @@ same-length-2 c = search needs
 
 returns-2 : tie.Need-returns-2
 unfolding throws.nextOf
-returns-2 c = rw (sym (c .before .before .before .before .fetch .ensures) ∙ c .before .before .got .given .1, c .enter .ensures)
+returns-2 c = rw (sym (c .before .before .before .before .fetch .ensures .0) ∙ c .before .before .got .given .1, c .enter .ensures)
 
 pub next-spec : {M : Type 1} → statement M
 next-spec =
@@ -45,6 +53,7 @@ next-spec =
     enum-known-got
     enum-told
     fault-in-requires
+    tell-requires
     throw-requires
     same-length
     returns

@@ -1,16 +1,15 @@
--- `note` meets its contract, by the fault.
 use borrow.Author.Needs.{needs}
 use Rattle.machine.proofs.ending.note.Statement.{statement}
 use Rattle.machine.proofs.ending.note.Tie as tie
 
-enum-known-f : tie.Need-enum-known-f
-enum-known-f c = search needs
+enum-known-e : tie.Need-enum-known-e
+enum-known-e c = search needs
 
 store-requires : tie.Need-store-requires
 store-requires c κs = search needs
 
-enum-known-f-2 : tie.Need-enum-known-f-2
-enum-known-f-2 c = search needs
+enum-known-e-2 : tie.Need-enum-known-e-2
+enum-known-e-2 c = search needs
 
 store-requires-2 : tie.Need-store-requires-2
 store-requires-2 c κs = search needs
@@ -24,17 +23,29 @@ enum-told-2 c = search needs
 enum-told-3 : tie.Need-enum-told-3
 enum-told-3 c = search needs
 
+enum-told-4 : tie.Need-enum-told-4
+enum-told-4 c = search needs
+
+enum-told-5 : tie.Need-enum-told-5
+enum-told-5 c = search needs
+
+enum-told-6 : tie.Need-enum-told-6
+enum-told-6 c = search needs
+
+enum-told-7 : tie.Need-enum-told-7
+enum-told-7 c = search needs
+
 same-length : tie.Need-same-length
 same-length c = search needs
 
 returns : tie.Need-returns
-returns c = rw (c .before .before .before .before .before .f .given .1) (c .before .before .store .ensures)
+returns c = rw (c .before .before .before .before .before .e .given .1) (c .before .before .store .ensures)
 
 same-length-2 : tie.Need-same-length-2
 same-length-2 c = search needs
 
 returns-2 : tie.Need-returns-2
-returns-2 c = rw (c .before .before .before .before .before .f2 .given .1) (c .before .before .store2 .ensures)
+returns-2 c = rw (c .before .before .before .before .before .e2 .given .1) (c .before .before .store2 .ensures)
 
 returns-3 : tie.Need-returns-3
 returns-3 c = search needs
@@ -45,21 +56,41 @@ returns-4 c = search needs
 returns-5 : tie.Need-returns-5
 returns-5 c = search needs
 
+returns-6 : tie.Need-returns-6
+returns-6 c = search needs
+
+returns-7 : tie.Need-returns-7
+returns-7 c = search needs
+
+returns-8 : tie.Need-returns-8
+returns-8 c = search needs
+
+returns-9 : tie.Need-returns-9
+returns-9 c = search needs
+
 pub note-spec : {M : Type 1} → statement M
 note-spec =
     tie.close
     (tie.spec
-    enum-known-f
+    enum-known-e
     store-requires
-    enum-known-f-2
+    enum-known-e-2
     store-requires-2
     enum-told
     enum-told-2
     enum-told-3
+    enum-told-4
+    enum-told-5
+    enum-told-6
+    enum-told-7
     same-length
     returns
     same-length-2
     returns-2
     returns-3
     returns-4
-    returns-5)
+    returns-5
+    returns-6
+    returns-7
+    returns-8
+    returns-9)

@@ -13,8 +13,8 @@ use mathlib.Core.Path.{sym, _∙_}
 subtract-requires : tie.Need-subtract-requires
 subtract-requires c κs = search needs
 
-check-place-requires : tie.Need-check-place-requires
-check-place-requires c κs = search needs
+check-data-requires : tie.Need-check-data-requires
+check-data-requires c κs = search needs
 
 enum-told : tie.Need-enum-told
 enum-told c = search needs
@@ -24,13 +24,13 @@ enum-told-2 c = search needs
 
 returns : tie.Need-returns
 unfolding throws.throwOf
-returns c = rw (← c .before .before .before .subtract .ensures, sym (c .before .before .check-place .ensures) ∙ c .enum-told2 .given .1)
+returns c = rw (← c .before .before .before .subtract .ensures, sym (c .before .before .check-data .ensures .1) ∙ c .enum-told2 .given .1)
 
 note-requires : tie.Need-note-requires
 note-requires c κs = search needs
 
-fault-code-requires : tie.Need-fault-code-requires
-fault-code-requires c κs = search needs
+code-of-requires : tie.Need-code-of-requires
+code-of-requires c κs = search needs
 
 store-requires : tie.Need-store-requires
 store-requires c κs =
@@ -39,8 +39,8 @@ store-requires c κs =
       c .before .before .before .before .note .kept .1 .0,
       room-place (a .machine) Push (length (now (a .memory)))
           (c .before .before .before .before .before .before .before .before .before .subtract .result)
-          (c .before .before .before .before .before .before .before .before .before .before .before .pre .0) (sym
-          (c .before .before .before .before .before .before .before .before .check-place .ensures) ∙
+          (c .before .before .before .before .before .before .before .before .before .before .before .pre .0 .whole) (sym
+          (c .before .before .before .before .before .before .before .before .check-data .ensures .1) ∙
           c .before .before .before .before .before .before .enum-told .given .1),
     )
 
@@ -55,13 +55,13 @@ unfolding throws.throwOf
 returns-2 c =
     rw (
       ← c .before .before .before .before .before .before .before .before .before .before .before .before .before .before .before .before .subtract .ensures,
-      sym (c .before .before .before .before .before .before .before .before .before .before .before .before .before .before .before .check-place .ensures) ∙
+      sym (c .before .before .before .before .before .before .before .before .before .before .before .before .before .before .before .check-data .ensures .1) ∙
           c .before .before .before .before .before .before .before .before .before .before .before .before .before .enum-told .given .1,
     ) (rw (
       ←
           c .before .before .before .before .before .before .before .before .before .before .before .note .ensures,
       ←
-          c .before .before .before .before .before .before .before .fault-code .ensures,
+          c .before .before .before .before .before .before .before .code-of .ensures,
       ← c .before .before .before .before .before .before .store .ensures,
     )
     (c .before .before .handle .ensures))
@@ -71,12 +71,12 @@ throw-spec =
     tie.close
     (tie.spec
     subtract-requires
-    check-place-requires
+    check-data-requires
     enum-told
     enum-told-2
     returns
     note-requires
-    fault-code-requires
+    code-of-requires
     store-requires
     handle-requires
     same-length

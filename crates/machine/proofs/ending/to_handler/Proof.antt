@@ -14,13 +14,13 @@ enum-told : tie.Need-enum-told
 enum-told c = search needs
 
 returns : tie.Need-returns
-returns c = rw (sym (c .before .before .fetch .ensures) ∙ c .enum-told .given .1)
+returns c = rw (sym (c .before .before .fetch .ensures .0) ∙ c .enum-told .given .1)
 
 enter-requires : tie.Need-enter-requires
 enter-requires c κs = search needs
 
 returns-2 : tie.Need-returns-2
-returns-2 c = rw (sym (c .before .before .before .before .fetch .ensures) ∙ c .before .before .got .given .1, c .enter .ensures)
+returns-2 c = rw (sym (c .before .before .before .before .fetch .ensures .0) ∙ c .before .before .got .given .1, c .enter .ensures)
 
 pub to-handler-spec : {M : Type 1} → statement M
 to-handler-spec =

@@ -6,8 +6,8 @@ use Rattle.instruction.specs.Plain as plain
 use Rattle.operators.proofs.Reading.{first-fails, first-read}
 use mathlib.Core.Path.{_∙_, sym, ap}
 
-fetch-requires : tie.Need-fetch-requires
-fetch-requires c κs = search needs
+fetch-data-requires : tie.Need-fetch-data-requires
+fetch-data-requires c κs = search needs
 
 enum-known-got : tie.Need-enum-known-got
 enum-known-got c = search needs
@@ -20,7 +20,7 @@ fail-one-requires c κs = (_, c .enum-told .given .1)
 
 returns : tie.Need-returns
 unfolding plain.plainOf
-returns c = c .fail-one .ensures ∙ first-fails _ _ _ _ _ (c .before .before .before .fetch .ensures) _ (c .before .enum-told .given .1)
+returns c = c .fail-one .ensures ∙ first-fails _ _ _ _ _ (c .before .before .before .fetch-data .ensures) _ (c .before .enum-told .given .1)
 
 multiply-requires : tie.Need-multiply-requires
 multiply-requires c κs = search needs
@@ -33,13 +33,13 @@ unfolding plain.plainOf
 returns-2 c =
     (c .replace .ensures ∙ ap (plain.replaces (c .before .before .before .before .before .before .before .args .r .sp)
     (c .before .before .before .before .before .before .before .args .r .rp)) (c .before .multiply .ensures))
-    ∙ sym (first-read _ _ _ _ _ (c .before .before .before .before .before .fetch .ensures) _ (c .before .before .before .got .given .1))
+    ∙ sym (first-read _ _ _ _ _ (c .before .before .before .before .before .fetch-data .ensures) _ (c .before .before .before .got .given .1))
 
 pub cells-spec : {M : Type 1} → statement M
 cells-spec =
     tie.close
     (tie.spec
-    fetch-requires
+    fetch-data-requires
     enum-known-got
     enum-told
     fail-one-requires

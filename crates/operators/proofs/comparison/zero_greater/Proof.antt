@@ -7,8 +7,8 @@ use Rattle.operators.proofs.Reading.{first-fails, first-read}
 use Rattle.cell.specs.Number as number
 use mathlib.Core.Path.{_∙_, sym, ap}
 
-fetch-requires : tie.Need-fetch-requires
-fetch-requires c κs = search needs
+fetch-data-requires : tie.Need-fetch-data-requires
+fetch-data-requires c κs = search needs
 
 enum-known-got : tie.Need-enum-known-got
 enum-known-got c = search needs
@@ -21,7 +21,7 @@ fail-one-requires c κs = (_, c .enum-told .given .1)
 
 returns : tie.Need-returns
 unfolding plain.plainOf
-returns c = c .fail-one .ensures ∙ first-fails _ _ _ _ _ (c .before .before .before .fetch .ensures) _ (c .before .enum-told .given .1)
+returns c = c .fail-one .ensures ∙ first-fails _ _ _ _ _ (c .before .before .before .fetch-data .ensures) _ (c .before .enum-told .given .1)
 
 is-less-requires : tie.Need-is-less-requires
 is-less-requires c κs = search needs
@@ -38,13 +38,13 @@ returns-2 c =
     (c .replace .ensures ∙ ap (plain.replaces (c .before .before .before .before .before .before .before .before .args .r .sp)
     (c .before .before .before .before .before .before .before .before .args .r .rp)) (c .before .flag .ensures ∙ ap number.flag
     (c .before .before .is-less .ensures)))
-    ∙ sym (first-read _ _ _ _ _ (c .before .before .before .before .before .before .fetch .ensures) _ (c .before .before .before .before .got .given .1))
+    ∙ sym (first-read _ _ _ _ _ (c .before .before .before .before .before .before .fetch-data .ensures) _ (c .before .before .before .before .got .given .1))
 
 pub zero-greater-spec : {M : Type 1} → statement M
 zero-greater-spec =
     tie.close
     (tie.spec
-    fetch-requires
+    fetch-data-requires
     enum-known-got
     enum-told
     fail-one-requires

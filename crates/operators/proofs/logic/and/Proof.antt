@@ -6,8 +6,8 @@ use Rattle.instruction.specs.Plain as plain
 use Rattle.operators.proofs.Reading.{first-fails, second-fails, both-read}
 use mathlib.Core.Path.{_∙_, sym}
 
-fetch-requires : tie.Need-fetch-requires
-fetch-requires c κs = search needs
+fetch-data-requires : tie.Need-fetch-data-requires
+fetch-data-requires c κs = search needs
 
 enum-known-got : tie.Need-enum-known-got
 enum-known-got c = search needs
@@ -20,13 +20,13 @@ fail-one-requires c κs = (_, c .enum-told .given .1)
 
 returns : tie.Need-returns
 unfolding plain.plainOf
-returns c = c .fail-one .ensures ∙ first-fails _ _ _ _ _ (c .before .before .before .fetch .ensures) _ (c .before .enum-told .given .1)
+returns c = c .fail-one .ensures ∙ first-fails _ _ _ _ _ (c .before .before .before .fetch-data .ensures) _ (c .before .enum-told .given .1)
 
 add-requires : tie.Need-add-requires
 add-requires c κs = search needs
 
-fetch-requires-2 : tie.Need-fetch-requires-2
-fetch-requires-2 c κs = search needs
+fetch-data-requires-2 : tie.Need-fetch-data-requires-2
+fetch-data-requires-2 c κs = search needs
 
 enum-known-got2 : tie.Need-enum-known-got2
 enum-known-got2 c = search needs
@@ -41,9 +41,9 @@ returns-2 : tie.Need-returns-2
 unfolding plain.plainOf
 returns-2 c =
     c .fail-one2 .ensures
-    ∙ second-fails _ _ _ _ _ (c .before .before .before .before .before .before .before .before .fetch .ensures) _
+    ∙ second-fails _ _ _ _ _ (c .before .before .before .before .before .before .before .before .fetch-data .ensures) _
     (c .before .before .before .before .before .before .got .given .1) _ (c .before .before .before .before .add .ensures) _
-    (c .before .before .before .fetch2 .ensures) _ (c .before .enum-told2 .given .1)
+    (c .before .before .before .fetch-data2 .ensures) _ (c .before .enum-told2 .given .1)
 
 reduce-requires : tie.Need-reduce-requires
 reduce-requires c κs = search needs
@@ -53,21 +53,21 @@ unfolding plain.plainOf
 returns-3 c =
     (c .reduce .ensures)
     ∙ sym
-    (both-read _ _ _ _ _ (c .before .before .before .before .before .before .before .before .before .fetch .ensures) _
+    (both-read _ _ _ _ _ (c .before .before .before .before .before .before .before .before .before .fetch-data .ensures) _
     (c .before .before .before .before .before .before .before .got .given .1) _ (c .before .before .before .before .before .add .ensures) _
-    (c .before .before .before .before .fetch2 .ensures) _ (c .before .before .got2 .given .1))
+    (c .before .before .before .before .fetch-data2 .ensures) _ (c .before .before .got2 .given .1))
 
 pub and-spec : {M : Type 1} → statement M
 and-spec =
     tie.close
     (tie.spec
-    fetch-requires
+    fetch-data-requires
     enum-known-got
     enum-told
     fail-one-requires
     returns
     add-requires
-    fetch-requires-2
+    fetch-data-requires-2
     enum-known-got2
     enum-told-2
     fail-one-requires-2

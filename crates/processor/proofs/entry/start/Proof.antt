@@ -2,6 +2,7 @@
 use borrow.Author.Needs.{needs}
 use Rattle.processor.proofs.entry.start.Statement.{statement}
 use Rattle.processor.proofs.entry.start.Tie as tie
+use Rattle.machine.proofs.SpanLaws.{unbounded-fits}
 use Rattle.processor.proofs.EntryLaws.{passed}
 use Rattle.processor.specs.Answers as answers
 use denote.Ref.{now}
@@ -17,10 +18,15 @@ enum-known-n c = search needs
 enum-told : tie.Need-enum-told
 enum-told c = search needs
 
+unbounded-requires : tie.Need-unbounded-requires
+unbounded-requires c κs =
+    passed (length (now (c .before .before .before .before .args .memory))) (c .before .before .before .before .args .order) (sym (c .before .before .judge-machine .ensures) ∙ c .enum-told .given .1) .most
+
 begin-requires : tie.Need-begin-requires
 begin-requires c κs =
-    let p = passed (length (now (c .before .before .before .before .before .args .memory))) (c .before .before .before .before .before .args .order) (sym
-    (c .before .before .before .judge-machine .ensures) ∙ c .before .enum-told .given .1) in (p .whole, (p .least, p .most))
+    let a = c .before .before .before .before .before .before .args in
+    let p = passed (length (now (a .memory))) (a .order) (sym (c .before .before .before .before .judge-machine .ensures) ∙ c .before .before .enum-told .given .1) in
+    (rw (c .before .unbounded .ensures) (unbounded-fits (a .order) (length (now (a .memory))) p), (p .least, p .most))
 
 started-as-requires : tie.Need-started-as-requires
 started-as-requires c κs = search needs
@@ -36,9 +42,10 @@ returns-2 : tie.Need-returns-2
 unfolding answers.startAnswer
 returns-2 c =
     rw (
-      sym (c .before .before .before .before .before .before .before .judge-machine .ensures) ∙
-          c .before .before .before .before .before .enum-told .given .1,
+      sym (c .before .before .before .before .before .before .before .before .judge-machine .ensures) ∙
+          c .before .before .before .before .before .before .enum-told .given .1,
       c .started-as .ensures,
+      ← c .before .before .before .before .before .unbounded .ensures,
       ← c .before .before .before .begin .ensures,
     )
 
@@ -49,6 +56,7 @@ start-spec =
     judge-machine-requires
     enum-known-n
     enum-told
+    unbounded-requires
     begin-requires
     started-as-requires
     returns

@@ -5,8 +5,8 @@ use Rattle.storage.proofs.memory.c_store.Tie as tie
 use Rattle.instruction.specs.Plain as plain
 use mathlib.Core.Path.{_∙_, sym, ap}
 
-fetch-requires : tie.Need-fetch-requires
-fetch-requires c κs = search needs
+fetch-data-requires : tie.Need-fetch-data-requires
+fetch-data-requires c κs = search needs
 
 enum-known-got : tie.Need-enum-known-got
 enum-known-got c = search needs
@@ -19,13 +19,13 @@ fail-byte-requires c κs = (_, c .enum-told .given .1)
 
 returns : tie.Need-returns
 unfolding plain.plainOf
-returns c = simp (sym (c .before .before .before .fetch .ensures) ∙ c .before .enum-told .given .1) (c .fail-byte .ensures ∙ ap plain.failed (c .before .enum-told .given .1))
+returns c = simp (sym (c .before .before .before .fetch-data .ensures) ∙ c .before .enum-told .given .1) (c .fail-byte .ensures ∙ ap plain.failed (c .before .enum-told .given .1))
 
 add-requires : tie.Need-add-requires
 add-requires c κs = search needs
 
-fetch-requires-2 : tie.Need-fetch-requires-2
-fetch-requires-2 c κs = search needs
+fetch-data-requires-2 : tie.Need-fetch-data-requires-2
+fetch-data-requires-2 c κs = search needs
 
 enum-known-got2 : tie.Need-enum-known-got2
 enum-known-got2 c = search needs
@@ -40,10 +40,10 @@ returns-2 : tie.Need-returns-2
 unfolding plain.plainOf
 returns-2 c =
     simp (
-      sym (c .before .before .before .before .before .before .before .before .fetch .ensures) ∙
+      sym (c .before .before .before .before .before .before .before .before .fetch-data .ensures) ∙
           c .before .before .before .before .before .before .got .given .1,
       rw (c .before .before .before .before .add .ensures) at (sym
-          (c .before .before .before .fetch2 .ensures) ∙ c .before .enum-told2 .given .1),
+          (c .before .before .before .fetch-data2 .ensures) ∙ c .before .enum-told2 .given .1),
     ) (c .fail-byte2 .ensures ∙ ap plain.failed
     (c .before .enum-told2 .given .1))
 
@@ -57,10 +57,10 @@ returns-3 : tie.Need-returns-3
 unfolding plain.plainOf
 returns-3 c =
     simp (
-      sym (c .before .before .before .before .before .before .before .before .before .before .fetch .ensures) ∙
+      sym (c .before .before .before .before .before .before .before .before .before .before .fetch-data .ensures) ∙
           c .before .before .before .before .before .before .before .before .got .given .1,
       rw (c .before .before .before .before .before .before .add .ensures) at
-          (sym (c .before .before .before .before .before .fetch2 .ensures) ∙ c .before .before .before .got2 .given .1),
+          (sym (c .before .before .before .before .before .fetch-data2 .ensures) ∙ c .before .before .before .got2 .given .1),
       c .before .before .before .before .before .before .add .ensures,
       c .before .add2 .ensures,
       c .byte-address .ensures,
@@ -70,13 +70,13 @@ pub c-store-spec : {M : Type 1} → statement M
 c-store-spec =
     tie.close
     (tie.spec
-    fetch-requires
+    fetch-data-requires
     enum-known-got
     enum-told
     fail-byte-requires
     returns
     add-requires
-    fetch-requires-2
+    fetch-data-requires-2
     enum-known-got2
     enum-told-2
     fail-byte-requires-2

@@ -5,8 +5,8 @@ use Rattle.storage.proofs.memory.fetch_named.Tie as tie
 use Rattle.instruction.specs.Plain as plain
 use mathlib.Core.Path.{_∙_, sym, ap}
 
-fetch-requires : tie.Need-fetch-requires
-fetch-requires c κs = search needs
+fetch-data-requires : tie.Need-fetch-data-requires
+fetch-data-requires c κs = search needs
 
 enum-known-got : tie.Need-enum-known-got
 enum-known-got c = search needs
@@ -19,10 +19,10 @@ fail-one-requires c κs = (_, c .enum-told .given .1)
 
 returns : tie.Need-returns
 unfolding plain.plainOf
-returns c = simp (sym (c .before .before .before .fetch .ensures) ∙ c .before .enum-told .given .1) (c .fail-one .ensures ∙ ap plain.failed (c .before .enum-told .given .1))
+returns c = simp (sym (c .before .before .before .fetch-data .ensures) ∙ c .before .enum-told .given .1) (c .fail-one .ensures ∙ ap plain.failed (c .before .enum-told .given .1))
 
-fetch-requires-2 : tie.Need-fetch-requires-2
-fetch-requires-2 c κs = search needs
+fetch-requires : tie.Need-fetch-requires
+fetch-requires c κs = search needs
 
 enum-known-got2 : tie.Need-enum-known-got2
 enum-known-got2 c = search needs
@@ -37,9 +37,9 @@ returns-2 : tie.Need-returns-2
 unfolding plain.plainOf
 returns-2 c =
     simp (
-      sym (c .before .before .before .before .before .before .before .fetch .ensures) ∙ c .before .before .before .before .before .got .given .1,
+      sym (c .before .before .before .before .before .before .before .fetch-data .ensures) ∙ c .before .before .before .before .before .got .given .1,
       sym
-          (c .before .before .before .fetch2 .ensures) ∙ c .before .enum-told2 .given .1,
+          (c .before .before .before .fetch .ensures .1) ∙ c .before .enum-told2 .given .1,
     ) (c .fail-one2 .ensures ∙ ap plain.failed (c .before .enum-told2 .given .1))
 
 replace-requires : tie.Need-replace-requires
@@ -49,9 +49,9 @@ returns-3 : tie.Need-returns-3
 unfolding plain.plainOf
 returns-3 c =
     simp (
-      sym (c .before .before .before .before .before .before .before .before .fetch .ensures) ∙
+      sym (c .before .before .before .before .before .before .before .before .fetch-data .ensures) ∙
           c .before .before .before .before .before .before .got .given .1,
-      sym (c .before .before .before .before .fetch2 .ensures) ∙
+      sym (c .before .before .before .before .fetch .ensures .1) ∙
           c .before .before .got2 .given .1,
     ) (c .replace .ensures)
 
@@ -59,12 +59,12 @@ pub fetch-named-spec : {M : Type 1} → statement M
 fetch-named-spec =
     tie.close
     (tie.spec
-    fetch-requires
+    fetch-data-requires
     enum-known-got
     enum-told
     fail-one-requires
     returns
-    fetch-requires-2
+    fetch-requires
     enum-known-got2
     enum-told-2
     fail-one-requires-2

@@ -6,8 +6,8 @@ use Rattle.instruction.specs.Plain as plain
 use borrow.Author.Tests.{eq-eqb, ne-eqb}
 use mathlib.Core.Path.{_∙_, sym, ap, refl}
 
-fetch-requires : tie.Need-fetch-requires
-fetch-requires c κs = search needs
+fetch-data-requires : tie.Need-fetch-data-requires
+fetch-data-requires c κs = search needs
 
 enum-known-got : tie.Need-enum-known-got
 enum-known-got c = search needs
@@ -20,24 +20,24 @@ fail-none-requires c κs = (_, c .enum-told .given .1)
 
 returns : tie.Need-returns
 unfolding plain.plainOf
-returns c = simp (sym (c .before .before .before .fetch .ensures) ∙ c .before .enum-told .given .1) (c .fail-none .ensures ∙ ap plain.failed (c .before .enum-told .given .1))
+returns c = simp (sym (c .before .before .before .fetch-data .ensures) ∙ c .before .enum-told .given .1) (c .fail-none .ensures ∙ ap plain.failed (c .before .enum-told .given .1))
 
 returns-2 : tie.Need-returns-2
 unfolding plain.plainOf
-returns-2 c = simp (sym (c .before .before .before .before .fetch .ensures) ∙ c .before .before .got .given .1, eq-eqb _ _ (c .if1 .taken))
+returns-2 c = simp (sym (c .before .before .before .before .fetch-data .ensures) ∙ c .before .before .got .given .1, eq-eqb _ _ (c .if1 .taken))
 
 fail-none-requires-2 : tie.Need-fail-none-requires-2
 fail-none-requires-2 c κs = (_, refl)
 
 returns-3 : tie.Need-returns-3
 unfolding plain.plainOf
-returns-3 c = simp (sym (c .before .before .before .before .before .fetch .ensures) ∙ c .before .before .before .got .given .1, ne-eqb _ _ (c .before .if1 .left)) (c .fail-none2 .ensures)
+returns-3 c = simp (sym (c .before .before .before .before .before .fetch-data .ensures) ∙ c .before .before .before .got .given .1, ne-eqb _ _ (c .before .if1 .left)) (c .fail-none2 .ensures)
 
 pub sp-store-spec : {M : Type 1} → statement M
 sp-store-spec =
     tie.close
     (tie.spec
-    fetch-requires
+    fetch-data-requires
     enum-known-got
     enum-told
     fail-none-requires

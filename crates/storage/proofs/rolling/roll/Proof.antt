@@ -8,8 +8,8 @@ use denote.Ref.{now}
 use native.Mathlib.Omega.{arith}
 use mathlib.Core.Path.{_∙_, sym, ap}
 
-fetch-requires : tie.Need-fetch-requires
-fetch-requires c κs = search needs
+fetch-data-requires : tie.Need-fetch-data-requires
+fetch-data-requires c κs = search needs
 
 enum-known-got : tie.Need-enum-known-got
 enum-known-got c = search needs
@@ -23,7 +23,7 @@ fail-roll-requires c κs = (_, c .enum-told .given .1)
 returns : tie.Need-returns
 unfolding plain.plainOf
 returns c = (
-  simp (sym (c .before .before .before .fetch .ensures) ∙ c .before .enum-told .given .1)
+  simp (sym (c .before .before .before .fetch-data .ensures) ∙ c .before .enum-told .given .1)
       (c .fail-roll .ensures .0 _ _ ∙ ap plain.failed (c .before .enum-told .given .1)),
   c .fail-roll .ensures .1,
 )
@@ -44,7 +44,7 @@ returns-2 : tie.Need-returns-2
 unfolding plain.plainOf
 returns-2 c = (
   simp (
-    sym (c .before .before .before .before .before .before .before .fetch .ensures) ∙ c .before .before .before .before .before .got .given .1,
+    sym (c .before .before .before .before .before .before .before .fetch-data .ensures) ∙ c .before .before .before .before .before .got .given .1,
     sym
         (c .before .before .before .fetch-deep .ensures) ∙ c .before .enum-told3 .given .1,
   )
@@ -69,7 +69,7 @@ unfolding plain.plainOf
 returns-3 c =
     let a = c .before .before .before .before .before .before .before .before .before .before .args in (
       simp (
-        sym (c .before .before .before .before .before .before .before .before .fetch .ensures) ∙
+        sym (c .before .before .before .before .before .before .before .before .fetch-data .ensures) ∙
             c .before .before .before .before .before .before .got .given .1,
         sym (c .before .before .before .before .fetch-deep .ensures) ∙
             c .before .before .enum-told2 .given .1,
@@ -83,7 +83,7 @@ pub roll-spec : {M : Type 1} → statement M
 roll-spec =
     tie.close
     (tie.spec
-    fetch-requires
+    fetch-data-requires
     enum-known-got
     enum-told
     fail-roll-requires

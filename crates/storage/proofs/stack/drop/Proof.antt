@@ -5,8 +5,8 @@ use Rattle.storage.proofs.stack.drop.Tie as tie
 use Rattle.instruction.specs.Plain as plain
 use mathlib.Core.Path.{_∙_, sym, ap}
 
-fetch-requires : tie.Need-fetch-requires
-fetch-requires c κs = search needs
+fetch-data-requires : tie.Need-fetch-data-requires
+fetch-data-requires c κs = search needs
 
 enum-told : tie.Need-enum-told
 enum-told c = search needs
@@ -19,20 +19,20 @@ fail-none-requires c κs = (_, c .enum-told2 .given .1)
 
 returns : tie.Need-returns
 unfolding plain.plainOf
-returns c = simp (sym (c .before .before .before .fetch .ensures) ∙ c .before .enum-told2 .given .1) (c .fail-none .ensures ∙ ap plain.failed (c .before .enum-told2 .given .1))
+returns c = simp (sym (c .before .before .before .fetch-data .ensures) ∙ c .before .enum-told2 .given .1) (c .fail-none .ensures ∙ ap plain.failed (c .before .enum-told2 .given .1))
 
 add-requires : tie.Need-add-requires
 add-requires c κs = search needs
 
 returns-2 : tie.Need-returns-2
 unfolding plain.plainOf
-returns-2 c = simp (sym (c .before .before .before .fetch .ensures) ∙ c .before .enum-told .given .1, c .add .ensures)
+returns-2 c = simp (sym (c .before .before .before .fetch-data .ensures) ∙ c .before .enum-told .given .1, c .add .ensures)
 
 pub drop-spec : {M : Type 1} → statement M
 drop-spec =
     tie.close
     (tie.spec
-    fetch-requires
+    fetch-data-requires
     enum-told
     enum-told-2
     fail-none-requires

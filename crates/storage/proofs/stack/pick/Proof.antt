@@ -5,8 +5,8 @@ use Rattle.storage.proofs.stack.pick.Tie as tie
 use Rattle.instruction.specs.Plain as plain
 use mathlib.Core.Path.{_∙_, sym, ap}
 
-fetch-requires : tie.Need-fetch-requires
-fetch-requires c κs = search needs
+fetch-data-requires : tie.Need-fetch-data-requires
+fetch-data-requires c κs = search needs
 
 enum-known-got : tie.Need-enum-known-got
 enum-known-got c = search needs
@@ -19,7 +19,7 @@ fail-one-requires c κs = (_, c .enum-told .given .1)
 
 returns : tie.Need-returns
 unfolding plain.plainOf
-returns c = simp (sym (c .before .before .before .fetch .ensures) ∙ c .before .enum-told .given .1) (c .fail-one .ensures ∙ ap plain.failed (c .before .enum-told .given .1))
+returns c = simp (sym (c .before .before .before .fetch-data .ensures) ∙ c .before .enum-told .given .1) (c .fail-one .ensures ∙ ap plain.failed (c .before .enum-told .given .1))
 
 fetch-deep-requires : tie.Need-fetch-deep-requires
 fetch-deep-requires c κs = search needs
@@ -37,7 +37,7 @@ returns-2 : tie.Need-returns-2
 unfolding plain.plainOf
 returns-2 c =
     simp (
-      sym (c .before .before .before .before .before .before .before .fetch .ensures) ∙ c .before .before .before .before .before .got .given .1,
+      sym (c .before .before .before .before .before .before .before .fetch-data .ensures) ∙ c .before .before .before .before .before .got .given .1,
       sym
           (c .before .before .before .fetch-deep .ensures) ∙ c .before .enum-told2 .given .1,
     ) (c .fail-one2 .ensures ∙ ap plain.failed
@@ -50,7 +50,7 @@ returns-3 : tie.Need-returns-3
 unfolding plain.plainOf
 returns-3 c =
     simp (
-      sym (c .before .before .before .before .before .before .before .before .fetch .ensures) ∙
+      sym (c .before .before .before .before .before .before .before .before .fetch-data .ensures) ∙
           c .before .before .before .before .before .before .got .given .1,
       sym (c .before .before .before .before .fetch-deep .ensures) ∙
           c .before .before .got2 .given .1,
@@ -60,7 +60,7 @@ pub pick-spec : {M : Type 1} → statement M
 pick-spec =
     tie.close
     (tie.spec
-    fetch-requires
+    fetch-data-requires
     enum-known-got
     enum-told
     fail-one-requires
