@@ -7,7 +7,9 @@ use lib.ListN.{length, getD}
 use Rattle.cell.specs.Memory.{cellAt}
 use Rattle.cell.specs.Refusals.{judgeMachine}
 use Rattle.cell.specs.declared.Judged.the-variants.{Passed}
-use Rattle.processor.specs.Answers.{machineOf}
+use Rattle.areas.specs.Areas.{judgeAreas, judgeBounded}
+use Rattle.areas.specs.Bounds.{machineOf}
+use Rattle.areas.specs.declared.Areas.{Areas}
 use Rattle.pack_layout.specs.Listing.{Listing}
 use Rattle.pack_layout.specs.Packing.{image, imageCells, Legal}
 use Rattle.packer.specs.Pack.{PackResult}
@@ -23,20 +25,28 @@ use Rattle.approved.specs.Approved.{StandsAt, RunsAsListed, StartsAsList
 use Rattle.approved.proofs.Packing.{Made, made}
 use Rattle.approved.proofs.Starting.{four-length, four-holds, start-ready}
 
+bounded-passed : (len order : ℕ) (areas : Areas) → judgeMachine len order ≡ Passed → judgeAreas len areas ≡ Passed
+    → judgeBounded len order areas ≡ Passed
+unfolding judgeBounded
+bounded-passed len order areas p q = rw (p, q)
+
 -- a memory that holds the image of a legal listing runs as the listing reads
-pub runs : (order base : ℕ) (l : Listing) (m : List ℕ) → Legal base l → Holds (machineOf order (length m)) base l m → RunsAsListed order base l m
+pub runs : (order base : ℕ) (l : Listing) (m : List ℕ) → Legal base l → ((areas : Areas) → Holds (machineOf order areas (length m)) base l m)
+    → RunsAsListed order base l m
 runs order base l m ok h =
     record {
-      agrees = λ sp rp k. demand3 (machineOf order (length m)) base l m sp rp k ok h;
-      answers = λ q sp rp k. run-follows order base l m sp rp k q ok h;
+      agrees = λ areas sp rp k. demand3 (machineOf order areas (length m)) base l m sp rp k ok (h areas);
+      answers = λ areas q sp rp k. run-follows order areas base l m sp rp k q ok (h areas);
     }
 
-pub starts : (order base : ℕ) (l : Listing) (m : List ℕ) (handler : ℕ) → Legal base l → Holds (machineOf order (length m)) base l m
-    → judgeMachine (length m) order ≡ Passed → StartsAsListed order base l m handler
-starts order base l m handler ok h q =
+pub starts : (order : ℕ) (areas : Areas) (base : ℕ) (l : Listing) (m : List ℕ) (handler : ℕ) → Legal base l
+    → ((given : Areas) → Holds (machineOf order given (length m)) base l m)
+    → judgeBounded (length m) order areas ≡ Passed → StartsAsListed order areas base l m handler
+starts order areas base l m handler ok h q =
+    let four = four-length (machineOf order areas (length m)) m handler in
     record {
-      ready = start-ready order base l ok m handler h q;
-      runs = runs order base l _ ok (rw (four-length (machineOf order (length m)) m handler) (four-holds order base l ok m handler h));
+      ready = start-ready order areas base l ok m handler (h areas) q;
+      runs = runs order base l _ ok (λ given. rw four (four-holds order given base l ok m handler (h given)));
     }
 
 -- the cells of what was packed, wherever it stands
@@ -48,21 +58,23 @@ cells-there order base l p m a w s =
 pub packed-runs : PackedRuns
 packed-runs order base l p k q m s =
     let w = made order base l p k q in
-    runs order base l m (w .legal) (record { inside = omega (arith, s .inside, w .counted); cells = cells-there order base l p m base w s })
+    runs order base l m (w .legal)
+    (λ areas. record { inside = omega (arith, s .inside, w .counted); cells = cells-there order base l p m base w s })
 
 pub approved-runs : ApprovedRuns
 approved-runs theirs base l p k q office b low s out e ours centre machine place =
     let w = made theirs base l p k q in
     let r = saved-loads theirs office b (p .count) out low e ours centre base machine place in
     let m = loadOf ours centre (savedFile (saveOf theirs office b (p .count) out)) base .memory in
-    let h : Holds (machineOf ours (length m)) base l m =
+    let h : (areas : Areas) → Holds (machineOf ours areas (length m)) base l m = λ areas.
     record {
       inside = omega (arith, r .long, place .room, w .counted);
       cells = λ j c. r .cells j (omega (arith, w .counted)) ∙ cells-there theirs base l p office b w s j c;
     } in
+    let good : judgeMachine (length m) ours ≡ Passed = rw (r .long) (good-machine (length centre) ours machine) in
     record {
       accepted = r .accepted;
       counted = r .counted;
       runs = runs ours base l m (w .legal) h;
-      starts = λ handler. starts ours base l m handler (w .legal) h (rw (r .long) (good-machine (length centre) ours machine));
+      starts = λ areas j handler. starts ours areas base l m handler (w .legal) h (bounded-passed (length m) ours areas good j);
     }

@@ -2,11 +2,10 @@
 use mathlib.Core.Path.{_≡_, sym, ap, _∙_}
 use mathlib.Core.List.{List}
 use mathlib.Core.Logic.{inl}
-use Prim.Native.Nat.{ℕ, _+_, _-_, _*_, _≤_}
+use Prim.Native.Nat.{ℕ, _+_, _*_, _≤_}
 use native.Mathlib.Omega.{arith}
 use lib.ListN.{length}
 use Rattle.cell.specs.Memory.{cellAt, Alike}
-use Rattle.cell.specs.Refusals.{judgeMachine}
 use Rattle.cell.specs.declared.Judged.the-variants.{Passed}
 use Rattle.cell.specs.Number.{sum}
 use Rattle.cell.specs.declared.Fetched.the-variants.{Cell}
@@ -15,8 +14,11 @@ use Rattle.machine.specs.Places.{fetchOf}
 use Rattle.machine.specs.Throws.{nextOf, handlerCell, memoryCell, badCell, addressCell}
 use Rattle.machine.specs.declared.Access.the-variants.{Stream}
 use Rattle.machine.specs.declared.Machine.{Machine}
+use Rattle.areas.specs.Areas.{judgeBounded, filed as withAreas}
+use Rattle.areas.specs.Bounds.{machineOf, firstSp, firstRp}
+use Rattle.areas.specs.declared.Areas.{Areas}
 use Rattle.processor.specs.Starting.{fourCells, startOf}
-use Rattle.processor.specs.Answers.{machineOf, startedTo, startAnswer}
+use Rattle.processor.specs.Answers.{startedTo, startAnswer}
 use Rattle.processor.specs.declared.Started.the-variants.{Ready}
 use Rattle.pack_layout.specs.Listing.{Listing}
 use Rattle.pack_layout.specs.Packing.{imageCells, Legal}
@@ -41,28 +43,31 @@ module _ (machine : Machine) (m : List ℕ) (handler : ℕ) where
       (alike-trans lo hi _ _ _ (cell-frame lo hi (machine .order) _ badCell 0xFFFFFFFF (inl (omega arith)))
       (cell-frame lo hi (machine .order) _ addressCell 0xFFFFFFFF (inl (omega arith)))))
 
-module _ (order base : ℕ) (l : Listing) (ok : Legal base l) (m : List ℕ) (handler : ℕ) (h : Holds (machineOf order (length m)) base l m) where
-  pub four-holds : Holds (machineOf order (length m)) base l (fourCells (machineOf order (length m)) m handler)
-  four-holds =
-      still-holds (machineOf order (length m)) base l ok m (fourCells (machineOf order (length m)) m handler) h
-      (four-alike (machineOf order (length m)) m handler base (base + 4 * imageCells l) (placed base l ok .above-cells))
-      (four-length (machineOf order (length m)) m handler)
+module _ (order : ℕ) (areas : Areas) (base : ℕ) (l : Listing) (ok : Legal base l) (m : List ℕ) (handler : ℕ)
+    (h : Holds (machineOf order areas (length m)) base l m) where
+  abbrev machine : Machine
+  machine = machineOf order areas (length m)
 
-  first-fetch : fetchOf (machineOf order (length m)) Stream (fourCells (machineOf order (length m)) m handler) base
-      ≡ Cell (cellAt order (fourCells (machineOf order (length m)) m handler) base)
+  pub four-holds : Holds machine base l (fourCells machine m handler)
+  four-holds =
+      still-holds machine base l ok m (fourCells machine m handler) h
+      (four-alike machine m handler base (base + 4 * imageCells l) (placed base l ok .above-cells))
+      (four-length machine m handler)
+
+  first-fetch : fetchOf machine Stream (fourCells machine m handler) base ≡ Cell (cellAt order (fourCells machine m handler) base)
   first-fetch =
       let some = at-inside base l ok 0 (some-item l (ok .input) .0) in
       let z : base + 4 * 0 ≡ base = omega arith in
-      (rw z at (image-fetch (machineOf order (length m)) base l ok (fourCells (machineOf order (length m)) m handler) four-holds 0 (omega (arith, some))))
+      (rw z at (image-fetch machine base l ok (fourCells machine m handler) four-holds 0 (omega (arith, some))))
       ∙ ap Cell (sym (rw z at (four-holds .cells 0 (omega (arith, some)))))
 
   first-ep : sum base 4 ≡ base + 4
   unfolding sum
   first-ep = omega (arith, placed base l ok .inside, at-inside base l ok 0 (some-item l (ok .input) .0))
 
-  pub start-ready : judgeMachine (length m) order ≡ Passed
-      → startAnswer order m base handler
-      ≡ startedTo (fourCells (machineOf order (length m)) m handler)
-      (Ready (firstRegisters (machineOf order (length m)) base (fourCells (machineOf order (length m)) m handler) (length m - 0x100) (length m)))
+  pub start-ready : judgeBounded (length m) order areas ≡ Passed
+      → startAnswer order areas m base handler
+      ≡ startedTo (fourCells machine m handler)
+      (Ready (withAreas areas (firstRegisters machine base (fourCells machine m handler) (firstSp (length m) areas) (firstRp (length m) areas))))
   unfolding startAnswer startOf nextOf
   start-ready q = rw (q, first-fetch, first-ep)

@@ -3,13 +3,16 @@
 -- (document 01, Listings and Modules), so that nothing on the way is left to the reader.
 use mathlib.Core.Path.{_≡_}
 use mathlib.Core.List.{List}
-use Prim.Native.Nat.{ℕ, _+_, _-_, _*_, _^_, _≤_, _<_}
+use Prim.Native.Nat.{ℕ, _+_, _*_, _^_, _≤_, _<_}
 use lib.ListN.{length, getD}
 use Rattle.cell.specs.Memory.{Bytewise}
-use Rattle.cell.specs.Refusals.{judgeMachine, GoodMachine}
+use Rattle.cell.specs.Refusals.{GoodMachine}
 use Rattle.cell.specs.declared.Judged.the-variants.{Passed}
 use Rattle.cycles.specs.Counts.{begun}
-use Rattle.processor.specs.Answers.{machineOf, startedTo, startAnswer}
+use Rattle.areas.specs.Areas.{judgeAreas, judgeBounded, filed as withAreas}
+use Rattle.areas.specs.Bounds.{machineOf, firstSp, firstRp}
+use Rattle.areas.specs.declared.Areas.{Areas}
+use Rattle.processor.specs.Answers.{startedTo, startAnswer}
 use Rattle.processor.specs.Starting.{fourCells}
 use Rattle.processor.specs.declared.Started.the-variants.{Ready}
 use Rattle.pack_layout.specs.Listing.{Listing, listed}
@@ -37,21 +40,25 @@ pub record StandsAt (p : PackResult) (m : List ℕ) (a : ℕ) : Type 0 where
   pub inside : a + 4 * p .count ≤ length m
   pub bytes : (i : ℕ) → i < 4 * p .count → getD m (a + i) 0 ≡ getD (p .output) i 0
 
--- from the cell at the base on, with any SP and RP, the processor runs as the listing reads, for any number k of items: its state is that of demand
--- 3, and where the memory is one that is lent, so is what `run` answers
+-- from the cell at the base on, with any areas and any SP and RP, the processor runs as the listing reads, for any number k of items: its state is that of
+-- demand 3, and where the memory is one that is lent and the areas are taken, so is what `run` answers
 pub record RunsAsListed (order base : ℕ) (l : Listing) (m : List ℕ) : Type 0 where
-  pub agrees : (sp rp k : ℕ)
-      → Agree (machineOf order (length m)) (begun m (firstRegisters (machineOf order (length m)) base m sp rp)) (runOf (machineOf order (length m)) base l k (beginning l m sp rp))
-  pub answers : judgeMachine (length m) order ≡ Passed → (sp rp k : ℕ)
-      → RunAgrees order base m sp rp (runOf (machineOf order (length m)) base l k (beginning l m sp rp))
+  pub agrees : (areas : Areas) (sp rp k : ℕ)
+      → Agree (machineOf order areas (length m)) (begun m (firstRegisters (machineOf order areas (length m)) base m sp rp))
+      (runOf (machineOf order areas (length m)) base l k (beginning l m sp rp))
+  pub answers : (areas : Areas) → judgeBounded (length m) order areas ≡ Passed → (sp rp k : ℕ)
+      → RunAgrees order areas base m sp rp (runOf (machineOf order areas (length m)) base l k (beginning l m sp rp))
 
--- and `start` at the base, with any handler, makes the machine ready there: the memory with its four cells set runs as the listing reads
-pub record StartsAsListed (order base : ℕ) (l : Listing) (m : List ℕ) (handler : ℕ) : Type 0 where
+-- and `start` at the base, with any handler and these areas, makes the machine ready there, the stacks at their tops: the memory with its four cells set runs as
+-- the listing reads
+pub record StartsAsListed (order : ℕ) (areas : Areas) (base : ℕ) (l : Listing) (m : List ℕ) (handler : ℕ) : Type 0 where
   pub ready :
-      startAnswer order m base handler
-      ≡ startedTo (fourCells (machineOf order (length m)) m handler)
-      (Ready (firstRegisters (machineOf order (length m)) base (fourCells (machineOf order (length m)) m handler) (length m - 0x100) (length m)))
-  pub runs : RunsAsListed order base l (fourCells (machineOf order (length m)) m handler)
+      startAnswer order areas m base handler
+      ≡ startedTo (fourCells (machineOf order areas (length m)) m handler)
+      (Ready (withAreas areas
+      (firstRegisters (machineOf order areas (length m)) base (fourCells (machineOf order areas (length m)) m handler) (firstSp (length m) areas)
+      (firstRp (length m) areas))))
+  pub runs : RunsAsListed order base l (fourCells (machineOf order areas (length m)) m handler)
 
 -- what was packed, in memory at its base, runs as its listing reads
 abbrev pub PackedRuns : Type 0
@@ -66,7 +73,7 @@ pub record Arrives (ours base : ℕ) (l : Listing) (r : LoadResult) (count : ℕ
   pub accepted : r .number ≡ 0
   pub counted : r .count ≡ count
   pub runs : RunsAsListed ours base l (r .memory)
-  pub starts : (handler : ℕ) → StartsAsListed ours base l (r .memory) handler
+  pub starts : (areas : Areas) → judgeAreas (length (r .memory)) areas ≡ Passed → (handler : ℕ) → StartsAsListed ours areas base l (r .memory) handler
 
 abbrev pub ApprovedRuns : Type 0
 ApprovedRuns =

@@ -4,6 +4,7 @@ use mathlib.Core.List.{List, [], _∷_}
 use Prim.Native.Nat.{ℕ, _*_}
 use lib.ListN.{replicate, take}
 use lib.Seq.{sets}
+use Rattle.areas.specs.Areas.{noAreas}
 use Rattle.processor.specs.Answers.{StartAnswer, startAnswer, RunAnswer, givenOf, runAnswer}
 use Rattle.packer.specs.Pack.{PackResult, packOf}
 use Rattle.module.specs.Answers.{SaveResult, saveOf, LoadResult, loadOf}
@@ -27,7 +28,7 @@ abbrev pub loaded : ℕ → ℕ → LoadResult
 loaded theirs ours = loadOf ours blank (savedFile (saved theirs)) 0x10
 
 abbrev pub ready : ℕ → ℕ → StartAnswer
-ready theirs ours = startAnswer ours (loaded theirs ours .memory) 0x10 0
+ready theirs ours = startAnswer ours noAreas (loaded theirs ours .memory) 0x10 0
 
 abbrev pub ran : ℕ → ℕ → RunAnswer
 ran theirs ours = runAnswer (givenOf ours (ready theirs ours .memory) (ready theirs ours .registers) 100)

@@ -1,8 +1,8 @@
 -- Room in lent arrays.
 use mathlib.Core.Path.{_≡_}
 use mathlib.Core.List.{List, [], _∷_}
-use Prim.Native.Nat.{ℕ, _≤_}
-use borrow.Author.Tests.{ltb-false}
+use Prim.Native.Nat.{ℕ, _+_, _≤_}
+use borrow.Author.Tests.{ltb-false, le-ltb}
 use native.Mathlib.Omega.{arith}
 use lib.Dec.{ltb}
 use lib.ListN.{length, length-append, length-drop}
@@ -11,7 +11,7 @@ use Rattle.cell.specs.declared.Refusal.the-variants.{ShortOutput}
 use Rattle.cell.specs.declared.Judged.{Judged}
 use Rattle.cell.specs.declared.Judged.the-variants.{Passed}
 use Rattle.cell.proofs.JudgementLaws.{both-pass, one-clear}
-use Rattle.calls.specs.Lending.{written, shortArray, withRoom}
+use Rattle.calls.specs.Lending.{written, areasAt, areasIn, shortArray, withRoom}
 
 pub record Roomy (j : Judged) (size needed : ℕ) : Type 0 where
   pub passed : j ≡ Passed
@@ -25,3 +25,7 @@ roomy j size needed e =
 -- an array keeps its length where there is room for what is written
 pub written-length : (xs lent : List ℕ) → length xs ≤ length lent → length (written xs lent) ≡ length lent
 written-length xs lent h = simp (length-append, length-drop) (omega (arith, h))
+
+-- an array that is long enough gives its areas to be judged
+pub areas-there : (i : ℕ) (lent : List ℕ) → i + 4 ≤ length lent → areasIn i lent ≡ areasAt i lent
+areas-there i lent h = rw (le-ltb (length lent) (i + 4) h)

@@ -28,6 +28,7 @@ one-clear false r j e = (refl, e)
 pub refusal-some : (r : Refusal) → refusalNumber r ≡ 0 → ⊥
 refusal-some refusal.MemoryLength e = omega arith
 refusal-some refusal.ByteOrder e = omega arith
+refusal-some refusal.StackAreas e = omega arith
 refusal-some refusal.Header e = omega arith
 refusal-some refusal.FileLength e = omega arith
 refusal-some refusal.Unaligned e = omega arith

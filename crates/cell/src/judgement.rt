@@ -29,6 +29,7 @@ pub fn refusal_number(r: Refusal) -> u32
     match r {
         Refusal::MemoryLength => 0xFFFFEFFB,
         Refusal::ByteOrder => 0xFFFFEFFA,
+        Refusal::StackAreas => 0xFFFFEFF1,
         Refusal::Header => 0xFFFFFFFE,
         Refusal::FileLength => 0xFFFFEFF9,
         Refusal::Unaligned => 0xFFFFEFF8,

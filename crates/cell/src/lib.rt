@@ -51,6 +51,7 @@ pub struct Quotient {
 pub enum Refusal {
     MemoryLength,
     ByteOrder,
+    StackAreas,
     Header,
     FileLength,
     Unaligned,

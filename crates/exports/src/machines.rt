@@ -2,6 +2,8 @@
 ghost use mathlib.Core.Path.{_≡_};
 ghost use Rattle.processor_calls.specs.Machines as machines;
 ghost use Rattle.processor.specs.Answers as answers;
+ghost use Rattle.areas.specs.Areas.{areasOf};
+use calls::lending::make_areas;
 use calls::lending::read_registers;
 use cell::Address;
 use cell::Judged;
@@ -10,6 +12,7 @@ use processor::entry::cycle;
 use processor::entry::run;
 use processor::entry::start;
 use processor_calls::machines::judge_call;
+use processor_calls::machines::judge_with;
 use processor_calls::machines::tell_cycled;
 use processor_calls::machines::tell_ran;
 use processor_calls::machines::tell_started;
@@ -20,15 +23,20 @@ pub extern "C" fn beetle_start(
     memory: &mut [u8],
     ep: u32,
     handler: u32,
+    data_top: u32,
+    data_cells: u32,
+    return_top: u32,
+    return_cells: u32,
     registers: &mut [u32],
     out: &mut [u32],
 ) -> u32
-    ensures { λ n. ⌜ machines.called (now (memory .exit)) (now (registers .exit)) (now (out .exit)) n ≡ machines.startCall order (now (memory .entry)) ep handler (now (registers .entry)) (now (out .entry)) ⌝ }
+    ensures { λ n. ⌜ machines.called (now (memory .exit)) (now (registers .exit)) (now (out .exit)) n ≡ machines.startCall order (areasOf «data_top» «data_cells» «return_top» «return_cells») (now (memory .entry)) ep handler (now (registers .entry)) (now (out .entry)) ⌝ }
 {
-    match judge_call(memory.len(), order, registers.len(), out.len(), 1) {
+    let areas = make_areas(data_top, data_cells, return_top, return_cells);
+    match judge_call(memory.len(), order, areas, registers.len(), out.len(), 1) {
         Judged::Refused(n) => refusal_number(n),
         Judged::Passed => {
-            let answer = start(order, memory, Address(ep), Address(handler));
+            let answer = start(order, memory, Address(ep), Address(handler), areas);
             tell_started(answer, registers, out)
         },
     }
@@ -43,7 +51,7 @@ pub extern "C" fn beetle_cycle(
 ) -> u32
     ensures { λ n. ⌜ machines.called (now (memory .exit)) (now (registers .exit)) (now (out .exit)) n ≡ machines.cycleCall order (now (memory .entry)) (now (registers .entry)) (now (out .entry)) ⌝ }
 {
-    match judge_call(memory.len(), order, registers.len(), out.len(), 1) {
+    match judge_with(memory.len(), order, registers, out.len(), 1) {
         Judged::Refused(n) => refusal_number(n),
         Judged::Passed => {
             let r = read_registers(registers);
@@ -62,7 +70,7 @@ pub extern "C" fn beetle_run(
 ) -> u32
     ensures { λ n. ⌜ machines.called (now (memory .exit)) (now (registers .exit)) (now (out .exit)) n ≡ machines.runCall (answers.givenOf order (now (memory .entry)) (now (registers .entry)) budget) (now (out .entry)) ⌝ }
 {
-    match judge_call(memory.len(), order, registers.len(), out.len(), 2) {
+    match judge_with(memory.len(), order, registers, out.len(), 2) {
         Judged::Refused(n) => refusal_number(n),
         Judged::Passed => {
             let r = read_registers(registers);

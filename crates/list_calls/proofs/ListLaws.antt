@@ -10,7 +10,8 @@ use Rattle.cell.specs.Refusals.{after}
 use Rattle.cell.specs.declared.Judged.{Judged}
 use Rattle.cell.specs.declared.Judged.the-variants.{Passed, Refused}
 use Rattle.cell.proofs.JudgementLaws.{both-pass}
-use Rattle.processor.specs.Answers.{machineOf}
+use Rattle.areas.specs.Bounds.{machineOf}
+use Rattle.areas.specs.declared.Areas.{Areas}
 use Rattle.pack_layout.specs.Listing.{listed}
 use Rattle.pack_layout.specs.Packing.{imageCells, judgedPlace}
 use Rattle.list_proposing.specs.declared.Stand.{Stand}
@@ -18,45 +19,45 @@ use Rattle.list_items.specs.declared.ItemRun.{ItemRun}
 use Rattle.list_run.specs.Follow.{judgeBegin, judgeImage, judgeFollow, FollowResult, followedTo, followIf, resumeIn}
 use Rattle.list_run.specs.declared.Followed.{Followed}
 use Rattle.list_run.specs.declared.Followed.the-variants as followed
-use Rattle.calls.specs.Lending.{withRoom}
+use Rattle.calls.specs.Lending.{areasIn, withRoom}
 use Rattle.processor_calls.specs.Machines.{told, called}
 use Rattle.list_calls.specs.Lists.{listTold, answerTold, judgeLent, Room, standGiven, resumeCall}
 use Rattle.calls.proofs.LendingLaws.{roomy}
 
-lent-roomy : (pointers out : ℕ) → judgeLent pointers out ≡ Passed → (2 ≤ pointers) × (5 ≤ out)
+lent-roomy : (pointers out : ℕ) → judgeLent pointers out ≡ Passed → (6 ≤ pointers) × (5 ≤ out)
 unfolding judgeLent
 lent-roomy pointers out e =
-    let last = roomy (withRoom Passed pointers 2) out 5 e in
-    (roomy Passed pointers 2 (last .passed) .room, last .room)
+    let last = roomy (withRoom Passed pointers 6) out 5 e in
+    (roomy Passed pointers 6 (last .passed) .room, last .room)
 
 -- what is told of an answer does not depend on the memory, nor on the stand that was given
 told-alike : (m : List ℕ) (start : Stand) (pointers out : List ℕ) (a : Followed) → answerTold pointers out a ≡ listTold pointers out (followedTo m start a)
 told-alike m start pointers out (followed.Refused r) = refl
 told-alike m start pointers out (followed.Run x) = refl
 
-module _ (order : ℕ) (kinds operands : List ℕ) (base : ℕ) (m : List ℕ) (start : Stand) (items pointers out : ℕ) where
+module _ (order : ℕ) (areas : Areas) (kinds operands : List ℕ) (base : ℕ) (m : List ℕ) (start : Stand) (items pointers out : ℕ) where
   -- a run was made only where there is room for what is told of it
-  ran-room : (m2 : List ℕ) (x : ItemRun) (j : Judged) → judgeFollow (length m) order kinds operands base (judgeLent pointers out) ≡ j
-      → followedTo m2 start (followed.Run x) ≡ followIf j (machineOf order (length m)) base (listed kinds operands) m start items
-      → (2 ≤ pointers) × (5 ≤ out)
+  ran-room : (m2 : List ℕ) (x : ItemRun) (j : Judged) → judgeFollow (length m) order areas kinds operands base (judgeLent pointers out) ≡ j
+      → followedTo m2 start (followed.Run x) ≡ followIf j (machineOf order areas (length m)) base (listed kinds operands) m start items
+      → (6 ≤ pointers) × (5 ≤ out)
   unfolding judgeFollow judgeImage
   ran-room m2 x (Refused r) q e =
       absurd (let f : followed.Run x ≡ followed.Refused r = ap (λ (s : FollowResult). s .answer) e in let z : _≡_ {A = ℕ} 0 1 = cc in omega arith)
   ran-room m2 x Passed q e =
       let place : Judged = judgedPlace base (imageCells (listed kinds operands)) in
-      let p = both-pass (judgeBegin (length m) order kinds operands) (after place (judgeLent pointers out)) q in
+      let p = both-pass (judgeBegin (length m) order areas kinds operands) (after place (judgeLent pointers out)) q in
       lent-roomy pointers out (both-pass place (judgeLent pointers out) (p .1) .1)
 
   pub has-room : (m2 : List ℕ) (a : Followed)
-      → followedTo m2 start a ≡ resumeIn (judgeLent pointers out) order kinds operands base m start items → Room pointers out a
+      → followedTo m2 start a ≡ resumeIn (judgeLent pointers out) order areas kinds operands base m start items → Room pointers out a
   unfolding resumeIn
   has-room m2 (followed.Refused r) e = tt
-  has-room m2 (followed.Run x) e = ran-room m2 x (judgeFollow (length m) order kinds operands base (judgeLent pointers out)) refl e
+  has-room m2 (followed.Run x) e = ran-room m2 x (judgeFollow (length m) order areas kinds operands base (judgeLent pointers out)) refl e
 
 pub list-noted : (order : ℕ) (kinds operands : List ℕ) (base : ℕ) (m : List ℕ) (item : ℕ) (ran : Bool) (pointers : List ℕ) (items : ℕ) (out : List ℕ)
     → (m2 p2 o2 : List ℕ) (n : ℕ) (a : Followed)
     → followedTo m2 (standGiven item ran pointers) a
-    ≡ resumeIn (judgeLent (length pointers) (length out)) order kinds operands base m (standGiven item ran pointers) items
+    ≡ resumeIn (judgeLent (length pointers) (length out)) order (areasIn 2 pointers) kinds operands base m (standGiven item ran pointers) items
     → told p2 o2 n ≡ answerTold pointers out a
     → called m2 p2 o2 n ≡ resumeCall order kinds operands base m item ran pointers items out
 unfolding resumeCall

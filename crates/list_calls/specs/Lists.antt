@@ -10,13 +10,13 @@ use Rattle.list_proposing.specs.declared.Stand.{Stand}
 use Rattle.list_run.specs.Follow.{FollowResult, followedTo, standAt, resumeIn}
 use Rattle.list_run.specs.declared.Followed.{Followed}
 use Rattle.list_run.specs.declared.Followed.the-variants as followed
-use Rattle.calls.specs.Lending.{written, withRoom}
+use Rattle.calls.specs.Lending.{written, areaList, areasAt, areasIn, withRoom}
 use Rattle.processor_calls.specs.Machines.{Told, told, Called}
 
--- `pointers` takes SP, RP; `out` the reason, the item reached, the items done, and the low and high half of the cycles counted
+-- `pointers` takes SP, RP and the areas as they were given; `out` the reason, the item reached, the items done, and the low and high half of the cycles counted
 abbrev pub valuesTold : List ℕ → List ℕ → FollowResult → Told
 valuesTold pointers out s =
-    told (written (s .stand .sp ∷ s .stand .rp ∷ []) pointers)
+    told (written (s .stand .sp ∷ s .stand .rp ∷ areaList (areasAt 2 pointers)) pointers)
     (written (s .reason ∷ s .stand .item .0 ∷ s .items ∷ s .cycles % 2 ^ 32 ∷ s .cycles / 2 ^ 32 ∷ []) out)
     (s .number)
 
@@ -34,20 +34,20 @@ answerTold pointers out a = listTold pointers out (followedTo [] (standAt 0 fals
 
 -- -4105, which comes last, for `pointers` and `out`
 unfoldable pub judgeLent : ℕ → ℕ → Judged
-judgeLent pointers out = withRoom (withRoom Passed pointers 2) out 5
+judgeLent pointers out = withRoom (withRoom Passed pointers 6) out 5
 
 -- a run that is told has room in both
 abbrev pub Room : ℕ → ℕ → Followed → Type 0
 Room pointers out (followed.Refused r) = Unit {0}
-Room pointers out (followed.Run x) = (2 ≤ pointers) × (5 ≤ out)
+Room pointers out (followed.Run x) = (6 ≤ pointers) × (5 ≤ out)
 
--- SP and RP are the first two of `pointers`
+-- SP and RP are the first two of `pointers`, the areas follow
 abbrev pub standGiven : ℕ → Bool → List ℕ → Stand
 standGiven item ran pointers = standAt item ran (getD pointers 0 0) (getD pointers 1 0)
 
 unfoldable pub resumeCall : ℕ → List ℕ → List ℕ → ℕ → List ℕ → ℕ → Bool → List ℕ → ℕ → List ℕ → Called
 resumeCall order kinds operands base m item ran pointers items out =
-    let s = resumeIn (judgeLent (length pointers) (length out)) order kinds operands base m (standGiven item ran pointers) items in
+    let s = resumeIn (judgeLent (length pointers) (length out)) order (areasIn 2 pointers) kinds operands base m (standGiven item ran pointers) items in
     record { memory = s .memory; told = listTold pointers out s }
 
 -- from item 0 on

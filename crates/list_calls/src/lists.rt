@@ -7,8 +7,10 @@ ghost use Rattle.list_run.specs.declared.Followed.the-variants as followed;
 ghost use Rattle.calls.specs.Lending as lending;
 ghost use Rattle.processor_calls.specs.Machines as machines;
 ghost use Rattle.list_calls.specs.Lists as lists;
+use calls::lending::areas_in;
+use calls::lending::read_areas;
 use calls::lending::with_room;
-use calls::lending::write_two;
+use calls::lending::write_pointers;
 use cell::Address;
 use cell::Judged;
 use cell::judgement::refusal_number;
@@ -30,11 +32,11 @@ fn number_at(lent: &[u32], at: usize) -> u32
     0
 }
 
-// SP and RP want two places, what is told of a run five.
+// SP, RP and the areas want six places, what is told of a run five.
 fn judge_lent(pointers: usize, out: usize) -> Judged
     ensures { λ r. ⌜ r ≡ lists.judgeLent pointers out ⌝ }
 {
-    with_room(with_room(Judged::Passed, pointers, 2), out, 5)
+    with_room(with_room(Judged::Passed, pointers, 6), out, 5)
 }
 
 fn write_five(lent: &mut [u32], p: u32, q: u32, r: u32, s: u32, t: u32)
@@ -49,7 +51,7 @@ fn write_five(lent: &mut [u32], p: u32, q: u32, r: u32, s: u32, t: u32)
 }
 
 fn note_run(ran: ItemRun, pointers: &mut [u32], out: &mut [u32]) -> u32
-    requires { ⌜ (2 ≤ length (now pointers)) × (5 ≤ length (now out)) ⌝ }
+    requires { ⌜ (6 ≤ length (now pointers)) × (5 ≤ length (now out)) ⌝ }
     ensures { λ n. ⌜ machines.told (now (pointers .exit)) (now (out .exit)) n ≡ lists.answerTold (now (pointers .entry)) (now (out .entry)) (followed.Run ran) ⌝ }
 {
     let ending = ran.ending;
@@ -58,7 +60,8 @@ fn note_run(ran: ItemRun, pointers: &mut [u32], out: &mut [u32]) -> u32
     let cycles = ran.cycles;
     let low = (cycles % 4294967296) as u32;
     let high = (cycles / 4294967296) as u32;
-    write_two(pointers, stand.sp, stand.rp);
+    let areas = read_areas(pointers, 2);
+    write_pointers(pointers, stand.sp, stand.rp, areas);
     write_five(out, ending_reason(ending), item.0, ran.items, low, high);
     ending_number(ending)
 }
@@ -73,7 +76,7 @@ fn note_followed(answer: Followed, pointers: &mut [u32], out: &mut [u32]) -> u32
     }
 }
 
-// A run taken up at an item, with SP and RP lent in `pointers` and what is told of it in `out`.
+// A run taken up at an item, with SP, RP and the areas lent in `pointers` and what is told of it in `out`.
 pub fn resume_list(
     order: u8,
     kinds: &[u8],
@@ -96,7 +99,18 @@ pub fn resume_list(
         sp: sp,
         rp: rp,
     };
+    let areas = areas_in(pointers, 2);
     let room = judge_lent(pointers.len(), out.len());
-    let answer = follow_within(order, kinds, operands, base, memory, start, items, room);
+    let answer = follow_within(
+        order,
+        areas,
+        kinds,
+        operands,
+        base,
+        memory,
+        start,
+        items,
+        room,
+    );
     note_followed(answer, pointers, out)
 }

@@ -3,46 +3,55 @@ use mathlib.Core.Path.{_≡_, refl, ap, _∙_}
 use mathlib.Core.List.{List}
 use Prim.Native.Nat.{ℕ}
 use lib.ListN.{length}
-use Rattle.cell.specs.Refusals.{judgeMachine}
 use Rattle.cell.specs.declared.Judged.the-variants.{Passed}
 use Rattle.machine.specs.Throws.{CycleState}
+use Rattle.machine.specs.declared.Machine.{Machine}
 use Rattle.machine.specs.declared.Registers.{Registers}
 use Rattle.machine.specs.declared.Ended.{Ended}
 use Rattle.machine.specs.declared.Ended.the-variants.{Went, Threw, Stopped}
+use Rattle.areas.specs.Areas.{judgeBounded, filed}
+use Rattle.areas.specs.Bounds.{machineOf}
+use Rattle.areas.specs.declared.Areas.{Areas}
+use Rattle.areas.specs.declared.RegisterFile.{RegisterFile}
 use Rattle.cycles.specs.Cycles.{cyclesOf}
 use Rattle.cycles.specs.Counts.{begun}
-use Rattle.processor.specs.Answers.{machineOf, ranAs, ranTo, runAnswer}
+use Rattle.processor.specs.Answers.{ranAs, ranTo, runAnswer}
 use Rattle.list_machine.specs.Runs.{Run, runOf, beginning}
 use Rattle.list_machine.specs.Demand3.{Stop, stopOf, firstRegisters, Agree, ranWith, RunAgrees, RunFollows}
 use Rattle.list_machine.proofs.Simulation.{demand3}
 
-ran-as : (r : Registers) (n : ℕ) (e : Ended) → ranAs r n e ≡ ranWith (stopOf e) r n
-ran-as r n Went = refl
-ran-as r n (Threw f) = refl
-ran-as r n (Stopped x) = refl
+ran-as : (areas : Areas) (r : Registers) (n : ℕ) (e : Ended) → ranAs areas r n e ≡ ranWith (stopOf e) (filed areas r) n
+ran-as areas r n Went = refl
+ran-as areas r n (Threw f) = refl
+ran-as areas r n (Stopped x) = refl
 
-budgeted : (order base : ℕ) (m : List ℕ) (sp rp : ℕ) (r : Run) → judgeMachine (length m) order ≡ Passed
-    → Agree (machineOf order (length m)) (begun m (firstRegisters (machineOf order (length m)) base m sp rp)) r → RunAgrees order base m sp rp r
+budgeted : (order : ℕ) (areas : Areas) (base : ℕ) (m : List ℕ) (sp rp : ℕ) (r : Run) → judgeBounded (length m) order areas ≡ Passed
+    → Agree (machineOf order areas (length m)) (begun m (firstRegisters (machineOf order areas (length m)) base m sp rp)) r
+    → RunAgrees order areas base m sp rp r
 unfolding runAnswer
-budgeted order base m sp rp r q a =
+budgeted order areas base m sp rp r q a =
     record {
-      registers = cyclesOf (machineOf order (length m)) (r .cycles) s .result .registers;
+      registers = t .result .registers;
       answer =
           rw (q, a .exact)
-          (ap (λ (x : List ℕ). ranTo given (r .cycles) x (ranAs (cyclesOf (machineOf order (length m)) (r .cycles) s .result .registers) (r .cycles) (cyclesOf (machineOf order (length m)) (r .cycles) s .result .ended))) (a .memory)
+          (ap (λ (x : List ℕ). ranTo given (r .cycles) x (ranAs areas (t .result .registers) (r .cycles) (t .result .ended))) (a .memory)
           ∙ ap (ranTo given (r .cycles) (r .position .memory))
-          (ran-as (cyclesOf (machineOf order (length m)) (r .cycles) s .result .registers) (r .cycles) (cyclesOf (machineOf order (length m)) (r .cycles) s .result .ended)
-          ∙ ap (λ (x : Stop). ranWith x (cyclesOf (machineOf order (length m)) (r .cycles) s .result .registers) (r .cycles)) (a .stop)));
+          (ran-as areas (t .result .registers) (r .cycles) (t .result .ended)
+          ∙ ap (λ (x : Stop). ranWith x (filed areas (t .result .registers)) (r .cycles)) (a .stop)));
       sp-is = a .sp;
       rp-is = a .rp;
     }
   where
-    given : Registers
-    given = firstRegisters (machineOf order (length m)) base m sp rp
+    machine : Machine
+    machine = machineOf order areas (length m)
 
-    s : CycleState
-    s = begun m given
+    given : RegisterFile
+    given = filed areas (firstRegisters machine base m sp rp)
+
+    t : CycleState
+    t = cyclesOf machine (r .cycles) (begun m (given .registers))
 
 pub run-follows : RunFollows
-run-follows order base l m sp rp k q ok holds =
-    budgeted order base m sp rp (runOf (machineOf order (length m)) base l k (beginning l m sp rp)) q (demand3 (machineOf order (length m)) base l m sp rp k ok holds)
+run-follows order areas base l m sp rp k q ok holds =
+    let machine : Machine = machineOf order areas (length m) in
+    budgeted order areas base m sp rp (runOf machine base l k (beginning l m sp rp)) q (demand3 machine base l m sp rp k ok holds)

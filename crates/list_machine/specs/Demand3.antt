@@ -4,7 +4,7 @@
 -- The listing passes the input list, and the base neither -4104 nor -4110: `Legal`.
 -- The image lies whole in memory, in the order of its bytes: `Holds`.
 -- The beginnings, with SP and RP shared: item 0 here, and there the cell at the base just fetched: `beginning`, `firstRegisters`;
--- nothing is asked of SP, RP or of the other bytes of memory.
+-- nothing is asked of SP, RP or of the other bytes of memory. Document 02, (a): the claim is made of every machine, and so of every areas.
 -- A run of the list machine: `runOf k`, for every k.
 -- The cycles that its items count: the run's `cycles`, and so many cycles of the processor are made: `cyclesOf`.
 -- The same memory, SP and RP, and stopped exactly if the list machine is, with the same reason: `Agree`. Its `exact` says that the processor had not
@@ -14,16 +14,19 @@ use mathlib.Core.List.{List}
 use Prim.Native.Nat.{ℕ, _+_, _*_, _≤_, _<_}
 use lib.ListN.{length, getD}
 use Rattle.cell.specs.Memory.{cellAt}
-use Rattle.cell.specs.Refusals.{judgeMachine}
 use Rattle.cell.specs.declared.Judged.the-variants.{Passed}
 use Rattle.machine.specs.Throws.{CycleState}
 use Rattle.machine.specs.declared.Machine.{Machine}
 use Rattle.machine.specs.declared.Registers.{Registers}
 use Rattle.machine.specs.declared.Ended.{Ended}
 use Rattle.machine.specs.declared.Ended.the-variants as ended
+use Rattle.areas.specs.Areas.{judgeBounded, filed}
+use Rattle.areas.specs.Bounds.{machineOf}
+use Rattle.areas.specs.declared.Areas.{Areas}
+use Rattle.areas.specs.declared.RegisterFile.{RegisterFile}
 use Rattle.cycles.specs.Cycles.{cyclesOf}
 use Rattle.cycles.specs.Counts.{begun, doneOf}
-use Rattle.processor.specs.Answers.{machineOf, ranTo, givenOf, runAnswer}
+use Rattle.processor.specs.Answers.{ranTo, givenOf, runAnswer}
 use Rattle.processor.specs.declared.Ran.{Ran}
 use Rattle.processor.specs.declared.Ran.the-variants.{Spent, Stopped}
 use Rattle.pack_layout.specs.Listing.{Listing}
@@ -80,23 +83,23 @@ abbrev pub PackedHolds : Type 0
 PackedHolds = (machine : Machine) (base : ℕ) (l : Listing) (m : List ℕ) → Legal base l → HoldsBytes machine base l m → Holds machine base l m
 
 -- what `run` answers with a budget of the counted cycles: stopped, with the reason and that many cycles done, or spent
-abbrev pub ranWith : Stop → Registers → ℕ → Ran
+abbrev pub ranWith : Stop → RegisterFile → ℕ → Ran
 ranWith running r n = Spent r
 ranWith (stoppedWith x) r n = Stopped r x n
 
-pub record RunAgrees (order base : ℕ) (m : List ℕ) (sp rp : ℕ) (r : Run) : Type 0 where
+pub record RunAgrees (order : ℕ) (areas : Areas) (base : ℕ) (m : List ℕ) (sp rp : ℕ) (r : Run) : Type 0 where
   pub registers : Registers
   pub answer :
-      runAnswer (givenOf order m (firstRegisters (machineOf order (length m)) base m sp rp) (r .cycles))
-      ≡ ranTo (firstRegisters (machineOf order (length m)) base m sp rp) (r .cycles) (r .position .memory)
-      (ranWith (stopIn (r .course)) registers (r .cycles))
+      runAnswer (givenOf order m (filed areas (firstRegisters (machineOf order areas (length m)) base m sp rp)) (r .cycles))
+      ≡ ranTo (filed areas (firstRegisters (machineOf order areas (length m)) base m sp rp)) (r .cycles) (r .position .memory)
+      (ranWith (stopIn (r .course)) (filed areas registers) (r .cycles))
   pub sp-is : registers .sp ≡ r .position .sp
   pub rp-is : registers .rp ≡ r .position .rp
 
 abbrev pub RunFollows : Type 0
 RunFollows =
-    (order base : ℕ) (l : Listing) (m : List ℕ) (sp rp k : ℕ)
-    → judgeMachine (length m) order ≡ Passed
+    (order : ℕ) (areas : Areas) (base : ℕ) (l : Listing) (m : List ℕ) (sp rp k : ℕ)
+    → judgeBounded (length m) order areas ≡ Passed
     → Legal base l
-    → Holds (machineOf order (length m)) base l m
-    → RunAgrees order base m sp rp (runOf (machineOf order (length m)) base l k (beginning l m sp rp))
+    → Holds (machineOf order areas (length m)) base l m
+    → RunAgrees order areas base m sp rp (runOf (machineOf order areas (length m)) base l k (beginning l m sp rp))

@@ -5,7 +5,8 @@ use mathlib.Core.List.{List, [], _∷_, map}
 use Prim.Native.Nat.{ℕ, _-_, _^_}
 use lib.ListN.{replicate}
 use Rattle.cell.specs.Memory.{cellAt, storeCell}
-use Rattle.processor.specs.Answers.{machineOf}
+use Rattle.areas.specs.Areas.{noAreas}
+use Rattle.areas.specs.Bounds.{machineOf}
 use Rattle.pack_layout.specs.Listing.{listed}
 use Rattle.list_machine.specs.declared.Outside.the-variants.{WritesImage, NoEntry, NoHandler, PastEnd}
 use Rattle.list_machine.specs.Runs.{Course, goesOn, stoppedBy, stoodOutside, Run, runOf, resuming}
@@ -46,7 +47,7 @@ seen item items cycles sp returned course =
 
 abbrev pub runAt : ℕ → Case → Run
 runAt order c =
-    runOf (machineOf order 0x400) 0x10 (listed (c .kinds) (c .operands)) (c .asked)
+    runOf (machineOf order noAreas 0x400) 0x10 (listed (c .kinds) (c .operands)) (c .asked)
     (resuming (listed (c .kinds) (c .operands))
     (record { item = c .item; ran = c .ran; memory = storeCell order (replicate 0x400 0) 0 (c .handler); sp = c .sp; rp = 0x400 }))
 

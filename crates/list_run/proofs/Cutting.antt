@@ -10,7 +10,7 @@ use Rattle.cell.proofs.JudgementLaws.{refusal-some}
 use Rattle.cell.specs.declared.Judged.{Judged}
 use Rattle.cell.specs.declared.Judged.the-variants.{Passed, Refused}
 use Rattle.machine.specs.declared.Machine.{Machine}
-use Rattle.processor.specs.Answers.{machineOf}
+use Rattle.areas.specs.Bounds.{machineOf}
 use Rattle.pack_layout.specs.Listing.{Listing, listed}
 use Rattle.list_machine.specs.Runs.{Course, goesOn, stoppedBy, stoodOutside, isOver, Run, runOf, resuming}
 use Rattle.list_machine.proofs.Lengths.{run-long}
@@ -60,9 +60,9 @@ module _ (machine : Machine) (base : ℕ) (l : Listing) (m : List ℕ) (start : 
 
 pub cut : Cut
 unfolding resumeIn
-cut order kinds operands base m start a b =
-    let j : ℕ → Judged = λ n. judgeFollow n order kinds operands base Passed in
-    let machine : ℕ → Machine = machineOf order in
+cut order areas kinds operands base m start a b =
+    let j : ℕ → Judged = λ n. judgeFollow n order areas kinds operands base Passed in
+    let machine : ℕ → Machine = λ n. machineOf order areas n in
     let l : Listing = listed kinds operands in
     let s : FollowResult = followIf (j (length m)) (machine (length m)) base l m start a in (
       λ e. cut-if (machine (length m)) base l m start a b (j (length m)) e

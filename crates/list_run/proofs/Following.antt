@@ -7,15 +7,18 @@ use Prim.Native.Nat.{ℕ, _*_, _^_, _<_}
 use native.Mathlib.Omega.{arith}
 use lib.ListN.{length, getD}
 use Rattle.cell.specs.Memory.{cellCount}
-use Rattle.cell.specs.Refusals.{after, judgeMachine, Lent}
+use Rattle.cell.specs.Refusals.{after, Lent}
 use Rattle.cell.specs.declared.CellCount.{CellCount}
 use Rattle.cell.specs.declared.Refusal.{Refusal}
 use Rattle.cell.specs.declared.Judged.{Judged}
 use Rattle.cell.specs.declared.Judged.the-variants.{Passed, Refused}
 use Rattle.cell.proofs.JudgementLaws.{both-pass}
 use Rattle.machine.specs.declared.Machine.{Machine}
-use Rattle.processor.specs.Answers.{machineOf}
-use Rattle.processor.proofs.EntryLaws.{passed}
+use Rattle.machine.specs.Places.{Fits}
+use Rattle.areas.specs.Areas.{judgeAreas, judgeBounded}
+use Rattle.areas.specs.Bounds.{machineOf}
+use Rattle.areas.specs.declared.Areas.{Areas}
+use Rattle.areas.proofs.AreaLaws.{lent, areas-pass, passed-fits}
 use Rattle.pack_layout.specs.Listing.{Listing, listed, judgedArrays, Checked}
 use Rattle.pack_layout.specs.Packing.{imageCells, judgedPlace}
 use Rattle.pack_prepare.proofs.Checking.{arrays-checked}
@@ -33,15 +36,24 @@ use Rattle.list_run.specs.Follow.{judgeBegin, judgeImage, judgeFollow, F
 use Rattle.list_run.specs.declared.Followed.{Followed}
 use Rattle.list_run.specs.declared.Followed.the-variants as followed
 
--- what passed before the layout: the memory and the arrays
-pub begin-lent : (len order : ℕ) (kinds operands : List ℕ) → judgeBegin len order kinds operands ≡ Passed → Lent len
-unfolding judgeBegin
-begin-lent len order kinds operands e = passed len order (both-pass (judgeMachine len order) (judgedArrays kinds operands) e .0)
+-- what passed before the layout: the memory, the areas and the arrays
+module _ (len order : ℕ) (areas : Areas) (kinds operands : List ℕ) (e : judgeBegin len order areas kinds operands ≡ Passed) where
+  begin-bounded : judgeBounded len order areas ≡ Passed
+  unfolding judgeBegin
+  begin-bounded = both-pass (judgeBounded len order areas) (judgedArrays kinds operands) e .0
 
-pub begin-checked : (len order : ℕ) (kinds operands : List ℕ) → judgeBegin len order kinds operands ≡ Passed → Checked kinds operands
-unfolding judgeBegin
-begin-checked len order kinds operands e =
-    arrays-checked kinds operands (both-pass (judgeMachine len order) (judgedArrays kinds operands) e .1)
+  pub begin-lent : Lent len
+  begin-lent = lent len order areas begin-bounded
+
+  pub begin-areas : judgeAreas len areas ≡ Passed
+  begin-areas = areas-pass len order areas begin-bounded
+
+  pub begin-fits : Fits (machineOf order areas len) len
+  begin-fits = passed-fits order len areas begin-bounded
+
+  pub begin-checked : Checked kinds operands
+  unfolding judgeBegin
+  begin-checked = arrays-checked kinds operands (both-pass (judgeBounded len order areas) (judgedArrays kinds operands) e .1)
 
 -- the table of a listing whose image passed
 pub image-settled : (kinds operands table : List ℕ) (base : ℕ) (cells : CellCount) (room : Judged) (image : Image) → Checked kinds operands
@@ -89,46 +101,46 @@ module _ (machine : Machine) (base : ℕ) (l : Listing) (m : List ℕ) (start : 
       (ap (λ (y : ItemRun). followedTo m2 start (followed.Run y)) (sym (run-back m2 x)))
 
 -- an answer from the judgement before the layout on
-module _ (room : Judged) (order : ℕ) (kinds operands : List ℕ) (base : ℕ) (m : List ℕ) (start : Stand) (items : ℕ) where
-  pub begin-refused : (r : Refusal) → judgeBegin (length m) order kinds operands ≡ Refused r
-      → followedTo m start (followed.Refused r) ≡ resumeIn room order kinds operands base m start items
+module _ (room : Judged) (order : ℕ) (areas : Areas) (kinds operands : List ℕ) (base : ℕ) (m : List ℕ) (start : Stand) (items : ℕ) where
+  pub begin-refused : (r : Refusal) → judgeBegin (length m) order areas kinds operands ≡ Refused r
+      → followedTo m start (followed.Refused r) ≡ resumeIn room order areas kinds operands base m start items
   unfolding resumeIn judgeFollow
   begin-refused r e = rw e
 
-  pub begin-passed : (s : FollowResult) → judgeBegin (length m) order kinds operands ≡ Passed
-      → s ≡ followIf (judgeImage base (imageCells (listed kinds operands)) room) (machineOf order (length m)) base (listed kinds operands) m start items
-      → s ≡ resumeIn room order kinds operands base m start items
+  pub begin-passed : (s : FollowResult) → judgeBegin (length m) order areas kinds operands ≡ Passed
+      → s ≡ followIf (judgeImage base (imageCells (listed kinds operands)) room) (machineOf order areas (length m)) base (listed kinds operands) m start items
+      → s ≡ resumeIn room order areas kinds operands base m start items
   unfolding resumeIn judgeFollow
   begin-passed s e q = q ∙ rw e
 
 -- demand 3 of the answer; an operand is a cell
-module _ (order : ℕ) (kinds operands : List ℕ) (base : ℕ) (m : List ℕ) (sp rp items : ℕ) (cells : (i : ℕ) → getD operands i 0 < 2 ^ 32) where
+module _ (order : ℕ) (areas : Areas) (kinds operands : List ℕ) (base : ℕ) (m : List ℕ) (sp rp items : ℕ) (cells : (i : ℕ) → getD operands i 0 < 2 ^ 32) where
   abbrev run : Run
-  run = runOf (machineOf order (length m)) base (listed kinds operands) items (resuming (listed kinds operands) (positionOf m (standAt 0 false sp rp)))
+  run = runOf (machineOf order areas (length m)) base (listed kinds operands) items (resuming (listed kinds operands) (positionOf m (standAt 0 false sp rp)))
 
-  ran-packed : (m2 : List ℕ) (x : ItemRun) (j : Judged) → judgeFollow (length m) order kinds operands base Passed ≡ j
+  ran-packed : (m2 : List ℕ) (x : ItemRun) (j : Judged) → judgeFollow (length m) order areas kinds operands base Passed ≡ j
       → followedTo m2 (standAt 0 false sp rp) (followed.Run x)
-      ≡ followIf j (machineOf order (length m)) base (listed kinds operands) m (standAt 0 false sp rp) items
-      → AsPacked order base (listed kinds operands) m sp rp m2 (followed.Run x)
+      ≡ followIf j (machineOf order areas (length m)) base (listed kinds operands) m (standAt 0 false sp rp) items
+      → AsPacked (machineOf order areas (length m)) base (listed kinds operands) m sp rp m2 (followed.Run x)
   unfolding judgeFollow judgeImage
   ran-packed m2 x (Refused r) q e holds =
       absurd (let f : followed.Run x ≡ followed.Refused r = ap (λ (s : FollowResult). s .answer) e in let z : _≡_ {A = ℕ} 0 1 = cc in omega arith)
   ran-packed m2 x Passed q e holds =
-      let p = both-pass (judgeBegin (length m) order kinds operands) (after (judgedPlace base (imageCells (listed kinds operands))) Passed) q in
+      let p = both-pass (judgeBegin (length m) order areas kinds operands) (after (judgedPlace base (imageCells (listed kinds operands))) Passed) q in
       let f : followed.Run x ≡ followed.Run (ranOf run) = ap (λ (s : FollowResult). s .answer) e in
       let g : x ≡ ranOf run = cc in
       let h : m2 ≡ run .position .memory = ap (λ (s : FollowResult). s .memory) e in
       rw (h, g, run-there run)
-      (demand3 (machineOf order (length m)) base (listed kinds operands) m sp rp items
+      (demand3 (machineOf order areas (length m)) base (listed kinds operands) m sp rp items
       (record {
-        input = begin-checked (length m) order kinds operands (p .0) .input;
+        input = begin-checked (length m) order areas kinds operands (p .0) .input;
         state = both-pass (judgedPlace base (imageCells (listed kinds operands))) Passed (p .1) .0;
         cell = λ i h. cells i;
       })
       holds)
 
-  pub as-packed : (m2 : List ℕ) (a : Followed) → followedTo m2 (standAt 0 false sp rp) a ≡ followOf order kinds operands base m sp rp items
-      → AsPacked order base (listed kinds operands) m sp rp m2 a
+  pub as-packed : (m2 : List ℕ) (a : Followed) → followedTo m2 (standAt 0 false sp rp) a ≡ followOf order areas kinds operands base m sp rp items
+      → AsPacked (machineOf order areas (length m)) base (listed kinds operands) m sp rp m2 a
   unfolding resumeIn
   as-packed m2 (followed.Refused r) e = tt
-  as-packed m2 (followed.Run x) e = ran-packed m2 x (judgeFollow (length m) order kinds operands base Passed) refl e
+  as-packed m2 (followed.Run x) e = ran-packed m2 x (judgeFollow (length m) order areas kinds operands base Passed) refl e

@@ -4,6 +4,7 @@ ghost use mathlib.Core.Bool.{false};
 ghost use Prim.Native.Nat.{_*_};
 ghost use lib.ListN.{length};
 ghost use Rattle.machine.specs.Places as places;
+ghost use Rattle.areas.specs.Bounds.{machineOf};
 ghost use Rattle.cell.specs.Refusals.{Lent};
 ghost use Rattle.pack_layout.specs.Listing.{listed, Checked};
 ghost use Rattle.pack_layout.specs.Packing.{imageCells};
@@ -11,6 +12,8 @@ ghost use Rattle.list_run.specs.Follow as follows;
 use crate::Followed;
 use crate::judgement::judge_begin;
 use crate::judgement::judge_image;
+use areas::Areas;
+use areas::bounding::machine_of;
 use cell::Address;
 use cell::Judged;
 use list_items::running::run_items;
@@ -19,7 +22,6 @@ use list_tables::Image;
 use list_tables::TABLE_NUMBERS;
 use list_tables::settle::settle_table;
 use machine::Machine;
-use machine::places::unbounded;
 use pack_layout::ItemNumber;
 
 // A listing that the input list passed, with a table lent: it is laid out once, its image judged, and the run made.
@@ -55,6 +57,7 @@ fn follow_checked(
 // A run from where the machine is told to stand; room is the caller's judgement of what else was lent.
 pub fn follow_within(
     order: u8,
+    areas: Areas,
     kinds: &[u8],
     operands: &[u32],
     base: Address,
@@ -63,15 +66,15 @@ pub fn follow_within(
     items: u32,
     room: Judged,
 ) -> Followed
-    ensures { λ r. ⌜ follows.followedTo (now (memory .exit)) start r ≡ follows.resumeIn room order (now (kinds .entry)) (now (operands .entry)) (base .0) (now (memory .entry)) start items ⌝ }
+    ensures { λ r. ⌜ follows.followedTo (now (memory .exit)) start r ≡ follows.resumeIn room order areas (now (kinds .entry)) (now (operands .entry)) (base .0) (now (memory .entry)) start items ⌝ }
 {
-    match judge_begin(memory.len(), order, kinds, operands) {
+    match judge_begin(memory.len(), order, areas, kinds, operands) {
         Judged::Refused(r) => Followed::Refused(r),
         Judged::Passed => {
             let size = 4 * kinds.len();
             let mut table = [0u32; TABLE_NUMBERS];
             follow_checked(
-                unbounded(order, memory.len()),
+                machine_of(order, areas, memory.len()),
                 memory,
                 kinds,
                 operands,
@@ -88,6 +91,7 @@ pub fn follow_within(
 // A run taken up at an item, which was run on into from an item not in its immediate form or not.
 pub fn list_resume(
     order: u8,
+    areas: Areas,
     kinds: &[u8],
     operands: &[u32],
     base: Address,
@@ -98,7 +102,7 @@ pub fn list_resume(
     rp: u32,
     items: u32,
 ) -> Followed
-    ensures { λ r. ⌜ follows.followedTo (now (memory .exit)) (follows.standAt (item .0) ran sp rp) r ≡ follows.resumeOf order (now (kinds .entry)) (now (operands .entry)) (base .0) (now (memory .entry)) (follows.standAt (item .0) ran sp rp) items ⌝ }
+    ensures { λ r. ⌜ follows.followedTo (now (memory .exit)) (follows.standAt (item .0) ran sp rp) r ≡ follows.resumeOf order areas (now (kinds .entry)) (now (operands .entry)) (base .0) (now (memory .entry)) (follows.standAt (item .0) ran sp rp) items ⌝ }
 {
     let start = Stand {
         item: item,
@@ -108,6 +112,7 @@ pub fn list_resume(
     };
     follow_within(
         order,
+        areas,
         kinds,
         operands,
         base,
@@ -121,6 +126,7 @@ pub fn list_resume(
 // A run from item 0 on.
 pub fn list_run(
     order: u8,
+    areas: Areas,
     kinds: &[u8],
     operands: &[u32],
     base: Address,
@@ -129,11 +135,12 @@ pub fn list_run(
     rp: u32,
     items: u32,
 ) -> Followed
-    ensures { λ r. ⌜ follows.followedTo (now (memory .exit)) (follows.standAt 0 false sp rp) r ≡ follows.followOf order (now (kinds .entry)) (now (operands .entry)) (base .0) (now (memory .entry)) sp rp items ⌝ }
-    ensures { λ r. ⌜ follows.AsPacked order (base .0) (listed (now (kinds .entry)) (now (operands .entry))) (now (memory .entry)) sp rp (now (memory .exit)) r ⌝ }
+    ensures { λ r. ⌜ follows.followedTo (now (memory .exit)) (follows.standAt 0 false sp rp) r ≡ follows.followOf order areas (now (kinds .entry)) (now (operands .entry)) (base .0) (now (memory .entry)) sp rp items ⌝ }
+    ensures { λ r. ⌜ follows.AsPacked (machineOf order areas (length (now (memory .entry)))) (base .0) (listed (now (kinds .entry)) (now (operands .entry))) (now (memory .entry)) sp rp (now (memory .exit)) r ⌝ }
 {
     list_resume(
         order,
+        areas,
         kinds,
         operands,
         base,

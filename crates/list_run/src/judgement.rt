@@ -2,18 +2,19 @@
 ghost use mathlib.Core.Path.{_≡_};
 ghost use Prim.Native.Nat.{_≤_};
 ghost use Rattle.list_run.specs.Follow as follows;
+use areas::Areas;
+use areas::judging::judge_bounded;
 use cell::Address;
 use cell::CellCount;
 use cell::Judged;
-use cell::judgement::judge_machine;
 use pack_judging::check::judge_arrays;
 use pack_judging::check::judge_place;
 
 // What is judged before the layout.
-pub fn judge_begin(length: usize, order: u8, kinds: &[u8], operands: &[u32]) -> Judged
-    ensures { λ r. ⌜ r ≡ follows.judgeBegin length order (now (kinds .entry)) (now (operands .entry)) ⌝ }
+pub fn judge_begin(length: usize, order: u8, areas: Areas, kinds: &[u8], operands: &[u32]) -> Judged
+    ensures { λ r. ⌜ r ≡ follows.judgeBegin length order areas (now (kinds .entry)) (now (operands .entry)) ⌝ }
 {
-    match judge_machine(length, order) {
+    match judge_bounded(length, order, areas) {
         Judged::Refused(r) => Judged::Refused(r),
         Judged::Passed => judge_arrays(kinds, operands),
     }

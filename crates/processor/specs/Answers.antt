@@ -1,11 +1,10 @@
--- What the three entry points leave and answer.
+-- What the three entry points leave and answer. Document 02, (a): the areas join the registers, which are eight so.
 use mathlib.Core.List.{List}
 use Prim.Native.Nat.{ℕ}
 use lib.ListN.{length}
-use Rattle.cell.specs.Refusals.{judgeMachine, refusalNumber}
+use Rattle.cell.specs.Refusals.{refusalNumber}
 use Rattle.cell.specs.declared.Judged.{Judged}
 use Rattle.cell.specs.declared.Judged.the-variants as judged
-use Rattle.machine.specs.Places.{unbounded}
 use Rattle.machine.specs.Exceptions.{exceptionCode}
 use Rattle.machine.specs.Throws.{CycleState}
 use Rattle.machine.specs.declared.Machine.{Machine}
@@ -14,6 +13,10 @@ use Rattle.machine.specs.declared.Exception.{Exception}
 use Rattle.machine.specs.declared.Exception.the-variants.{Range, Alignment, DataOverflow, DataUnderflow, ReturnOverflow, ReturnUnderflow, Divisor, Illegal, Library}
 use Rattle.machine.specs.declared.Ended.{Ended}
 use Rattle.machine.specs.declared.Ended.the-variants.{Went, Threw, Stopped}
+use Rattle.areas.specs.Areas.{noAreas, judgeBounded, filed}
+use Rattle.areas.specs.Bounds.{machineOf, firstSp, firstRp}
+use Rattle.areas.specs.declared.Areas.{Areas}
+use Rattle.areas.specs.declared.RegisterFile.{RegisterFile}
 use Rattle.cycles.specs.Cycles.{cycleOf, cyclesOf}
 use Rattle.cycles.specs.Counts.{begun, doneOf}
 use Rattle.processor.specs.Starting.{startOf}
@@ -23,10 +26,6 @@ use Rattle.processor.specs.declared.Cycled.{Cycled}
 use Rattle.processor.specs.declared.Cycled.the-variants as cycled
 use Rattle.processor.specs.declared.Ran.{Ran}
 use Rattle.processor.specs.declared.Ran.the-variants as ran
-
--- the machine of a byte order and a memory's length: its stacks may lie anywhere in memory
-abbrev pub machineOf : ℕ → ℕ → Machine
-machineOf order len = unbounded order len
 
 -- the address that an exception names: -9 and -23 alone have one
 abbrev pub exceptionAddress : Exception → ℕ
@@ -52,8 +51,8 @@ startReason (started.Refused n) = 0
 startReason (started.Ready r) = 0
 startReason (started.Stopped r x) = x
 
-abbrev pub startRegisters : Started → Registers
-startRegisters (started.Refused n) = record { ep = 0; a = 0; sp = 0; rp = 0 }
+abbrev pub startRegisters : Started → RegisterFile
+startRegisters (started.Refused n) = filed noAreas (record { ep = 0; a = 0; sp = 0; rp = 0 })
 startRegisters (started.Ready r) = r
 startRegisters (started.Stopped r x) = r
 
@@ -63,26 +62,27 @@ pub record StartAnswer : Type 0 where
   pub answer : Started
   pub number : ℕ
   pub reason : ℕ
-  pub registers : Registers
+  pub registers : RegisterFile
 
 abbrev pub startedTo : List ℕ → Started → StartAnswer
 startedTo m a =
     record { memory = m; answer = a; number = startNumber a; reason = startReason a; registers = startRegisters a }
 
 -- a NEXT that threw is ready in its handler; one whose throw finds no handler has stopped
-abbrev pub startedAs : Registers → Ended → Started
-startedAs r Went = started.Ready r
-startedAs r (Threw e) = started.Ready r
-startedAs r (Stopped x) = started.Stopped r x
+abbrev pub startedAs : Areas → Registers → Ended → Started
+startedAs areas r Went = started.Ready (filed areas r)
+startedAs areas r (Threw e) = started.Ready (filed areas r)
+startedAs areas r (Stopped x) = started.Stopped (filed areas r) x
 
-abbrev pub startIf : Judged → ℕ → List ℕ → ℕ → ℕ → StartAnswer
-startIf (judged.Refused n) order m ep handler = startedTo m (started.Refused n)
-startIf judged.Passed order m ep handler =
-    let t = startOf (machineOf order (length m)) m ep handler in
-    startedTo (t .memory) (startedAs (t .result .registers) (t .result .ended))
+-- the stacks begin at the tops of their areas, and the areas go into the registers
+abbrev pub startIf : Judged → ℕ → Areas → List ℕ → ℕ → ℕ → StartAnswer
+startIf (judged.Refused n) order areas m ep handler = startedTo m (started.Refused n)
+startIf judged.Passed order areas m ep handler =
+    let t = startOf (machineOf order areas (length m)) m ep handler (firstSp (length m) areas) (firstRp (length m) areas) in
+    startedTo (t .memory) (startedAs areas (t .result .registers) (t .result .ended))
 
-unfoldable pub startAnswer : ℕ → List ℕ → ℕ → ℕ → StartAnswer
-startAnswer order m ep handler = startIf (judgeMachine (length m) order) order m ep handler
+unfoldable pub startAnswer : ℕ → Areas → List ℕ → ℕ → ℕ → StartAnswer
+startAnswer order areas m ep handler = startIf (judgeBounded (length m) order areas) order areas m ep handler
 
 -- cycle: the number (0 went on or threw, 1 stopped, or the refusal's), the reason of a stop, the registers (those given, r, on a refusal), and the
 -- code and the address of the exception that was thrown
@@ -98,7 +98,7 @@ cycleReason (cycled.Went r) = 0
 cycleReason (cycled.Threw r e) = 0
 cycleReason (cycled.Stopped r x) = x
 
-abbrev pub cycleRegisters : Registers → Cycled → Registers
+abbrev pub cycleRegisters : RegisterFile → Cycled → RegisterFile
 cycleRegisters given (cycled.Refused n) = given
 cycleRegisters given (cycled.Went r) = r
 cycleRegisters given (cycled.Threw r e) = r
@@ -121,11 +121,11 @@ pub record CycleAnswer : Type 0 where
   pub answer : Cycled
   pub number : ℕ
   pub reason : ℕ
-  pub registers : Registers
+  pub registers : RegisterFile
   pub code : ℕ
   pub address : ℕ
 
-abbrev pub cycledTo : Registers → List ℕ → Cycled → CycleAnswer
+abbrev pub cycledTo : RegisterFile → List ℕ → Cycled → CycleAnswer
 cycledTo given m a =
     record {
       memory = m;
@@ -137,19 +137,19 @@ cycledTo given m a =
       address = cycleAddress a;
     }
 
-abbrev pub cycledAs : Registers → Ended → Cycled
-cycledAs r Went = cycled.Went r
-cycledAs r (Threw e) = cycled.Threw r e
-cycledAs r (Stopped x) = cycled.Stopped r x
+abbrev pub cycledAs : Areas → Registers → Ended → Cycled
+cycledAs areas r Went = cycled.Went (filed areas r)
+cycledAs areas r (Threw e) = cycled.Threw (filed areas r) e
+cycledAs areas r (Stopped x) = cycled.Stopped (filed areas r) x
 
-abbrev pub cycleIf : Judged → ℕ → List ℕ → Registers → CycleAnswer
+abbrev pub cycleIf : Judged → ℕ → List ℕ → RegisterFile → CycleAnswer
 cycleIf (judged.Refused n) order m r = cycledTo r m (cycled.Refused n)
 cycleIf judged.Passed order m r =
-    let t = cycleOf (machineOf order (length m)) m r in
-    cycledTo r (t .memory) (cycledAs (t .result .registers) (t .result .ended))
+    let t = cycleOf (machineOf order (r .areas) (length m)) m (r .registers) in
+    cycledTo r (t .memory) (cycledAs (r .areas) (t .result .registers) (t .result .ended))
 
-unfoldable pub cycleAnswer : ℕ → List ℕ → Registers → CycleAnswer
-cycleAnswer order m r = cycleIf (judgeMachine (length m) order) order m r
+unfoldable pub cycleAnswer : ℕ → List ℕ → RegisterFile → CycleAnswer
+cycleAnswer order m r = cycleIf (judgeBounded (length m) order (r .areas)) order m r
 
 -- run: the number (0 spent, 1 stopped, or the refusal's), the reason of a stop, the registers (those given on a refusal), and the cycles: none on a
 -- refusal, the budget where it is spent, those done where it stopped. Document 01, The processor, on run: the budget is spent exactly if so many
@@ -164,7 +164,7 @@ runReason (ran.Refused n) = 0
 runReason (ran.Spent r) = 0
 runReason (ran.Stopped r x n) = x
 
-abbrev pub runRegisters : Registers → Ran → Registers
+abbrev pub runRegisters : RegisterFile → Ran → RegisterFile
 runRegisters given (ran.Refused n) = given
 runRegisters given (ran.Spent r) = r
 runRegisters given (ran.Stopped r x n) = r
@@ -179,11 +179,11 @@ pub record RunAnswer : Type 0 where
   pub answer : Ran
   pub number : ℕ
   pub reason : ℕ
-  pub registers : Registers
+  pub registers : RegisterFile
   pub count : ℕ
 
 -- of a run that was given registers and a budget
-abbrev pub ranTo : Registers → ℕ → List ℕ → Ran → RunAnswer
+abbrev pub ranTo : RegisterFile → ℕ → List ℕ → Ran → RunAnswer
 ranTo given budget m a =
     record {
       memory = m;
@@ -194,16 +194,16 @@ ranTo given budget m a =
       count = runCount budget a;
     }
 
-abbrev pub ranAs : Registers → ℕ → Ended → Ran
-ranAs r n Went = ran.Spent r
-ranAs r n (Threw e) = ran.Spent r
-ranAs r n (Stopped x) = ran.Stopped r x n
+abbrev pub ranAs : Areas → Registers → ℕ → Ended → Ran
+ranAs areas r n Went = ran.Spent (filed areas r)
+ranAs areas r n (Threw e) = ran.Spent (filed areas r)
+ranAs areas r n (Stopped x) = ran.Stopped (filed areas r) x n
 
--- n cycles were done, and left t
-abbrev pub runFor : Registers → ℕ → ℕ → CycleState → RunAnswer
-runFor given budget n t = ranTo given budget (t .memory) (ranAs (t .result .registers) n (t .result .ended))
+-- n cycles were done, and left t; the areas come back as they were given
+abbrev pub runFor : RegisterFile → ℕ → ℕ → CycleState → RunAnswer
+runFor given budget n t = ranTo given budget (t .memory) (ranAs (given .areas) (t .result .registers) n (t .result .ended))
 
--- what holds through a whole run, whatever its cycles do: the machine's byte order
+-- what holds through a whole run, whatever its cycles do, and is no register: the machine's byte order
 pub record Setting : Type 0 where
   pub order : ℕ
 
@@ -218,20 +218,19 @@ pub record Given (R : Type 0) : Type 0 where
 abbrev pub givenOf : {R : Type 0} → ℕ → List ℕ → R → ℕ → Given R
 givenOf order m r budget = record { setting = record { order = order }; memory = m; registers = r; budget = budget }
 
-abbrev pub machineIn : Setting → ℕ → Machine
-machineIn setting len = machineOf (setting .order) len
+abbrev pub machineIn : Given RegisterFile → Machine
+machineIn g = machineOf (g .setting .order) (g .registers .areas) (length (g .memory))
 
--- what it is judged by: -4101 and -4102
-abbrev pub judgeRun : {R : Type 0} → Given R → Judged
-judgeRun g = judgeMachine (length (g .memory)) (g .setting .order)
+-- what it is judged by: -4101, -4102 and -4111
+abbrev pub judgeRun : Given RegisterFile → Judged
+judgeRun g = judgeBounded (length (g .memory)) (g .setting .order) (g .registers .areas)
 
-abbrev pub runIf : Judged → Given Registers → RunAnswer
+abbrev pub runIf : Judged → Given RegisterFile → RunAnswer
 runIf (judged.Refused n) g = ranTo (g .registers) (g .budget) (g .memory) (ran.Refused n)
 runIf judged.Passed g =
-    let machine = machineIn (g .setting) (length (g .memory)) in
-    let s = begun (g .memory) (g .registers) in
-    let n = doneOf machine (g .budget) s in
-    runFor (g .registers) (g .budget) n (cyclesOf machine n s)
+    let s = begun (g .memory) (g .registers .registers) in
+    let n = doneOf (machineIn g) (g .budget) s in
+    runFor (g .registers) (g .budget) n (cyclesOf (machineIn g) n s)
 
-unfoldable pub runAnswer : Given Registers → RunAnswer
+unfoldable pub runAnswer : Given RegisterFile → RunAnswer
 runAnswer g = runIf (judgeRun g) g

@@ -1,6 +1,6 @@
 -- A start.
 use mathlib.Core.List.{List}
-use Prim.Native.Nat.{ℕ, _-_}
+use Prim.Native.Nat.{ℕ}
 use lib.ListN.{length}
 use Rattle.cell.specs.Memory.{storeCell}
 use Rattle.machine.specs.Throws.{CycleState, nextOf, handlerCell, memoryCell, badCell, addressCell}
@@ -15,7 +15,7 @@ fourCells machine m handler =
     addressCell
     0xFFFFFFFF
 
--- the return stack begins at the end of memory, the data stack 100h below it, and NEXT fetches the first cell
-unfoldable pub startOf : Machine → List ℕ → ℕ → ℕ → CycleState
-startOf machine m ep handler =
-    nextOf machine (fourCells machine m handler) (record { ep = ep; a = 0; sp = length m - 0x100; rp = length m })
+-- the stacks begin where they are told to, and NEXT fetches the first cell
+unfoldable pub startOf : Machine → List ℕ → ℕ → ℕ → ℕ → ℕ → CycleState
+startOf machine m ep handler sp rp =
+    nextOf machine (fourCells machine m handler) (record { ep = ep; a = 0; sp = sp; rp = rp })

@@ -11,31 +11,34 @@ use Rattle.cell.proofs.JudgementLaws.{refusal-some}
 use Rattle.machine.specs.declared.Registers.{Registers}
 use Rattle.machine.specs.declared.Ended.{Ended}
 use Rattle.machine.specs.declared.Ended.the-variants.{Went, Threw, Stopped}
+use Rattle.areas.specs.Areas.{filed}
+use Rattle.areas.specs.declared.Areas.{Areas}
+use Rattle.areas.specs.declared.RegisterFile.{RegisterFile}
 use Rattle.processor.specs.Answers.{Given, ranAs, RunAnswer, runNumber, judgeRun, runAnswer}
 use Rattle.processor.specs.declared.Ran.{Ran}
 use Rattle.processor.specs.declared.Ran.the-variants as ran
 use Rattle.processor_laws.specs.Budgets.{withBudget, carriedOn, laterStop}
 use Rattle.processor_laws.proofs.BudgetLaws.{its-registers, run-keeps-length, number-is, Accepted, accepted, cut-budget, larger-budget}
 use Rattle.calls.specs.Lending.{written, registersOf, registerList}
-use Rattle.processor_calls.specs.Machines.{Told, told, called, judgeCall, runTold, asRead, runIf, runCall}
+use Rattle.processor_calls.specs.Machines.{Told, told, called, judgeWith, runTold, asRead, runIf, runCall}
 use Rattle.processor_calls.specs.Budgets.{withCycles, CutCall, LargerCall}
 use Rattle.calls.proofs.LendingLaws.{written-length}
-use Rattle.processor_calls.proofs.CallLaws.{call-passed, call-roomy}
+use Rattle.processor_calls.proofs.CallLaws.{call-roomy, with-passed}
 
 -- what is told of a run in two calls is what is told of the one
-told-cut : (m registers out : List ℕ) (first r : Registers) (b c n : ℕ) (e : Ended)
-    → record { memory = m; told = runTold registers out (b + c) (laterStop b (ranAs r n e)) }
-    ≡ withCycles b (record { memory = m; told = runTold (written (registerList first) registers) (written (0 ∷ b ∷ []) out) c (ranAs r n e) })
-told-cut m registers out first r b c n Went = refl
-told-cut m registers out first r b c n (Threw f) = refl
-told-cut m registers out first r b c n (Stopped x) = refl
+told-cut : (m registers out : List ℕ) (first : RegisterFile) (areas : Areas) (r : Registers) (b c n : ℕ) (e : Ended)
+    → record { memory = m; told = runTold registers out (b + c) (laterStop b (ranAs areas r n e)) }
+    ≡ withCycles b (record { memory = m; told = runTold (written (registerList first) registers) (written (0 ∷ b ∷ []) out) c (ranAs areas r n e) })
+told-cut m registers out first areas r b c n Went = refl
+told-cut m registers out first areas r b c n (Threw f) = refl
+told-cut m registers out first areas r b c n (Stopped x) = refl
 
 -- what is told of a spent run
-told-spent : (registers out : List ℕ) (r : Registers) (b n : ℕ) (e : Ended) → runTold registers out b (ranAs r n e) .number ≡ 0
-    → runTold registers out b (ranAs r n e) ≡ told (written (registerList r) registers) (written (0 ∷ b ∷ []) out) 0
-told-spent registers out r b n Went q = refl
-told-spent registers out r b n (Threw f) q = refl
-told-spent registers out r b n (Stopped x) q = absurd (omega (arith, q))
+told-spent : (registers out : List ℕ) (areas : Areas) (r : Registers) (b n : ℕ) (e : Ended) → runTold registers out b (ranAs areas r n e) .number ≡ 0
+    → runTold registers out b (ranAs areas r n e) ≡ told (written (registerList (filed areas r)) registers) (written (0 ∷ b ∷ []) out) 0
+told-spent registers out areas r b n Went q = refl
+told-spent registers out areas r b n (Threw f) q = refl
+told-spent registers out areas r b n (Stopped x) q = absurd (omega (arith, q))
 
 -- the number that is told is the answer's
 number-told : (registers out : List ℕ) (b : ℕ) (a : Ran) → runNumber a ≡ runTold registers out b a .number
@@ -53,30 +56,34 @@ told-alike registers out b c (ran.Refused n) h = refl
 told-alike registers out b c (ran.Spent r) h = absurd (h refl)
 told-alike registers out b c (ran.Stopped r x n) h = refl
 
-module _ (g : Given (List ℕ)) (out : List ℕ) (j : judgeCall (length (g .memory)) (g .setting .order) (length (g .registers)) (length out) 2 ≡ Passed) where
+module _ (g : Given (List ℕ)) (out : List ℕ) (j : judgeWith (length (g .memory)) (g .setting .order) (g .registers) (length out) 2 ≡ Passed) where
   abbrev first : RunAnswer
   first = runAnswer (asRead g)
 
-  abbrev carried : Registers → ℕ → RunAnswer
-  carried r c = runAnswer (carriedOn (asRead g) (first .memory) r c)
+  -- all eight registers, with the areas as given
+  abbrev whole : Registers → RegisterFile
+  whole r = filed (registersOf (g .registers) .areas) r
 
-  -- the arrays that a spent call leaves are as long as before, and the next call passes
+  abbrev carried : Registers → ℕ → RunAnswer
+  carried r c = runAnswer (carriedOn (asRead g) (first .memory) (whole r) c)
+
+  -- the arrays that a spent call leaves are as long as before, with the same areas, and the next call passes
   next-call : (r : Registers) (c : ℕ)
-      → runCall (carriedOn g (first .memory) (written (registerList r) (g .registers)) c) (written (0 ∷ g .budget ∷ []) out)
+      → runCall (carriedOn g (first .memory) (written (registerList (whole r)) (g .registers)) c) (written (0 ∷ g .budget ∷ []) out)
       ≡ record {
         memory = carried r c .memory;
-        told = runTold (written (registerList r) (g .registers)) (written (0 ∷ g .budget ∷ []) out) c (carried r c .answer);
+        told = runTold (written (registerList (whole r)) (g .registers)) (written (0 ∷ g .budget ∷ []) out) c (carried r c .answer);
       }
   unfolding runCall
   next-call r c = rw (
     run-keeps-length (asRead g),
-    written-length (registerList r) (g .registers) (call-roomy _ _ _ _ _ j .0),
-    written-length (0 ∷ g .budget ∷ []) out (call-roomy _ _ _ _ _ j .1),
+    written-length (registerList (whole r)) (g .registers) (call-roomy _ _ _ _ _ _ j .0),
+    written-length (0 ∷ g .budget ∷ []) out (call-roomy _ _ _ _ _ _ j .1),
     j,
   )
 
-  passed : judgeRun g ≡ Passed
-  passed = call-passed _ _ _ _ _ j
+  passed : judgeRun (asRead g) ≡ Passed
+  passed = with-passed (length (g .memory)) (g .setting .order) (g .registers) (length out) 2 j
 
   one : Accepted (asRead g)
   one = accepted (asRead g) passed
@@ -84,32 +91,34 @@ module _ (g : Given (List ℕ)) (out : List ℕ) (j : judgeCall (length (g .memo
   -- the first call's answer is spent, and leaves the arrays so
   spent-told : runTold (g .registers) out (g .budget) (first .answer) .number ≡ 0
       → runTold (g .registers) out (g .budget) (first .answer)
-      ≡ told (written (registerList (one .registers)) (g .registers)) (written (0 ∷ g .budget ∷ []) out) 0
+      ≡ told (written (registerList (whole (one .registers))) (g .registers)) (written (0 ∷ g .budget ∷ []) out) 0
   spent-told q =
-      let a : first .answer ≡ ranAs (one .registers) (one .done) (one .ended) = ap (λ (s : RunAnswer). s .answer) (one .answers) in
-      rw a (told-spent (g .registers) out (one .registers) (g .budget) (one .done) (one .ended) (rw a at q))
+      let areas : Areas = registersOf (g .registers) .areas in
+      let a : first .answer ≡ ranAs areas (one .registers) (one .done) (one .ended) = ap (λ (s : RunAnswer). s .answer) (one .answers) in
+      rw a (told-spent (g .registers) out areas (one .registers) (g .budget) (one .done) (one .ended) (rw a at q))
 
-  spent-registers : first .registers ≡ one .registers
+  spent-registers : first .registers ≡ whole (one .registers)
   spent-registers =
       ap (λ (s : RunAnswer). s .registers) (one .answers)
-      ∙ its-registers (registersOf (g .registers)) (one .registers) (one .done) (one .ended)
+      ∙ its-registers (registersOf (g .registers)) (registersOf (g .registers) .areas) (one .registers) (one .done) (one .ended)
 
-  two : (c : ℕ) → Accepted (carriedOn (asRead g) (first .memory) (one .registers) c)
-  two c = accepted (carriedOn (asRead g) (first .memory) (one .registers) c) (rw (run-keeps-length (asRead g)) passed)
+  two : (c : ℕ) → Accepted (carriedOn (asRead g) (first .memory) (whole (one .registers)) c)
+  two c = accepted (carriedOn (asRead g) (first .memory) (whole (one .registers)) c) (rw (run-keeps-length (asRead g)) passed)
 
   cut-passed : (c : ℕ) → runTold (g .registers) out (g .budget) (first .answer) .number ≡ 0
       → runIf Passed (withBudget (g .budget + c) g) out
       ≡ withCycles (g .budget) (runCall (carriedOn g (first .memory) (runIf Passed g out .told .registers) c) (runIf Passed g out .told .out))
   cut-passed c q =
       let r : Registers = one .registers in
-      let t : Accepted (carriedOn (asRead g) (first .memory) r c) = two c in
-      let a : carried r c .answer ≡ ranAs (t .registers) (t .done) (t .ended) = ap (λ (s : RunAnswer). s .answer) (t .answers) in
+      let areas : Areas = registersOf (g .registers) .areas in
+      let t : Accepted (carriedOn (asRead g) (first .memory) (whole r) c) = two c in
+      let a : carried r c .answer ≡ ranAs areas (t .registers) (t .done) (t .ended) = ap (λ (s : RunAnswer). s .answer) (t .answers) in
       rw (spent-told q, next-call r c, cut-budget (asRead g) c (told-number g out ∙ q), spent-registers, a)
-      (told-cut (carried r c .memory) (g .registers) out r (t .registers) (g .budget) c (t .done) (t .ended))
+      (told-cut (carried r c .memory) (g .registers) out (whole r) areas (t .registers) (g .budget) c (t .done) (t .ended))
 
 -- by the judgement, which the calls share
 cut-by : (g : Given (List ℕ)) (out : List ℕ) (c : ℕ) (j : Judged)
-    → judgeCall (length (g .memory)) (g .setting .order) (length (g .registers)) (length out) 2 ≡ j
+    → judgeWith (length (g .memory)) (g .setting .order) (g .registers) (length out) 2 ≡ j
     → runIf j g out .told .number ≡ 0
     → runIf j (withBudget (g .budget + c) g) out
     ≡ withCycles (g .budget) (runCall (carriedOn g (runIf j g out .memory) (runIf j g out .told .registers) c) (runIf j g out .told .out))
@@ -127,8 +136,8 @@ larger-by g out b Passed h w =
 
 pub cut-call : CutCall
 unfolding runCall
-cut-call g out c e = cut-by g out c (judgeCall (length (g .memory)) (g .setting .order) (length (g .registers)) (length out) 2) refl e
+cut-call g out c e = cut-by g out c (judgeWith (length (g .memory)) (g .setting .order) (g .registers) (length out) 2) refl e
 
 pub larger-call : LargerCall
 unfolding runCall
-larger-call g out b h w = larger-by g out b (judgeCall (length (g .memory)) (g .setting .order) (length (g .registers)) (length out) 2) h w
+larger-call g out b h w = larger-by g out b (judgeWith (length (g .memory)) (g .setting .order) (g .registers) (length out) 2) h w

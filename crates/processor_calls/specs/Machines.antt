@@ -3,10 +3,12 @@
 use mathlib.Core.List.{List, [], _∷_}
 use Prim.Native.Nat.{ℕ}
 use lib.ListN.{length}
-use Rattle.cell.specs.Refusals.{judgeMachine, refusalNumber}
+use Rattle.cell.specs.Refusals.{refusalNumber}
 use Rattle.cell.specs.declared.Judged.{Judged}
 use Rattle.cell.specs.declared.Judged.the-variants as judged
-use Rattle.machine.specs.declared.Registers.{Registers}
+use Rattle.areas.specs.Areas.{judgeBounded}
+use Rattle.areas.specs.declared.Areas.{Areas}
+use Rattle.areas.specs.declared.RegisterFile.{RegisterFile}
 use Rattle.processor.specs.Answers.{startNumber, startReason, startRegisters, startAnswer, cycleNumber, cycleReason, cycleRegisters, cycleAnswer, runNumber, runReason, runRegisters, runCount, Given, runAnswer}
 use Rattle.processor.specs.declared.Started.{Started}
 use Rattle.processor.specs.declared.Started.the-variants as started
@@ -14,7 +16,7 @@ use Rattle.processor.specs.declared.Cycled.{Cycled}
 use Rattle.processor.specs.declared.Cycled.the-variants as cycled
 use Rattle.processor.specs.declared.Ran.{Ran}
 use Rattle.processor.specs.declared.Ran.the-variants as ran
-use Rattle.calls.specs.Lending.{written, registersOf, registerList, withRoom}
+use Rattle.calls.specs.Lending.{written, areasIn, registersOf, registerList, withRoom}
 
 -- what is left in `registers` and `out`, and the number answered
 pub record Told : Type 0 where
@@ -33,13 +35,17 @@ pub record Called : Type 0 where
 abbrev pub called : List ℕ → List ℕ → List ℕ → ℕ → Called
 called m registers out n = record { memory = m; told = told registers out n }
 
--- -4101, -4102 and -4105 in this order, the last for `registers` and `out`
-unfoldable pub judgeCall : ℕ → ℕ → ℕ → ℕ → ℕ → Judged
-judgeCall len order registers out needed = withRoom (withRoom (judgeMachine len order) registers 4) out needed
+-- -4101, -4102, -4111 and -4105 in this order, the last for `registers` and `out`
+unfoldable pub judgeCall : ℕ → ℕ → Areas → ℕ → ℕ → ℕ → Judged
+judgeCall len order areas registers out needed = withRoom (withRoom (judgeBounded len order areas) registers 8) out needed
+
+-- where the areas come with the registers
+abbrev pub judgeWith : ℕ → ℕ → List ℕ → ℕ → ℕ → Judged
+judgeWith len order registers out needed = judgeCall len order (areasIn 4 registers) (length registers) out needed
 
 -- what is told of an answer: its registers, its values and its number. A refusal tells its number alone, and leaves `registers` and `out` as they were
 module _ (registers out : List ℕ) where
-  abbrev pub success : Registers → List ℕ → ℕ → Told
+  abbrev pub success : RegisterFile → List ℕ → ℕ → Told
   success r xs n = told (written (registerList r) registers) (written xs out) n
 
   abbrev pub startWrites : Started → Told
@@ -67,15 +73,15 @@ module _ (registers out : List ℕ) where
   runTold budget (ran.Spent r) = runWrites budget (ran.Spent r)
   runTold budget (ran.Stopped r x n) = runWrites budget (ran.Stopped r x n)
 
-abbrev pub startIf : Judged → ℕ → List ℕ → ℕ → ℕ → List ℕ → List ℕ → Called
-startIf (judged.Refused n) order m ep handler registers out = called m registers out (refusalNumber n)
-startIf judged.Passed order m ep handler registers out =
-    let s = startAnswer order m ep handler in
+abbrev pub startIf : Judged → ℕ → Areas → List ℕ → ℕ → ℕ → List ℕ → List ℕ → Called
+startIf (judged.Refused n) order areas m ep handler registers out = called m registers out (refusalNumber n)
+startIf judged.Passed order areas m ep handler registers out =
+    let s = startAnswer order areas m ep handler in
     record { memory = s .memory; told = startTold registers out (s .answer) }
 
-unfoldable pub startCall : ℕ → List ℕ → ℕ → ℕ → List ℕ → List ℕ → Called
-startCall order m ep handler registers out =
-    startIf (judgeCall (length m) order (length registers) (length out) 1) order m ep handler registers out
+unfoldable pub startCall : ℕ → Areas → List ℕ → ℕ → ℕ → List ℕ → List ℕ → Called
+startCall order areas m ep handler registers out =
+    startIf (judgeCall (length m) order areas (length registers) (length out) 1) order areas m ep handler registers out
 
 abbrev pub cycleIf : Judged → ℕ → List ℕ → List ℕ → List ℕ → Called
 cycleIf (judged.Refused n) order m registers out = called m registers out (refusalNumber n)
@@ -85,10 +91,10 @@ cycleIf judged.Passed order m registers out =
 
 unfoldable pub cycleCall : ℕ → List ℕ → List ℕ → List ℕ → Called
 cycleCall order m registers out =
-    cycleIf (judgeCall (length m) order (length registers) (length out) 1) order m registers out
+    cycleIf (judgeWith (length m) order registers (length out) 1) order m registers out
 
 -- what a run is given, once its registers are read from the lent array
-abbrev pub asRead : Given (List ℕ) → Given Registers
+abbrev pub asRead : Given (List ℕ) → Given RegisterFile
 asRead g = record { setting = g .setting; memory = g .memory; registers = registersOf (g .registers); budget = g .budget }
 
 abbrev pub runIf : Judged → Given (List ℕ) → List ℕ → Called
@@ -99,4 +105,4 @@ runIf judged.Passed g out =
 
 unfoldable pub runCall : Given (List ℕ) → List ℕ → Called
 runCall g out =
-    runIf (judgeCall (length (g .memory)) (g .setting .order) (length (g .registers)) (length out) 2) g out
+    runIf (judgeWith (length (g .memory)) (g .setting .order) (g .registers) (length out) 2) g out

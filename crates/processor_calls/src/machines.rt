@@ -3,29 +3,46 @@ ghost use mathlib.Core.Path.{_≡_};
 ghost use Prim.Native.Nat.{_≤_};
 ghost use lib.ListN.{length};
 ghost use Rattle.processor_calls.specs.Machines as machines;
+use areas::Areas;
+use areas::judging::judge_bounded;
+use calls::lending::areas_in;
 use calls::lending::with_room;
 use calls::lending::write_one;
 use calls::lending::write_registers;
 use calls::lending::write_two;
 use cell::Judged;
-use cell::judgement::judge_machine;
 use cell::judgement::refusal_number;
 use processor::Cycled;
 use processor::Ran;
 use processor::Started;
 
-pub fn judge_call(length: usize, order: u8, registers: usize, out: usize, needed: usize) -> Judged
-    ensures { λ r. ⌜ r ≡ machines.judgeCall length order registers out needed ⌝ }
+pub fn judge_call(
+    length: usize,
+    order: u8,
+    areas: Areas,
+    registers: usize,
+    out: usize,
+    needed: usize,
+) -> Judged
+    ensures { λ r. ⌜ r ≡ machines.judgeCall length order areas registers out needed ⌝ }
 {
     with_room(
-        with_room(judge_machine(length, order), registers, 4),
+        with_room(judge_bounded(length, order, areas), registers, 8),
         out,
         needed,
     )
 }
 
+// Where the areas come with the registers.
+pub fn judge_with(length: usize, order: u8, registers: &[u32], out: usize, needed: usize) -> Judged
+    ensures { λ r. ⌜ r ≡ machines.judgeWith length order (now (registers .entry)) out needed ⌝ }
+{
+    let areas = areas_in(registers, 4);
+    judge_call(length, order, areas, registers.len(), out, needed)
+}
+
 pub fn tell_started(answer: Started, registers: &mut [u32], out: &mut [u32]) -> u32
-    requires { ⌜ 4 ≤ length (now registers) ⌝ }
+    requires { ⌜ 8 ≤ length (now registers) ⌝ }
     requires { ⌜ 1 ≤ length (now out) ⌝ }
     ensures { λ n. ⌜ machines.told (now (registers .exit)) (now (out .exit)) n ≡ machines.startTold (now (registers .entry)) (now (out .entry)) answer ⌝ }
 {
@@ -46,7 +63,7 @@ pub fn tell_started(answer: Started, registers: &mut [u32], out: &mut [u32]) -> 
 }
 
 pub fn tell_cycled(answer: Cycled, registers: &mut [u32], out: &mut [u32]) -> u32
-    requires { ⌜ 4 ≤ length (now registers) ⌝ }
+    requires { ⌜ 8 ≤ length (now registers) ⌝ }
     requires { ⌜ 1 ≤ length (now out) ⌝ }
     ensures { λ n. ⌜ machines.told (now (registers .exit)) (now (out .exit)) n ≡ machines.cycleTold (now (registers .entry)) (now (out .entry)) answer ⌝ }
 {
@@ -72,7 +89,7 @@ pub fn tell_cycled(answer: Cycled, registers: &mut [u32], out: &mut [u32]) -> u3
 }
 
 pub fn tell_ran(answer: Ran, budget: u32, registers: &mut [u32], out: &mut [u32]) -> u32
-    requires { ⌜ 4 ≤ length (now registers) ⌝ }
+    requires { ⌜ 8 ≤ length (now registers) ⌝ }
     requires { ⌜ 2 ≤ length (now out) ⌝ }
     ensures { λ n. ⌜ machines.told (now (registers .exit)) (now (out .exit)) n ≡ machines.runTold (now (registers .entry)) (now (out .entry)) budget answer ⌝ }
 {

@@ -78,11 +78,11 @@ module _ (machine : Machine) where
   cycles-stay-sound zero s h = h
   cycles-stay-sound (suc n) s h = cycles-stay-sound n (advance machine s) (advance-stays-sound s h)
 
-  -- a start on a memory of bytes, at an address that is a cell
-  pub start-is-sound : (m : List ℕ) (ep handler : ℕ) → Bytewise m → length m < 2 ^ 32 → ep < 2 ^ 32
-      → SoundState (startOf machine m ep handler)
+  -- a start on a memory of bytes, with cells for EP, SP and RP
+  pub start-is-sound : (m : List ℕ) (ep handler sp rp : ℕ) → Bytewise m → ep < 2 ^ 32 → sp < 2 ^ 32 → rp < 2 ^ 32
+      → SoundState (startOf machine m ep handler sp rp)
   unfolding startOf
-  start-is-sound m ep handler b l h =
+  start-is-sound m ep handler sp rp b h s r =
       next-sound machine (fourCells machine m handler) _
       (record {
         bytes =
@@ -90,6 +90,6 @@ module _ (machine : Machine) where
             (store-bytewise (machine .order) _ _ _ (store-bytewise (machine .order) _ _ _ (store-bytewise (machine .order) m _ _ b)));
         ep = h;
         a = omega arith;
-        sp = omega arith;
-        rp = l;
+        sp = s;
+        rp = r;
       })

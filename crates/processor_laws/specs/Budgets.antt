@@ -4,7 +4,7 @@ use mathlib.Core.Path.{_≡_}
 use mathlib.Core.Logic.{_≢_}
 use mathlib.Core.List.{List}
 use Prim.Native.Nat.{ℕ, _+_, _≤_}
-use Rattle.machine.specs.declared.Registers.{Registers}
+use Rattle.areas.specs.declared.RegisterFile.{RegisterFile}
 use Rattle.processor.specs.Answers.{Given, RunAnswer, runAnswer}
 use Rattle.processor.specs.declared.Ran.{Ran}
 use Rattle.processor.specs.declared.Ran.the-variants as ran
@@ -37,12 +37,12 @@ withCycles b s =
 -- a run that is spent, carried on for c cycles more, is the run of both budgets in one
 abbrev pub CutBudget : Type 0
 CutBudget =
-    (g : Given Registers) (c : ℕ) → runAnswer g .number ≡ 0
+    (g : Given RegisterFile) (c : ℕ) → runAnswer g .number ≡ 0
     → runAnswer (withBudget (g .budget + c) g)
     ≡ withCycles (g .budget) (runAnswer (carriedOn g (runAnswer g .memory) (runAnswer g .registers) c))
 
 -- a run that is not spent, one that stopped above all, is answered alike under every larger budget
 abbrev pub LargerBudget : Type 0
 LargerBudget =
-    (g : Given Registers) (b : ℕ) → runAnswer g .number ≢ 0 → g .budget ≤ b
+    (g : Given RegisterFile) (b : ℕ) → runAnswer g .number ≢ 0 → g .budget ≤ b
     → runAnswer (withBudget b g) ≡ runAnswer g

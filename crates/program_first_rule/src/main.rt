@@ -1,5 +1,8 @@
 // Starts a machine on the first rule of document 01 (literals 2 and 3, +, HALT at 10h), runs it, and says why it stopped and after how many cycles.
+use areas::Area;
+use areas::Areas;
 use cell::Address;
+use cell::CellCount;
 use libc::STDOUT_FILENO;
 use processor::Ran;
 use processor::Started;
@@ -16,7 +19,15 @@ fn main() {
     memory[21] = 0x03;
     memory[24] = 0x1E;
     memory[25] = 0x55;
-    let Started::Ready(r) = start(0, &mut memory, Address(16), Address(0)) else {
+    let none = Area {
+        top: Address(0),
+        cells: CellCount(0),
+    };
+    let areas = Areas {
+        stack: none,
+        returns: none,
+    };
+    let Started::Ready(r) = start(0, &mut memory, Address(16), Address(0), areas) else {
         io::write_all(STDOUT_FILENO, b"not ready\n");
         return;
     };

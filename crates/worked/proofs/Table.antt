@@ -6,6 +6,7 @@ use Rattle.cell.specs.Number.{sum, difference, negated}
 use Rattle.cell.specs.Division.{symmetricOf, flooredOf}
 use Rattle.cell.specs.Shift.{asr8}
 use Rattle.cell.specs.Refusals.{judgeMachine}
+use Rattle.areas.specs.Areas.{judgeAreas, judgeBounded}
 use Rattle.machine.specs.Places.{placeOf, fetchOf}
 use Rattle.machine.specs.Exceptions.{exceptionOf}
 use Rattle.machine.specs.Commits.{placesOf, storedOf, commitOf}
@@ -34,6 +35,6 @@ use Rattle.worked.specs.Table.{table}
 
 pub worked-on-paper : tableHolds table ≡ true
 unfolding tableHolds cellAt storeCell sum difference negated symmetricOf flooredOf asr8 placeOf fetchOf exceptionOf placesOf storedOf commitOf handlerOf throwOf
-    nextOf finishOf plainOf plusEnds takingOf decodeOf executeOf cycleOf advance cyclesOf startOf judgeMachine startAnswer cycleAnswer doneOf runAnswer classOf
+    nextOf finishOf plainOf plusEnds takingOf decodeOf executeOf cycleOf advance cyclesOf startOf judgeMachine judgeAreas judgeBounded startAnswer cycleAnswer doneOf runAnswer classOf
     fits pack any entry judgedFrom judgedListing judgedArrays cur word cells rounds settle settled marks image countOf judgeLoad copied loadOf loadFirstOf
 worked-on-paper = refl

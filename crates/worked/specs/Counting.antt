@@ -3,6 +3,7 @@
 use mathlib.Core.List.{List, [], _∷_}
 use Prim.Native.Nat.{ℕ, _-_, _^_}
 use Rattle.cell.specs.Memory.{storeCell}
+use Rattle.areas.specs.Areas.{noAreas, filed}
 use Rattle.processor.specs.Answers.{CycleAnswer, cycleAnswer}
 use Rattle.worked.specs.Rows.{Row, numbers, lists}
 use Rattle.worked.specs.Processor.{blank}
@@ -12,15 +13,15 @@ counting order index limit step = storeCell order (storeCell order (storeCell or
 
 abbrev pub stepped : ℕ → ℕ → ℕ → ℕ → CycleAnswer
 stepped order index limit step =
-    cycleAnswer order (counting order index limit step) (record { ep = 0x24; a = 0xFFFFFE4F; sp = 0x200; rp = 0x300 })
+    cycleAnswer order (counting order index limit step) (filed noAreas (record { ep = 0x24; a = 0xFFFFFE4F; sp = 0x200; rp = 0x300 }))
 
 -- the loop ends: index and limit are dropped, nothing is written, and the next cell follows
 abbrev pub ends : ℕ → ℕ → ℕ → ℕ → Row
 ends order index limit step =
     let c = stepped order index limit step in
-    numbers (c .registers .ep) 0x28
-    ∷ numbers (c .registers .sp) 0x204
-    ∷ numbers (c .registers .rp) 0x308
+    numbers (c .registers .registers .ep) 0x28
+    ∷ numbers (c .registers .registers .sp) 0x204
+    ∷ numbers (c .registers .registers .rp) 0x308
     ∷ lists (c .memory) (counting order index limit step)
     ∷ []
 
@@ -28,9 +29,9 @@ ends order index limit step =
 abbrev pub continues : ℕ → ℕ → ℕ → ℕ → ℕ → Row
 continues order index limit step new =
     let c = stepped order index limit step in
-    numbers (c .registers .ep) 0x20
-    ∷ numbers (c .registers .sp) 0x204
-    ∷ numbers (c .registers .rp) 0x300
+    numbers (c .registers .registers .ep) 0x20
+    ∷ numbers (c .registers .registers .sp) 0x204
+    ∷ numbers (c .registers .registers .rp) 0x300
     ∷ lists (c .memory) (storeCell order (counting order index limit step) 0x300 new)
     ∷ []
 

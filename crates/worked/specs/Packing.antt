@@ -2,6 +2,7 @@
 use mathlib.Core.List.{List, [], _∷_, map}
 use Prim.Native.Nat.{ℕ, _+_}
 use Rattle.cell.specs.Memory.{storeCell}
+use Rattle.areas.specs.Areas.{noAreas}
 use Rattle.processor.specs.Answers.{StartAnswer, startAnswer, RunAnswer, givenOf, runAnswer}
 use Rattle.pack_layout.specs.Worked as packed
 use Rattle.worked.specs.Rows.{Row, numbers, lists}
@@ -23,7 +24,7 @@ firstImage (r ∷ rs) = packed.rowImage r
 
 -- the first row's image at 10h, started there
 abbrev pub ready : ℕ → StartAnswer
-ready order = startAnswer order (laid order blank 0x10 (firstImage packed.worked)) 0x10 0
+ready order = startAnswer order noAreas (laid order blank 0x10 (firstImage packed.worked)) 0x10 0
 
 -- and run: reason 5, four cycles
 abbrev pub ranFirst : ℕ → RunAnswer

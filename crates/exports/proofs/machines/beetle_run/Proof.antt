@@ -1,13 +1,13 @@
 -- `beetle_run` meets its contract: a refusal, or the processor's answer told.
-use borrow.Author.Needs.{needs}
+use mathlib.Core.Path.{sym, _∙_}
 use Rattle.processor_calls.proofs.CallLaws.{call-roomy}
 use Rattle.processor_calls.specs.Machines as machines
-use mathlib.Core.Path.{_∙_, sym}
+use borrow.Author.Needs.{needs}
 use Rattle.exports.proofs.machines.beetle_run.Statement.{statement}
 use Rattle.exports.proofs.machines.beetle_run.Tie as tie
 
-judge-call-requires : tie.Need-judge-call-requires
-judge-call-requires c κs = search needs
+judge-with-requires : tie.Need-judge-with-requires
+judge-with-requires c κs = search needs
 
 enum-known-n : tie.Need-enum-known-n
 enum-known-n c = search needs
@@ -19,22 +19,20 @@ enum-told : tie.Need-enum-told
 enum-told c = search needs
 
 read-registers-requires : tie.Need-read-registers-requires
-read-registers-requires c κs = call-roomy _ _ _ _ _ (sym (c .before .before .before .judge-call .ensures) ∙ c .before .enum-told .given .1) .0
+read-registers-requires c κs = call-roomy _ _ _ _ _ _ (sym (c .before .before .before .judge-with .ensures) ∙ c .before .enum-told .given .1) .0
 
 run-requires : tie.Need-run-requires
 run-requires c κs = search needs
 
 tell-ran-requires : tie.Need-tell-ran-requires
-tell-ran-requires c κs =
-    call-roomy _ _ _ _ _ (sym (c .before .before .before .before .before .before .before .before .before .before .judge-call .ensures) ∙
-    c .before .before .before .before .before .before .before .before .enum-told .given .1)
-
-returns : tie.Need-returns
-unfolding machines.runCall
-returns c = rw (sym (c .before .before .before .before .judge-call .ensures) ∙ c .before .before .n .given .1, c .refusal-number .ensures)
+tell-ran-requires c κs = call-roomy _ _ _ _ _ _ (sym (c .before .before .before .before .before .before .before .before .before .before .judge-with .ensures) ∙ c .before .before .before .before .before .before .before .before .enum-told .given .1)
 
 same-length : tie.Need-same-length
 same-length c = search needs
+
+returns : tie.Need-returns
+unfolding machines.runCall
+returns c = rw (sym (c .before .before .before .before .judge-with .ensures) ∙ c .before .before .n .given .1, c .refusal-number .ensures)
 
 same-length-2 : tie.Need-same-length-2
 same-length-2 c = search needs
@@ -42,32 +40,27 @@ same-length-2 c = search needs
 same-length-3 : tie.Need-same-length-3
 same-length-3 c = search needs
 
+same-length-4 : tie.Need-same-length-4
+same-length-4 c = search needs
+
 returns-2 : tie.Need-returns-2
 unfolding machines.runCall
-returns-2 c =
-    rw (
-      sym (c .before .before .before .before .before .before .before .before .before .before .before .before .before .before .before .judge-call .ensures) ∙
-          c .before .before .before .before .before .before .before .before .before .before .before .before .before .enum-told .given .1,
-      ←
-          c .before .before .before .before .before .before .before .before .before .before .before .read-registers .ensures,
-      ←
-          c .before .before .before .before .before .before .before .before .before .run .ensures,
-      ← c .before .before .before .before .tell-ran .ensures,
-    )
+returns-2 c = rw (sym (c .before .before .before .before .before .before .before .before .before .before .before .before .before .before .before .judge-with .ensures) ∙ c .before .before .before .before .before .before .before .before .before .before .before .before .before .enum-told .given .1, ← c .before .before .before .before .before .before .before .before .before .before .before .read-registers .ensures, ← c .before .before .before .before .before .before .before .before .before .run .ensures, ← c .before .before .before .before .tell-ran .ensures)
 
 pub beetle-run-spec : {M : Type 1} → statement M
 beetle-run-spec =
     tie.close
     (tie.spec
-    judge-call-requires
+    judge-with-requires
     enum-known-n
     refusal-number-requires
     enum-told
     read-registers-requires
     run-requires
     tell-ran-requires
-    returns
     same-length
+    returns
     same-length-2
     same-length-3
+    same-length-4
     returns-2)

@@ -1,10 +1,13 @@
 -- `beetle_start` meets its contract: a refusal, or the processor's answer told.
-use borrow.Author.Needs.{needs}
+use mathlib.Core.Path.{sym, _∙_}
 use Rattle.processor_calls.proofs.CallLaws.{call-roomy}
 use Rattle.processor_calls.specs.Machines as machines
-use mathlib.Core.Path.{_∙_, sym}
+use borrow.Author.Needs.{needs}
 use Rattle.exports.proofs.machines.beetle_start.Statement.{statement}
 use Rattle.exports.proofs.machines.beetle_start.Tie as tie
+
+make-areas-requires : tie.Need-make-areas-requires
+make-areas-requires c κs = search needs
 
 judge-call-requires : tie.Need-judge-call-requires
 judge-call-requires c κs = search needs
@@ -22,13 +25,11 @@ start-requires : tie.Need-start-requires
 start-requires c κs = search needs
 
 tell-started-requires : tie.Need-tell-started-requires
-tell-started-requires c κs =
-    call-roomy _ _ _ _ _ (sym (c .before .before .before .before .before .before .before .before .judge-call .ensures) ∙
-    c .before .before .before .before .before .before .enum-told .given .1)
+tell-started-requires c κs = call-roomy _ _ _ _ _ _ (sym (c .before .before .before .before .before .before .before .before .judge-call .ensures) ∙ c .before .before .before .before .before .before .enum-told .given .1)
 
 returns : tie.Need-returns
 unfolding machines.startCall
-returns c = rw (sym (c .before .before .before .before .judge-call .ensures) ∙ c .before .before .n .given .1, c .refusal-number .ensures)
+returns c = rw (← c .before .before .before .before .before .make-areas .ensures, sym (c .before .before .before .before .judge-call .ensures) ∙ c .before .before .n .given .1, c .refusal-number .ensures)
 
 same-length : tie.Need-same-length
 same-length c = search needs
@@ -41,19 +42,13 @@ same-length-3 c = search needs
 
 returns-2 : tie.Need-returns-2
 unfolding machines.startCall
-returns-2 c =
-    rw (
-      sym (c .before .before .before .before .before .before .before .before .before .before .before .before .before .judge-call .ensures) ∙
-          c .before .before .before .before .before .before .before .before .before .before .before .enum-told .given .1,
-      ←
-          c .before .before .before .before .before .before .before .before .before .start .ensures,
-      ← c .before .before .before .before .tell-started .ensures,
-    )
+returns-2 c = rw (← c .before .before .before .before .before .before .before .before .before .before .before .before .before .before .make-areas .ensures, sym (c .before .before .before .before .before .before .before .before .before .before .before .before .before .judge-call .ensures) ∙ c .before .before .before .before .before .before .before .before .before .before .before .enum-told .given .1, ← c .before .before .before .before .before .before .before .before .before .start .ensures, ← c .before .before .before .before .tell-started .ensures)
 
 pub beetle-start-spec : {M : Type 1} → statement M
 beetle-start-spec =
     tie.close
     (tie.spec
+    make-areas-requires
     judge-call-requires
     enum-known-n
     refusal-number-requires

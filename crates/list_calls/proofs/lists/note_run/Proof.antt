@@ -9,8 +9,11 @@ cast-low c = search needs
 cast-high : tie.Need-cast-high
 cast-high c = search needs
 
-write-two-requires : tie.Need-write-two-requires
-write-two-requires c κs = search needs
+read-areas-requires : tie.Need-read-areas-requires
+read-areas-requires c κs = search needs
+
+write-pointers-requires : tie.Need-write-pointers-requires
+write-pointers-requires c κs = search needs
 
 ending-reason-requires : tie.Need-ending-reason-requires
 ending-reason-requires c κs = search needs
@@ -28,13 +31,7 @@ same-length-2 : tie.Need-same-length-2
 same-length-2 c = search needs
 
 returns : tie.Need-returns
-returns c =
-    rw (
-      c .before .before .before .before .before .before .before .before .write-two .ensures,
-      c .before .before .before .write-five .ensures,
-      c .before .before .before .before .ending-reason .ensures,
-      c .ending-number .ensures,
-    )
+returns c = rw (c .before .before .before .before .before .before .before .before .write-pointers .ensures, c .before .before .before .before .before .before .before .before .before .before .read-areas .ensures, c .before .before .before .write-five .ensures, c .before .before .before .before .ending-reason .ensures, c .ending-number .ensures)
 
 pub note-run-spec : {M : Type 1} → statement M
 note-run-spec =
@@ -42,7 +39,8 @@ note-run-spec =
     (tie.spec
     cast-low
     cast-high
-    write-two-requires
+    read-areas-requires
+    write-pointers-requires
     ending-reason-requires
     write-five-requires
     ending-number-requires

@@ -2,9 +2,8 @@
 use mathlib.Core.Path.{sym, _∙_}
 use native.Mathlib.Omega.{arith}
 use lib.ListN.{length}
-use Rattle.machine.proofs.SpanLaws.{unbounded-fits}
 use Rattle.pack_prepare.proofs.Checking.{items-most}
-use Rattle.list_run.proofs.Following.{begin-lent, begin-checked, begin-refused, begin-passed}
+use Rattle.list_run.proofs.Following.{begin-lent, begin-areas, begin-fits, begin-checked, begin-refused, begin-passed}
 use borrow.Author.Needs.{needs}
 use Rattle.list_run.proofs.follow.follow_within.Statement.{statement}
 use Rattle.list_run.proofs.follow.follow_within.Tie as tie
@@ -24,14 +23,16 @@ mul-size c =
     let e = sym (c .before .before .judge-begin .ensures) ∙ c .enum-told .given .1 in omega (
       arith,
       items-most (args .kinds .now) (args .operands .now)
-          (begin-checked (length (args .memory .now)) (args .order) (args .kinds .now) (args .operands .now) e),
+          (begin-checked (length (args .memory .now)) (args .order) (args .areas) (args .kinds .now) (args .operands .now) e),
     )
 
-unbounded-requires : tie.Need-unbounded-requires
-unbounded-requires c κs =
+machine-of-requires : tie.Need-machine-of-requires
+machine-of-requires c κs =
     let args = c .before .before .before .before .before .before .args in
-    let e = sym (c .before .before .judge-begin .ensures) ∙ c .enum-told .given .1 in
-    begin-lent (length (args .memory .now)) (args .order) (args .kinds .now) (args .operands .now) e .most
+    let e = sym (c .before .before .judge-begin .ensures) ∙ c .enum-told .given .1 in (
+      begin-lent (length (args .memory .now)) (args .order) (args .areas) (args .kinds .now) (args .operands .now) e .most,
+      begin-areas (length (args .memory .now)) (args .order) (args .areas) (args .kinds .now) (args .operands .now) e,
+    )
 
 sub-follow-checked : tie.Need-sub-follow-checked
 sub-follow-checked c = search needs
@@ -45,22 +46,25 @@ part-table-end c =
     let e = sym (c .before .before .before .before .judge-begin .ensures) ∙ c .before .before .enum-told .given .1 in omega (
       arith,
       items-most (args .kinds .now) (args .operands .now)
-          (begin-checked (length (args .memory .now)) (args .order) (args .kinds .now) (args .operands .now) e),
+          (begin-checked (length (args .memory .now)) (args .order) (args .areas) (args .kinds .now) (args .operands .now) e),
     )
 
 follow-checked-requires : tie.Need-follow-checked-requires
 follow-checked-requires c κs =
     let args = c .before .before .before .before .before .before .before .before .before .args in
-    let e = sym (c .before .before .before .before .before .judge-begin .ensures) ∙ c .before .before .before .enum-told .given .1 in
-    let lent = begin-lent (length (args .memory .now)) (args .order) (args .kinds .now) (args .operands .now) e in (
-      (lent, rw (c .before .before .unbounded .ensures) (unbounded-fits (args .order) (length (args .memory .now)) lent)),
-      (begin-checked (length (args .memory .now)) (args .order) (args .kinds .now) (args .operands .now) e, search needs),
+    let e = sym (c .before .before .before .before .before .judge-begin .ensures) ∙ c .before .before .before .enum-told .given .1 in (
+      (
+        begin-lent (length (args .memory .now)) (args .order) (args .areas) (args .kinds .now) (args .operands .now) e,
+        rw (c .before .before .machine-of .ensures)
+            (begin-fits (length (args .memory .now)) (args .order) (args .areas) (args .kinds .now) (args .operands .now) e),
+      ),
+      (begin-checked (length (args .memory .now)) (args .order) (args .areas) (args .kinds .now) (args .operands .now) e, search needs),
     )
 
 returns : tie.Need-returns
 returns c =
     let args = c .before .before .before .before .before .before .before .args in
-    begin-refused (args .room) (args .order) (args .kinds .now)
+    begin-refused (args .room) (args .order) (args .areas) (args .kinds .now)
     (args .operands .now) (args .base .0) (args .memory .now) (args .start) (args .items) _
     (sym (c .before .before .before .judge-begin .ensures) ∙ c .before .r .given .1)
 
@@ -70,9 +74,9 @@ same-length c = search needs
 returns-2 : tie.Need-returns-2
 returns-2 c =
     let args = c .before .before .before .before .before .before .before .before .before .before .before .before .before .args in
-    let machine = c .before .before .before .before .before .before .unbounded .ensures in
+    let machine = c .before .before .before .before .before .before .machine-of .ensures in
     begin-passed (args .room)
-    (args .order) (args .kinds .now) (args .operands .now) (args .base .0) (args .memory .now) (args .start) (args .items) _
+    (args .order) (args .areas) (args .kinds .now) (args .operands .now) (args .base .0) (args .memory .now) (args .start) (args .items) _
     (sym (c .before .before .before .before .before .before .before .before .before .judge-begin .ensures)
     ∙ c .before .before .before .before .before .before .before .enum-told .given .1)
     (rw machine at (c .before .before .before .follow-checked .ensures))
@@ -85,7 +89,7 @@ follow-within-spec =
     enum-known-r
     enum-told
     mul-size
-    unbounded-requires
+    machine-of-requires
     sub-follow-checked
     part-table-start
     part-table-end

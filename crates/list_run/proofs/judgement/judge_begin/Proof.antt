@@ -5,8 +5,8 @@ use borrow.Author.Needs.{needs}
 use Rattle.list_run.proofs.judgement.judge_begin.Statement.{statement}
 use Rattle.list_run.proofs.judgement.judge_begin.Tie as tie
 
-judge-machine-requires : tie.Need-judge-machine-requires
-judge-machine-requires c κs = search needs
+judge-bounded-requires : tie.Need-judge-bounded-requires
+judge-bounded-requires c κs = search needs
 
 enum-known-r : tie.Need-enum-known-r
 enum-known-r c = search needs
@@ -19,17 +19,17 @@ judge-arrays-requires c κs = search needs
 
 returns : tie.Need-returns
 unfolding follows.judgeBegin
-returns c = rw (sym (c .before .before .before .judge-machine .ensures) ∙ c .before .r .given .1)
+returns c = rw (sym (c .before .before .before .judge-bounded .ensures) ∙ c .before .r .given .1)
 
 returns-2 : tie.Need-returns-2
 unfolding follows.judgeBegin
-returns-2 c = rw (sym (c .before .before .before .judge-machine .ensures) ∙ c .before .enum-told .given .1) (c .judge-arrays .ensures)
+returns-2 c = rw (sym (c .before .before .before .judge-bounded .ensures) ∙ c .before .enum-told .given .1) (c .judge-arrays .ensures)
 
 pub judge-begin-spec : {M : Type 1} → statement M
 judge-begin-spec =
     tie.close
     (tie.spec
-    judge-machine-requires
+    judge-bounded-requires
     enum-known-r
     enum-told
     judge-arrays-requires

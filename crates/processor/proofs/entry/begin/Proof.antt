@@ -19,9 +19,6 @@ store-requires-3 c κs = search needs
 store-requires-4 : tie.Need-store-requires-4
 store-requires-4 c κs = search needs
 
-sub-sp : tie.Need-sub-sp
-sub-sp c = search needs
-
 next-requires : tie.Need-next-requires
 next-requires c κs = search needs
 
@@ -46,7 +43,6 @@ begin-spec =
     store-requires-2
     store-requires-3
     store-requires-4
-    sub-sp
     next-requires
     same-length
     returns)

@@ -1,11 +1,11 @@
--- `judge_call` meets its contract: three judgements, one after the other.
-use borrow.Author.Needs.{needs}
+-- `judge_call` meets its contract: the judgements, one after the other.
 use Rattle.processor_calls.specs.Machines as machines
+use borrow.Author.Needs.{needs}
 use Rattle.processor_calls.proofs.machines.judge_call.Statement.{statement}
 use Rattle.processor_calls.proofs.machines.judge_call.Tie as tie
 
-judge-machine-requires : tie.Need-judge-machine-requires
-judge-machine-requires c κs = search needs
+judge-bounded-requires : tie.Need-judge-bounded-requires
+judge-bounded-requires c κs = search needs
 
 with-room-requires : tie.Need-with-room-requires
 with-room-requires c κs = search needs
@@ -15,8 +15,8 @@ with-room-requires-2 c κs = search needs
 
 returns : tie.Need-returns
 unfolding machines.judgeCall
-returns c = rw (c .with-room2 .ensures, c .before .with-room .ensures, c .before .before .judge-machine .ensures)
+returns c = rw (c .with-room2 .ensures, c .before .with-room .ensures, c .before .before .judge-bounded .ensures)
 
 pub judge-call-spec : {M : Type 1} → statement M
 judge-call-spec =
-    tie.close (tie.spec judge-machine-requires with-room-requires with-room-requires-2 returns)
+    tie.close (tie.spec judge-bounded-requires with-room-requires with-room-requires-2 returns)

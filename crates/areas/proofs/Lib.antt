@@ -1,0 +1,2 @@
+-- The laws of areas.
+pub mod AreaLaws

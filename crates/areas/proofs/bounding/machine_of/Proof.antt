@@ -1,0 +1,47 @@
+-- `machine_of` meets its contract.
+use native.Mathlib.Omega.{arith}
+use mathlib.Core.Path.{sym, _∙_}
+use Rattle.areas.proofs.AreaLaws.{taken}
+use borrow.Author.Needs.{needs}
+use Rattle.areas.proofs.bounding.machine_of.Statement.{statement}
+use Rattle.areas.proofs.bounding.machine_of.Tie as tie
+
+is-none-requires : tie.Need-is-none-requires
+is-none-requires c κs = search needs
+
+unbounded-requires : tie.Need-unbounded-requires
+unbounded-requires c κs = search needs
+
+returns : tie.Need-returns
+returns c = rw (sym (c .before .before .is-none .ensures) ∙ c .before .if1 .taken) (c .unbounded .ensures)
+
+span-of-requires : tie.Need-span-of-requires
+span-of-requires c κs =
+    let a = c .before .before .before .before .args in
+    let t = taken (a .length) (a .given) (sym (c .before .before .before .is-none .ensures) ∙ c .before .before .if1 .left)
+    (c .before .before .before .before .pre .1) in (omega arith, t .stack .begins)
+
+span-of-requires-2 : tie.Need-span-of-requires-2
+span-of-requires-2 c κs =
+    let a = c .before .before .before .before .before .before .args in
+    let t = taken (a .length) (a .given) (sym (c .before .before .before .before .before .is-none .ensures) ∙ c .before .before .before .before .if1 .left)
+    (c .before .before .before .before .before .before .pre .1) in (omega arith, t .returns .begins)
+
+returns-2 : tie.Need-returns-2
+returns-2 c =
+    rw (
+      sym (c .before .before .before .before .before .before .is-none .ensures) ∙ c .before .before .before .before .before .if1 .left,
+      c .span-of2 .ensures,
+      c .before .before .span-of .ensures,
+    )
+
+pub machine-of-spec : {M : Type 1} → statement M
+machine-of-spec =
+    tie.close
+    (tie.spec
+    is-none-requires
+    unbounded-requires
+    returns
+    span-of-requires
+    span-of-requires-2
+    returns-2)

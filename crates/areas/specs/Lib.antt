@@ -1,0 +1,3 @@
+-- What crate `areas` means.
+pub mod Areas
+pub mod Bounds

@@ -1,0 +1,75 @@
+// The machine that areas bound.
+ghost use mathlib.Core.Path.{_≡_};
+ghost use Prim.Native.Nat.{_≤_};
+ghost use Rattle.cell.specs.declared.Judged.the-variants as judged;
+ghost use Rattle.areas.specs.Areas as areas;
+ghost use Rattle.areas.specs.Bounds as bounds;
+use crate::Area;
+use crate::Areas;
+use crate::judging::is_none;
+use cell::Address;
+use cell::CellCount;
+use machine::Machine;
+use machine::Span;
+use machine::places::unbounded;
+
+// The cells of an area that was taken, and those held under it.
+fn span_of(held: u32, area: Area) -> Span
+    requires { ⌜ held ≤ 1 ⌝ }
+    requires { ⌜ areas.bytesWith held area ≤ area .top .0 ⌝ }
+    ensures { λ s. ⌜ s ≡ bounds.spanOf held area ⌝ }
+{
+    let top = area.top;
+    let cells = area.cells;
+    Span {
+        floor: Address(top.0 - 4 * (cells.0 + held)),
+        cells: CellCount(cells.0 + held),
+    }
+}
+
+// The machine of areas that were taken.
+pub fn machine_of(order: u8, given: Areas, length: usize) -> Machine
+    requires { ⌜ length ≤ 16777216 ⌝ }
+    requires { ⌜ areas.judgeAreas length given ≡ judged.Passed ⌝ }
+    ensures { λ m. ⌜ m ≡ bounds.machineOf order given length ⌝ }
+{
+    if is_none(given) {
+        return unbounded(order, length);
+    }
+    let stack = given.stack;
+    let returns = given.returns;
+    let span = span_of(1, stack);
+    let floor = span.floor;
+    Machine {
+        order: order,
+        stack: span,
+        returns: span_of(0, returns),
+        held: floor,
+    }
+}
+
+// Where the data stack begins.
+pub fn first_sp(length: usize, given: Areas) -> u32
+    requires { ⌜ (1024 ≤ length) × (length ≤ 16777216) ⌝ }
+    ensures { λ r. ⌜ r ≡ bounds.firstSp length given ⌝ }
+{
+    if is_none(given) {
+        return (length - 0x100) as u32;
+    }
+    let stack = given.stack;
+    let top = stack.top;
+    top.0
+}
+
+// Where the return stack begins.
+pub fn first_rp(length: usize, given: Areas) -> u32
+    requires { ⌜ length ≤ 16777216 ⌝ }
+    ensures { λ r. ⌜ r ≡ bounds.firstRp length given ⌝ }
+{
+    if is_none(given) {
+        return length as u32;
+    }
+    let returns = given.returns;
+    let top = returns.top;
+    top.0
+}
