@@ -4,15 +4,22 @@
  * overlap. No call keeps a pointer after it returns.
  *
  * `order` is the byte order: in 0 a cell begins with its low byte, in 1 with its high byte. `memory`
- * has whole cells, and from 1,024 to 16,777,216 bytes. `registers` holds EP, A, SP, RP in this order.
+ * has whole cells, and from 1,024 to 16,777,216 bytes.
+ *
+ * `registers` holds eight numbers: EP, A, SP, RP, data_top, data_cells, return_top, return_cells. The
+ * last four are the stack areas, each from its top down: no call changes them, and 0 in all four is a
+ * machine without areas. The cell just under the data area is held for an exception code: it is read
+ * as the area is, and only a throw pushes there. A stack access outside its area raises -3 (data,
+ * below) or -4 (data, at the top or above), -5 or -6 (return, likewise); a throw that can push neither
+ * into the area nor into the held cell, or a HALT with SP off both, stops with -258.
  *
  * A listing is its kinds, its operands and a base; as a file it is n, base, the kinds, the operands,
- * least significant byte first. `pointers` holds SP, RP in this order.
+ * least significant byte first. `pointers` holds six numbers: SP, RP and the same areas.
  *
  * The answer is 0, 1 where the machine stopped, 2 where the list machine stands outside, or a
  * refusal, below 0. On a refusal nothing that was lent is written. A `registers`, `pointers`, `out`
  * or `output` shorter than what a success writes is refused with BEETLE_SHORT_OUTPUT, the last of
- * the refusals to be judged. What is longer keeps its rest.
+ * the refusals to be judged (the areas in it are then not judged). What is longer keeps its rest.
  */
 #ifndef BEETLE_H
 #define BEETLE_H
@@ -49,13 +56,20 @@ extern "C" {
 #define BEETLE_BAD_OPERAND (-4108)    /* a plain item whose operand is not 0 */
 #define BEETLE_BAD_TARGET (-4109)     /* a target that is no item */
 #define BEETLE_BAD_BASE (-4110)       /* base below 10h, or the image passes 16,777,216 */
+#define BEETLE_BAD_AREAS (-4111)      /* areas, held cell counted, unaligned, empty, overlapping or
+                                         outside memory; judged after BEETLE_BAD_ORDER */
 
-/* Starts the machine: registers are written. out: [reason, or 0]. */
+/* Starts the machine: registers are written. SP and RP start at the areas' tops; without areas at
+ * MEMORY - 100h and MEMORY. out: [reason, or 0]. */
 int32_t beetle_start(
     uint8_t order,
     uint8_t *memory, size_t memory_length,
     uint32_t ep,
     uint32_t handler,
+    uint32_t data_top,
+    uint32_t data_cells,
+    uint32_t return_top,
+    uint32_t return_cells,
     uint32_t *registers, size_t registers_length,
     uint32_t *out, size_t out_length);
 

@@ -4,11 +4,16 @@
 
 mod c;
 
+#[allow(clippy::too_many_arguments)]
 pub fn start(
     order: u8,
     memory: &mut [u8],
     ep: u32,
     handler: u32,
+    data_top: u32,
+    data_cells: u32,
+    return_top: u32,
+    return_cells: u32,
     registers: &mut [u32],
     out: &mut [u32],
 ) -> u32 {
@@ -16,7 +21,23 @@ pub fn start(
     let (r, r_length) = (registers.as_mut_ptr(), registers.len());
     let (o, o_length) = (out.as_mut_ptr(), out.len());
     // SAFETY: each pointer goes with the length of its slice; the slices do not overlap.
-    unsafe { c::beetle_start(order, m, m_length, ep, handler, r, r_length, o, o_length) }
+    unsafe {
+        c::beetle_start(
+            order,
+            m,
+            m_length,
+            ep,
+            handler,
+            data_top,
+            data_cells,
+            return_top,
+            return_cells,
+            r,
+            r_length,
+            o,
+            o_length,
+        )
+    }
 }
 
 pub fn cycle(order: u8, memory: &mut [u8], registers: &mut [u32], out: &mut [u32]) -> u32 {
