@@ -105,6 +105,22 @@ impl Arguments {
         Ok(value.map(|value| value as u32))
     }
 
+    /// The two cells that an option gives, a comma between them.
+    pub fn two_cells(&self, name: &str) -> Result<Option<[u32; 2]>, Failure> {
+        let Some(word) = self.option(name) else {
+            return Ok(None);
+        };
+        let cell = |word| u32::try_from(number::whole(word).ok()?).ok();
+        let both = word.split_once(',');
+        match both.and_then(|(left, right)| Some([cell(left)?, cell(right)?])) {
+            Some(both) => Ok(Some(both)),
+            None => Err(usage(format!(
+                "{name} wants TOP,CELLS, each 0 to {}, not '{word}'",
+                u32::MAX
+            ))),
+        }
+    }
+
     /// The byte order: `--order`, or 0. The library judges it.
     pub fn order(&self) -> Result<u8, Failure> {
         let order = self.number("--order", u64::from(u8::MAX))?;

@@ -3,7 +3,7 @@
 
 use crate::failure::Failure;
 use crate::library::{self, End, Listed, Registers};
-use crate::{memory, report};
+use crate::{memory, reasons, report};
 
 /// A processor that follows the list machine.
 pub struct Processor {
@@ -36,9 +36,15 @@ impl Processor {
 
     /// Its line.
     pub fn line(&self) -> String {
-        let Registers { ep, a, sp, rp } = self.registers;
+        let Registers {
+            ep,
+            a,
+            sp,
+            rp,
+            areas,
+        } = self.registers;
         let cycles = self.cycles;
-        let tops = report::tops(self.order, &self.memory, sp, rp);
+        let tops = report::tops(self.order, &self.memory, sp, rp, &areas);
         let line = format!("processor EP {ep:08X} A {a:08X}  {sp:08X} {rp:08X} {cycles:8}  {tops}");
         line.trim_end().to_string()
     }
@@ -49,10 +55,13 @@ impl Processor {
             End::Stopped(reason) => Some(reason),
             End::WentOn | End::Outside(_) => None,
         };
-        let Registers { sp, rp, .. } = self.registers;
+        let Registers { sp, rp, areas, .. } = self.registers;
         let mut differ = Vec::new();
         if reason != self.reason {
-            let told = |reason: Option<u32>| reason.map_or("none".to_string(), report::why);
+            let told = |reason: Option<u32>| match reason {
+                Some(reason) => reasons::why(reason, sp, &areas),
+                None => "none".to_string(),
+            };
             differ.push(format!("reason {} / {}", told(reason), told(self.reason)));
         }
         if listed.cycles != self.cycles {

@@ -9,6 +9,8 @@ pub enum Failure {
     Usage(String),
     /// The library refused, with this number.
     Refused(i32),
+    /// It refused the stack areas, for these reasons.
+    BadAreas(Vec<String>),
     /// Mistakes in a rule's text, a line for each.
     Mistakes(Vec<String>),
     /// Anything else, as a file that cannot be read.
@@ -45,6 +47,11 @@ impl Failure {
             Failure::Refused(number) => {
                 eprintln!("beetle: refused with {number}: {}", meaning(*number));
             }
+            Failure::BadAreas(reasons) => {
+                let general = meaning(BAD_AREAS);
+                eprintln!("beetle: refused with {BAD_AREAS}: {general}");
+                reasons.iter().for_each(|reason| eprintln!("  {reason}"));
+            }
             Failure::Mistakes(lines) => lines.iter().for_each(|line| eprintln!("{line}")),
             Failure::Other(text) => eprintln!("beetle: {text}"),
             Failure::Unread => {}
@@ -52,7 +59,10 @@ impl Failure {
     }
 }
 
-/// What a refusal's number means (document 01, the two lists of refusals).
+/// The refusal of stack areas.
+pub const BAD_AREAS: i32 = -4111;
+
+/// What a refusal's number means (document 01, the two lists of refusals; document 02).
 pub fn meaning(refusal: i32) -> &'static str {
     match refusal {
         -1 => "the module's address is MEMORY or more, or its cells pass MEMORY",
@@ -67,6 +77,10 @@ pub fn meaning(refusal: i32) -> &'static str {
         -4108 => "a plain item has an operand",
         -4109 => "a branch leads to no item",
         -4110 => "the base is below 10h, or the image passes 16,777,216",
-        _ => "a number that document 01 does not list",
+        BAD_AREAS => {
+            "the stack areas, with the cell held under the data area, are unaligned, empty, \
+             outside memory or overlapping"
+        }
+        _ => "a number that the documents do not list",
     }
 }

@@ -1,24 +1,35 @@
 //! The proved library's calls, with names for what comes back. Nothing is decided here.
 
+use crate::areas::Areas;
 use crate::failure::Failure;
 
-/// EP, A, SP and RP.
+/// EP, A, SP, RP and the areas of the stacks.
 #[derive(Clone, Copy, PartialEq, Eq, Debug)]
 pub struct Registers {
     pub ep: u32,
     pub a: u32,
     pub sp: u32,
     pub rp: u32,
+    pub areas: Areas,
 }
 
 impl Registers {
-    fn from_array(r: [u32; 4]) -> Self {
-        let [ep, a, sp, rp] = r;
-        Registers { ep, a, sp, rp }
+    fn from_array(r: [u32; 8]) -> Self {
+        let [ep, a, sp, rp, areas @ ..] = r;
+        let areas = Areas::of(areas);
+        Registers {
+            ep,
+            a,
+            sp,
+            rp,
+            areas,
+        }
     }
 
-    fn to_array(self) -> [u32; 4] {
-        [self.ep, self.a, self.sp, self.rp]
+    fn to_array(self) -> [u32; 8] {
+        let [data, data_cells, back, back_cells] = self.areas.numbers();
+        let Registers { ep, a, sp, rp, .. } = self;
+        [ep, a, sp, rp, data, data_cells, back, back_cells]
     }
 }
 
@@ -40,13 +51,21 @@ pub enum End {
 }
 
 /// Where the list machine stands: an item, whether it was run on into from an item not in its
-/// immediate form, SP and RP.
+/// immediate form, SP, RP and the areas of the stacks.
 #[derive(Clone, Copy, PartialEq, Eq, Debug)]
 pub struct Stand {
     pub item: u32,
     pub ran: bool,
     pub sp: u32,
     pub rp: u32,
+    pub areas: Areas,
+}
+
+impl Stand {
+    fn pointers(&self) -> [u32; 6] {
+        let [data, data_cells, back, back_cells] = self.areas.numbers();
+        [self.sp, self.rp, data, data_cells, back, back_cells]
+    }
 }
 
 /// What the list machine came to.
@@ -92,10 +111,15 @@ pub fn start(
     memory: &mut [u8],
     ep: u32,
     handler: u32,
+    areas: Areas,
 ) -> Result<(Registers, Option<u32>), Failure> {
-    let (mut r, mut out) = ([0; 4], [0]);
-    let answer = beetle_bindings::start(order, memory, ep, handler, &mut r, &mut out);
-    let stopped = accepted(answer)? == STOPPED;
+    let (mut r, mut out) = ([0; 8], [0]);
+    let [data, data_cells, back, back_cells] = areas.numbers();
+    let answer = beetle_bindings::start(
+        order, memory, ep, handler, data, data_cells, back, back_cells, &mut r, &mut out,
+    );
+    let explained = |failure| areas.explain(failure, memory.len());
+    let stopped = accepted(answer).map_err(explained)? == STOPPED;
     Ok((Registers::from_array(r), stopped.then_some(out[0])))
 }
 
@@ -165,8 +189,8 @@ pub fn list_resume(
     items: u32,
 ) -> Result<Listed, Failure> {
     let (kinds, operands, base) = (&listing.kinds, &listing.operands, listing.base);
-    let Stand { item, ran, sp, rp } = stand;
-    let (mut p, mut out) = ([sp, rp], [0; 5]);
+    let Stand { item, ran, .. } = stand;
+    let (mut p, mut out) = (stand.pointers(), [0; 5]);
     let answer = beetle_bindings::list_resume(
         order,
         kinds,
@@ -184,16 +208,13 @@ pub fn list_resume(
         OUTSIDE => End::Outside(out[0]),
         _ => End::WentOn,
     };
-    Ok(listed(end, p, out))
-}
-
-fn listed(end: End, stacks: [u32; 2], out: [u32; 5]) -> Listed {
-    Listed {
+    let [_, item, items_done, low, high] = out;
+    Ok(Listed {
         end,
-        item: out[1],
-        items_done: out[2],
-        cycles: u64::from(out[3]) + (u64::from(out[4]) << 32),
-        sp: stacks[0],
-        rp: stacks[1],
-    }
+        item,
+        items_done,
+        cycles: u64::from(low) + (u64::from(high) << 32),
+        sp: p[0],
+        rp: p[1],
+    })
 }

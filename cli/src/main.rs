@@ -1,17 +1,20 @@
 //! `beetle`: rules from text to cells, modules and runs. The work is done by the proved library;
 //! reading text and printing is not proved.
 
+mod areas;
 mod arguments;
 mod beside;
 mod commands;
 mod failure;
 mod files;
+mod following;
 mod library;
 mod listing;
 mod memory;
 mod names;
 mod number;
 mod reading;
+mod reasons;
 mod report;
 mod text;
 

@@ -1,5 +1,7 @@
 //! Memory to lend, and cells as they are read out of it for printing.
 
+use std::ops::Range;
+
 use crate::arguments::Arguments;
 use crate::failure::Failure;
 
@@ -37,10 +39,11 @@ pub fn cell_at(order: u8, memory: &[u8], address: u32) -> Option<u32> {
     at.is_multiple_of(4).then(|| cell_of(order, bytes))
 }
 
-/// Cells of a stack from its top on, at most so many. The stack ends below `bottom`.
-pub fn top(order: u8, memory: &[u8], pointer: u32, bottom: u32, most: usize) -> Vec<u32> {
-    let places = (pointer..bottom).step_by(4).take(most);
+/// Cells of a stack from its top on, at most so many; none where the pointer is below the stack.
+pub fn top(order: u8, memory: &[u8], pointer: u32, stack: &Range<u32>, most: usize) -> Vec<u32> {
+    let places = (pointer..stack.end).step_by(4).take(most);
     places
+        .take_while(|place| *place >= stack.start)
         .map_while(|place| cell_at(order, memory, place))
         .collect()
 }

@@ -17,8 +17,10 @@ const NAMES: [&str; 0x5C] = [
     /* 58h */ "OS", "LINK", "RUN", "STEP",
 ];
 
-/// The literal's opcode.
+/// The opcodes of the literal, of THROW and of HALT.
 pub const LITERAL: u8 = 0x52;
+pub const THROW: u8 = 0x54;
+pub const HALT: u8 = 0x55;
 
 /// What an opcode is in a listing.
 #[derive(Clone, Copy, PartialEq, Eq, Debug)]

@@ -3,17 +3,20 @@
 use std::io::Write;
 
 use super::run::NO_HANDLER;
+use crate::areas::Areas;
 use crate::arguments::{Arguments, Takes};
 use crate::beside::Processor;
 use crate::failure::Failure;
-use crate::library::{self, End, Listed, Listing, Registers, Stand};
+use crate::following::Following;
+use crate::library::{self, End, Listed, Listing, Registers};
 use crate::listing::{self, Packed};
 use crate::names::{kind_of, name_of, Kind};
-use crate::{files, memory, report};
+use crate::{files, memory, reasons, report};
 
 pub const HELP: &str = "\
 beetle follow RULE.lst [--items N] [--memory BYTES] [--order 0|1]
               [--handler ADDRESS] [--beside]
+              [--data-area TOP,CELLS --return-area TOP,CELLS]
 
 Carries out a listing item by item on the proved list machine, from item 0 of a machine
 just started with the image at its base. After each item a line gives the items done,
@@ -29,6 +32,12 @@ decimal and the return stack in hexadecimal.
                      after the cycles counted. Memory, SP, RP and the reason of a stop
                      are compared, and the first difference ends the command with exit
                      status 1. It is proved that there is none
+  --data-area TOP,CELLS, --return-area TOP,CELLS
+                     the areas of the two stacks, both or neither: CELLS cells each, the
+                     last one just below TOP, where SP and RP start. The cell under the
+                     data area is held for an exception's code. An access outside its
+                     area throws -3 (data, below), -4 (data, above), -5 or -6 (return),
+                     and a line says so
 
 The exit status is 0 however the list machine ends: by a stop, outside (in front of an
 item that would leave what the listing says; the last line says why), or after N items.
@@ -36,7 +45,14 @@ item that would leave what the listing says; the last line says why), or after N
 
 const TAKES: Takes = Takes {
     files: &["RULE.lst"],
-    options: &["--items", "--memory", "--order", "--handler"],
+    options: &[
+        "--items",
+        "--memory",
+        "--order",
+        "--handler",
+        "--data-area",
+        "--return-area",
+    ],
     switches: &["--beside"],
 };
 
@@ -50,55 +66,6 @@ struct Begun {
     registers: Registers,
 }
 
-/// The list machine on its way: its memory, where it stands, the items done and cycles counted.
-struct Following<'l> {
-    packed: &'l Packed,
-    memory: Vec<u8>,
-    stand: Stand,
-    items_done: u32,
-    cycles: u64,
-}
-
-impl<'l> Following<'l> {
-    fn new(begun: &'l Begun) -> Self {
-        let Registers { sp, rp, .. } = begun.registers;
-        let (item, ran) = (0, false);
-        Following {
-            packed: &begun.packed,
-            memory: begun.memory.clone(),
-            stand: Stand { item, ran, sp, rp },
-            items_done: 0,
-            cycles: 0,
-        }
-    }
-
-    /// So many items from here on.
-    fn resume(&self, memory: &mut [u8], items: u32) -> Result<Listed, Failure> {
-        let Packed { listing, order, .. } = self.packed;
-        library::list_resume(*order, listing, memory, self.stand, items)
-    }
-
-    /// Carries out the next item. What a second one counts tells whether it was run on into and
-    /// opens a cell.
-    fn step(&mut self) -> Result<Listed, Failure> {
-        let two = self.resume(&mut self.memory.clone(), 2)?;
-        let mut memory = std::mem::take(&mut self.memory);
-        let one = self.resume(&mut memory, 1)?;
-        self.memory = memory;
-        let Listed { item, sp, rp, .. } = one;
-        let ran = two.items_done == 2 && two.cycles == one.cycles + 2;
-        self.stand = Stand { item, ran, sp, rp };
-        self.items_done += one.items_done;
-        self.cycles += one.cycles;
-        let (items_done, cycles) = (self.items_done, self.cycles);
-        Ok(Listed {
-            items_done,
-            cycles,
-            ..one
-        })
-    }
-}
-
 pub fn carry_out(words: &[String], out: &mut dyn Write) -> Result<u8, Failure> {
     let arguments = Arguments::read(words, &TAKES)?;
     let items = arguments.cell("--items")?.unwrap_or(USUAL_ITEMS);
@@ -110,23 +77,26 @@ pub fn carry_out(words: &[String], out: &mut dyn Write) -> Result<u8, Failure> {
         out,
         " done item instruction            SP       RP         cycles  data | return, top first"
     )?;
-    let mut following = Following::new(&begun);
-    let mut last = following.resume(&mut following.memory.clone(), 0)?;
+    let mut following = Following::new(&begun.packed, &begun.memory, begun.registers);
+    let mut last = following.judged()?;
     while last.end == End::WentOn && last.items_done < items {
         let item = last.item;
+        let thrown = following.thrown_next()?;
         last = following.step()?;
         if matches!(last.end, End::Outside(_)) {
             break;
         }
-        let memory = &following.memory;
-        writeln!(out, "{}", line(&begun.packed, item, &last, memory))?;
+        writeln!(out, "{}", line(&following, item, &last))?;
+        if let Some(over) = thrown.and_then(|code| following.threw(code)) {
+            writeln!(out, "{over}")?;
+        }
         if let Some(processor) = &mut beside {
             processor.catch_up(&last)?;
             writeln!(out, "{}", processor.line())?;
-            processor.compare(&last, memory)?;
+            processor.compare(&last, &following.memory)?;
         }
     }
-    writeln!(out, "{}", end(&begun.packed.listing, &last))?;
+    writeln!(out, "{}", end(&following, &last))?;
     Ok(0)
 }
 
@@ -143,7 +113,8 @@ fn begin(arguments: &Arguments) -> Result<Begun, Failure> {
         return Err(Failure::Other(text));
     };
     place.copy_from_slice(&packed.image);
-    let (registers, _) = library::start(packed.order, &mut memory, base, handler)?;
+    let areas = Areas::asked_for(arguments)?;
+    let (registers, _) = library::start(packed.order, &mut memory, base, handler, areas)?;
     Ok(Begun {
         packed,
         memory,
@@ -163,24 +134,28 @@ fn instruction(listing: &Listing, item: u32) -> String {
 }
 
 /// The line of an item that was carried out.
-fn line(packed: &Packed, item: u32, listed: &Listed, memory: &[u8]) -> String {
+fn line(following: &Following, item: u32, listed: &Listed) -> String {
+    let Packed { listing, order, .. } = following.packed;
     let Listed { sp, rp, cycles, .. } = *listed;
-    let instruction = instruction(&packed.listing, item);
+    let instruction = instruction(listing, item);
     let done = listed.items_done;
-    let tops = report::tops(packed.order, memory, sp, rp);
+    let tops = report::tops(*order, &following.memory, sp, rp, &following.stand.areas);
     let line = format!("{done:5} {item:4} {instruction:<22} {sp:08X} {rp:08X} {cycles:8}  {tops}");
     line.trim_end().to_string()
 }
 
 /// How it ended.
-fn end(listing: &Listing, last: &Listed) -> String {
+fn end(following: &Following, last: &Listed) -> String {
     let done = format!("after {} items and {} cycles", last.items_done, last.cycles);
     match last.end {
         End::WentOn => format!("not stopped {done}"),
-        End::Stopped(reason) => format!("stopped {} {done}", report::why(reason)),
+        End::Stopped(reason) => {
+            let why = reasons::why(reason, last.sp, &following.stand.areas);
+            format!("stopped {why} {done}")
+        }
         End::Outside(number) => {
-            let (item, name) = (last.item, instruction(listing, last.item));
-            let why = report::why_outside(number);
+            let name = instruction(&following.packed.listing, last.item);
+            let (item, why) = (last.item, reasons::why_outside(number));
             format!("stopped outside, in front of item {item} ({name}): {why}, {done}")
         }
     }

@@ -4,15 +4,18 @@ use std::io::Write;
 use std::time::{Duration, Instant};
 
 use super::load::USUAL_ADDRESS;
+use crate::areas::Areas;
 use crate::arguments::{Arguments, Takes};
 use crate::failure::Failure;
 use crate::library::{self, Registers};
-use crate::report::{self, State, BAD_HANDLER, BAD_STACK};
+use crate::reasons::{self, BAD_HANDLER, BAD_STACK};
+use crate::report::{self, State};
 use crate::{files, memory};
 
 pub const HELP: &str = "\
 beetle run MODULE [--memory BYTES] [--order 0|1] [--address ADDRESS]
            [--entry ADDRESS] [--handler ADDRESS] [--budget CYCLES]
+           [--data-area TOP,CELLS --return-area TOP,CELLS]
 
 Loads an object module, starts the machine and runs it, all by the proved library, then
 prints why it stopped, the cycles done, the registers and the tops of both stacks.
@@ -25,6 +28,11 @@ prints why it stopped, the cycles done, the registers and the tops of both stack
                      address: the first throw stops the machine with -259
   --budget CYCLES    the most cycles to run; without it the run ends when the machine
                      stops. A long run tells its cycles on the error stream
+  --data-area TOP,CELLS, --return-area TOP,CELLS
+                     the areas of the two stacks, both or neither: CELLS cells each, the
+                     last one just below TOP, where SP and RP start. The cell under the
+                     data area is held for an exception's code. An access outside its
+                     area throws -3 (data, below), -4 (data, above), -5 or -6 (return)
 
 Numbers are decimal, or hexadecimal with an h. The exit status is 0 if HALT stopped the
 machine, and 1 for a refusal, a stop with -258 or -259, or a budget that was spent. (A
@@ -40,6 +48,8 @@ const TAKES: Takes = Takes {
         "--entry",
         "--handler",
         "--budget",
+        "--data-area",
+        "--return-area",
     ],
     switches: &[],
 };
@@ -63,11 +73,12 @@ pub fn carry_out(words: &[String], out: &mut dyn Write) -> Result<u8, Failure> {
     let entry = arguments.cell("--entry")?.unwrap_or(address);
     let handler = arguments.cell("--handler")?.unwrap_or(NO_HANDLER);
     let budget = arguments.number("--budget", u64::MAX)?;
+    let areas = Areas::asked_for(&arguments)?;
     let mut lent = memory::lent(&arguments)?;
     let file = files::read(arguments.file(0))?;
     let count = library::load(order, &mut lent, &file, address)?;
     writeln!(out, "loaded {count} cells at {address:X}h")?;
-    let (mut registers, stopped) = library::start(order, &mut lent, entry, handler)?;
+    let (mut registers, stopped) = library::start(order, &mut lent, entry, handler, areas)?;
     let ended = match stopped {
         Some(_) => Ended {
             reason: stopped,
@@ -114,16 +125,23 @@ fn run_on(
 /// Prints the end and the state.
 fn tell(out: &mut dyn Write, ended: &Ended, state: &State<'_>) -> Result<u8, Failure> {
     match ended.reason {
-        Some(reason) => writeln!(out, "stopped {}", report::why(reason))?,
+        Some(reason) => {
+            let Registers { sp, areas, .. } = state.registers;
+            writeln!(out, "stopped {}", reasons::why(reason, sp, &areas))?;
+        }
         None => writeln!(out, "spent its budget, not stopped")?,
     }
     writeln!(out, "{} cycles", ended.cycles)?;
     report::state(out, state)?;
-    if ended.reason == Some(BAD_HANDLER) {
-        report::thrown(out, state)?;
-    }
     match ended.reason {
-        None | Some(BAD_STACK | BAD_HANDLER) => Ok(1),
-        Some(_) => Ok(0),
+        None | Some(BAD_STACK) => Ok(1),
+        Some(BAD_HANDLER) => {
+            report::thrown(out, state)?;
+            Ok(1)
+        }
+        Some(reason) => {
+            report::handled(out, reason, state)?;
+            Ok(0)
+        }
     }
 }

@@ -8,9 +8,15 @@ fn example(file: &str) -> String {
     fs::read_to_string(format!("{folder}{file}")).expect("an example")
 }
 
-fn runs_as_stored(name: &str) {
-    let folder = Folder::new(name);
+/// The folder of a test, with an example assembled and saved in it.
+fn with_rule(test: &str, name: &str) -> Folder {
+    let folder = Folder::new(test);
     folder.rule(&example(&format!("{name}.txt")));
+    folder
+}
+
+fn runs_as_stored(name: &str) {
+    let folder = with_rule(name, name);
     let expected = example(&format!("{name}.expected"));
     assert_eq!(folder.done("run rule.mod"), expected);
     assert_eq!(folder.done("run rule.mod --order 1"), expected);
@@ -42,4 +48,48 @@ fn age() {
 #[test]
 fn places() {
     runs_as_stored("places");
+}
+
+#[test]
+fn deep() {
+    runs_as_stored("deep");
+}
+
+/// Areas that end above the table.
+const AREAS: &str = "--data-area FF00h,31 --return-area 10000h,64";
+
+/// Areas that would hold every age, over the table.
+const WIDE: &str = "--data-area FF00h,60 --return-area 10000h,64";
+
+#[test]
+fn deep_with_areas() {
+    let folder = with_rule("deep_with_areas", "deep");
+    let expected = example("deep.areas.expected");
+    for order in ["0", "1"] {
+        let said = folder.beetle(&format!("run rule.mod --order {order} {AREAS}"));
+        assert_eq!((said.status, said.output.as_str()), (1, expected.as_str()));
+        let words = format!("follow rule.lst --beside --order {order} {AREAS}");
+        let followed = folder.done(&words);
+        let threw = "\nthrew -3: the data stack went below its area (overflow)\n";
+        assert_eq!(followed.matches("\nthrew ").count(), 1);
+        assert!(followed.contains(threw), "{followed}");
+    }
+    let wide = folder.done(&format!("run rule.mod {WIDE}"));
+    assert_eq!(wide, example("deep.expected"));
+}
+
+#[test]
+fn deep_with_areas_and_a_handler() {
+    let folder = with_rule("deep_handled", "deep");
+    for order in ["0", "1"] {
+        let words = format!("--order {order} {AREAS} --handler 14h");
+        let ran = folder.done(&format!("run rule.mod {words}"));
+        let stop = "stopped by HALT, reason -3 (FFFFFFFDh)";
+        assert_eq!(ran.lines().nth(1), Some(stop));
+        let last = "code -3: the data stack went below its area (overflow)";
+        assert_eq!(ran.lines().last(), Some(last));
+        let followed = folder.done(&format!("follow rule.lst --beside {words}"));
+        let end = format!("{stop} after 136 items and 137 cycles\n");
+        assert!(followed.ends_with(&end), "{followed}");
+    }
 }

@@ -42,6 +42,9 @@ fn file(numbers: &mut Numbers, items: u32) -> Vec<u8> {
     file
 }
 
+/// Areas that such listings soon leave.
+const AREAS: &str = "--data-area F000h,3 --return-area F800h,2";
+
 #[test]
 fn accepted_listings_are_shown_and_followed() {
     let folder = Folder::new("listings");
@@ -53,6 +56,7 @@ fn accepted_listings_are_shown_and_followed() {
             assert_eq!(shown.lines().count(), items as usize + 2);
             let words = format!("follow rule.lst --beside --items 40 --order {order}");
             folder.done(&words);
+            folder.done(&format!("{words} {AREAS}"));
         }
     }
 }

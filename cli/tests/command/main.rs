@@ -1,5 +1,6 @@
 //! The command as an office uses it: good and bad input, what is printed, the exit status.
 
+mod areas;
 mod examples;
 mod folder;
 mod listings;
