@@ -2,9 +2,10 @@
 
 use std::hint::black_box;
 
-use crate::loops::{self, LOOPS};
+use crate::loops::{self, Case};
 use crate::measure::{instructions, nanoseconds};
-use crate::tables::{both, head, SIDES};
+use crate::sides::Side;
+use crate::tables::{beside, head};
 
 /// The cycles of one timed run.
 const CYCLES: u32 = 5_000_000;
@@ -12,26 +13,59 @@ const CYCLES: u32 = 5_000_000;
 /// The cycles of the counted runs.
 const COUNTS: [u32; 2] = [100_000, 1_100_000];
 
-/// A line for each loop.
+/// The instructions a cycle of the case with this number, by each side that has it.
+pub fn counted(side: Side, at: usize, case: &Case) -> Option<f64> {
+    case.run_of(side)?;
+    instructions(side, "loop", at, COUNTS)
+}
+
+/// The nanoseconds a cycle by each side that has the case; all have to leave the same machine.
+fn timed(case: &Case) -> [Option<f64>; 3] {
+    let runs = Side::ALL.map(|side| case.run_of(side));
+    let mut left = runs.into_iter().flatten().map(|run| case.run(run, CYCLES));
+    let first = left.next();
+    assert!(
+        left.all(|other| Some(other) == first),
+        "one machine is left"
+    );
+    let acts = runs.map(|run| {
+        move || {
+            black_box(run.map(|run| case.run(run, CYCLES)));
+        }
+    });
+    let mut times = nanoseconds(acts).into_iter();
+    runs.map(|run| {
+        let time = times.next()?;
+        run.map(|_| time / f64::from(CYCLES))
+    })
+}
+
+/// A line for each loop, without areas and with them.
 pub fn table() {
     let columns = [
         "loop",
+        "areas",
         "instructions a cycle, proved",
         "independent",
-        "ratio",
+        "C",
+        "ratio to independent",
+        "to C",
         "ns a cycle, proved",
         "independent",
-        "ratio",
+        "C",
+        "ratio to independent",
+        "to C",
     ];
     head("Cycles of beetle_run", &columns);
-    for (at, looping) in LOOPS.iter().enumerate() {
-        let counts = SIDES.map(|side| instructions(side, "loop", at, COUNTS));
-        let calls = SIDES.map(|side| side.calls());
-        let runs = calls.map(|calls| move || drop(black_box(loops::run(&calls, looping, CYCLES))));
-        let times = nanoseconds(runs).map(|time| Some(time / f64::from(CYCLES)));
-        let [left, right] = calls.map(|calls| loops::run(&calls, looping, CYCLES));
-        assert!(left == right, "both leave the same machine");
-        println!("| {} | {} | {} |", looping.name, both(counts), both(times));
+    for (at, case) in loops::cases().iter().enumerate() {
+        let counts = Side::ALL.map(|side| counted(side, at, case));
+        let times = timed(case);
+        let (name, areas) = (case.looping.name, case.areas());
+        println!(
+            "| {name} | {areas} | {} | {} |",
+            beside(&counts),
+            beside(&times)
+        );
     }
     println!();
 }

@@ -1,11 +1,14 @@
-//! Measures the proved library beside the independent implementation and prints tables.
+//! Measures the proved library beside the independent implementation and a processor in C, and
+//! prints tables.
 
+mod bounds;
 mod cycles;
 mod listings;
 mod loops;
 mod measure;
 mod modules;
 mod packing;
+mod peer;
 mod sides;
 mod tables;
 
@@ -20,11 +23,15 @@ fn count(words: &[String]) -> Option<()> {
     let [_, side, what, at, amount] = words else {
         return None;
     };
-    let calls = Side::named(side)?.calls();
-    let (at, amount) = (at.parse().ok()?, amount.parse().ok()?);
+    let side = Side::named(side)?;
+    let (at, amount): (usize, u32) = (at.parse().ok()?, amount.parse().ok()?);
     match what.as_str() {
-        "loop" => drop(loops::run(&calls, loops::LOOPS.get(at)?, amount)),
-        "module" => modules::repeat(&calls, at, amount)?,
+        "loop" => {
+            let cases = loops::cases();
+            let case = cases.get(at)?;
+            drop(case.run(case.run_of(side)?, amount));
+        }
+        "module" => modules::repeat(&side.calls()?, at, amount)?,
         _ => return None,
     }
     Some(())
@@ -37,16 +44,14 @@ fn main() -> ExitCode {
             cycles::table();
             packing::table();
             modules::tables();
-            Some(())
+            Some(ExitCode::SUCCESS)
         }
-        Some("count") => count(&words),
+        Some("bounds") if words.len() == 1 => Some(bounds::check()),
+        Some("count") => count(&words).map(|()| ExitCode::SUCCESS),
         Some(_) => None,
     };
-    match done {
-        Some(()) => ExitCode::SUCCESS,
-        None => {
-            eprintln!("give no words: all tables are printed");
-            ExitCode::from(2)
-        }
-    }
+    done.unwrap_or_else(|| {
+        eprintln!("give no word for all tables, or `bounds` to hold cycles to their bounds");
+        ExitCode::from(2)
+    })
 }

@@ -22,6 +22,11 @@ pub fn nanoseconds<const N: usize>(mut acts: [impl FnMut(); N]) -> [f64; N] {
     shortest
 }
 
+pub fn valgrind_is_installed() -> bool {
+    let version = Command::new("valgrind").arg("--version").output();
+    version.is_ok_and(|output| output.status.success())
+}
+
 /// Instructions a cycle of a loop, or a load or save of a module, if valgrind is installed: the
 /// difference between two amounts, so that what is done once does not count.
 pub fn instructions(side: Side, what: &str, at: usize, amounts: [u32; 2]) -> Option<f64> {

@@ -5,8 +5,8 @@ use std::hint::black_box;
 use beetle_tests::call::Implementation;
 
 use crate::measure::{instructions, nanoseconds};
-use crate::sides::Side;
-use crate::tables::{both, head, SIDES};
+use crate::sides::{whole, Side};
+use crate::tables::{beside, head};
 
 /// What is done with a module; a load with the byte order of its file. The machine's order is 0.
 #[derive(Clone, Copy)]
@@ -89,11 +89,11 @@ fn copy(cells: u32) -> f64 {
 fn lines(cells: u32) {
     let copy = copy(cells);
     for (name, act) in ACTS {
-        let times = SIDES.map(|side| microseconds(doing(side.calls(), act, cells)));
+        let times = whole().map(|calls| microseconds(doing(calls, act, cells)));
         let against = times[0] / copy;
         println!(
             "| {cells} | {name} | {} | {against:.2} |",
-            both(times.map(Some))
+            beside(&times.map(Some))
         );
     }
     println!("| {cells} | plain copy | {copy:.1} | | | 1.00 |");

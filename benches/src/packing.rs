@@ -6,7 +6,8 @@ use beetle_tests::call::Implementation;
 
 use crate::listings::{self, Listing};
 use crate::measure::nanoseconds;
-use crate::tables::{both, head, SIDES};
+use crate::sides::whole;
+use crate::tables::{beside, head};
 
 /// Room for any image.
 const IMAGE: usize = 4 * 2 * 4096;
@@ -37,7 +38,7 @@ pub fn table() {
         "ratio",
     ];
     head("Packing by beetle_pack", &columns);
-    let calls = SIDES.map(|side| side.calls());
+    let calls = whole();
     for listing in [listings::plain(), listings::most_rounds()] {
         let [left, right] = calls.map(|calls| image(&calls, &listing));
         assert!(left == right, "both pack to the same image");
@@ -47,7 +48,7 @@ pub fn table() {
         });
         let times = nanoseconds(acts).map(|time| Some(time / 1000.0));
         let (name, items, rounds) = (listing.name, listing.kinds.len(), listing.rounds());
-        println!("| {name} | {items} | {rounds} | {} |", both(times));
+        println!("| {name} | {items} | {rounds} | {} |", beside(&times));
     }
     println!();
 }

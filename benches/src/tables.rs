@@ -1,10 +1,5 @@
 //! Tables of what both sides take, as docs/BENCHMARKS.md shows them.
 
-use crate::sides::Side;
-
-/// The sides, in the order of the columns.
-pub const SIDES: [Side; 2] = [Side::Proved, Side::Independent];
-
 /// The title and the first lines of a table.
 pub fn head(title: &str, columns: &[&str]) {
     println!("## {title}\n");
@@ -17,10 +12,12 @@ fn shown(number: Option<f64>) -> String {
     number.map_or("-".to_string(), |number| format!("{number:.1}"))
 }
 
-/// Proved, independent, and how many times the second the first is.
-pub fn both(numbers: [Option<f64>; 2]) -> String {
-    let [proved, independent] = numbers;
-    let ratio = proved.zip(independent).map(|(p, i)| p / i);
-    let ratio = ratio.map_or("-".to_string(), |ratio| format!("{ratio:.2}"));
-    format!("{} | {} | {ratio}", shown(proved), shown(independent))
+/// A number for each side, the proved one first, then how many times each other's it is.
+pub fn beside(numbers: &[Option<f64>]) -> String {
+    let mut words: Vec<String> = numbers.iter().copied().map(shown).collect();
+    for other in &numbers[1..] {
+        let ratio = numbers[0].zip(*other).map(|(proved, other)| proved / other);
+        words.push(ratio.map_or("-".to_string(), |ratio| format!("{ratio:.2}")));
+    }
+    words.join(" | ")
 }
