@@ -7,11 +7,11 @@
  * has whole cells, and from 1,024 to 16,777,216 bytes.
  *
  * `registers` holds eight numbers: EP, A, SP, RP, data_top, data_cells, return_top, return_cells. The
- * last four are the stack areas, each from its top down: no call changes them, and 0 in all four is a
- * machine without areas. The cell just under the data area is held for an exception code: it is read
- * as the area is, and only a throw pushes there. A stack access outside its area raises -3 (data,
- * below) or -4 (data, at the top or above), -5 or -6 (return, likewise); a throw that can push neither
- * into the area nor into the held cell, or a HALT with SP off both, stops with -258.
+ * last four are the stack areas, so many cells below each top: no call changes them, and four zeros
+ * are a machine without areas. The held cell, next below the data area, can be read as the area can,
+ * but of all pushes only a throw's may go there. A stack access outside its area raises -3 (data,
+ * below) or -4 (data, at the top or above), -5 or -6 (return, likewise). A throw that finds neither
+ * area nor held cell for its code stops with -258, and so does HALT where SP is off both.
  *
  * A listing is its kinds, its operands and a base; as a file it is n, base, the kinds, the operands,
  * least significant byte first. `pointers` holds six numbers: SP, RP and the same areas.
@@ -19,7 +19,8 @@
  * The answer is 0, 1 where the machine stopped, 2 where the list machine stands outside, or a
  * refusal, below 0. On a refusal nothing that was lent is written. A `registers`, `pointers`, `out`
  * or `output` shorter than what a success writes is refused with BEETLE_SHORT_OUTPUT, the last of
- * the refusals to be judged (the areas in it are then not judged). What is longer keeps its rest.
+ * the refusals to be judged. What is longer keeps its rest. Areas that `registers` or `pointers` are
+ * too short to hold are not judged.
  */
 #ifndef BEETLE_H
 #define BEETLE_H
@@ -56,8 +57,9 @@ extern "C" {
 #define BEETLE_BAD_OPERAND (-4108)    /* a plain item whose operand is not 0 */
 #define BEETLE_BAD_TARGET (-4109)     /* a target that is no item */
 #define BEETLE_BAD_BASE (-4110)       /* base below 10h, or the image passes 16,777,216 */
-#define BEETLE_BAD_AREAS (-4111)      /* areas, held cell counted, unaligned, empty, overlapping or
-                                         outside memory; judged after BEETLE_BAD_ORDER */
+#define BEETLE_BAD_AREAS (-4111)      /* a stack area of no cell, with an unaligned top, not in memory
+                                         or over the other, the held cell part of the data area;
+                                         judged after BEETLE_BAD_ORDER */
 
 /* Starts the machine: registers are written. SP and RP start at the areas' tops; without areas at
  * MEMORY - 100h and MEMORY. out: [reason, or 0]. */
