@@ -15,7 +15,7 @@ pub struct Loop {
 /// 'THROW of a loop that throws nothing.
 const NONE: u32 = u32::MAX;
 
-pub static LOOPS: [Loop; 4] = [
+static LOOPS: [Loop; 4] = [
     Loop {
         name: "stack and arithmetic",
         cells: &[0x031E_0401, 0x0125_1A34, 0xFD43_2E08],
@@ -94,7 +94,7 @@ pub struct Case {
     areas: Areas,
 }
 
-/// Every loop without areas and with wide ones, and the one that overflows.
+/// Every loop without areas and then with wide ones, and last the one that overflows.
 pub fn cases() -> Vec<Case> {
     let pairs = LOOPS
         .iter()

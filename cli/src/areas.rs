@@ -19,11 +19,35 @@ pub struct Areas {
     pub back: Area,
 }
 
+/// The cells held under the data area, for the code of a throw.
+const HELD: i64 = 1;
+
 impl Area {
-    /// From its first byte to its top, so many cells under it counted.
-    fn bytes(self, under: i64) -> Range<i64> {
+    /// From its first byte to its top, so many cells held under it counted.
+    fn bytes(self, held: i64) -> Range<i64> {
         let (top, cells) = (i64::from(self.top), i64::from(self.cells));
-        top - 4 * (cells + under)..top
+        top - 4 * (cells + held)..top
+    }
+
+    /// What is wrong with an area by itself, so many cells held under it counted.
+    fn faults(self, name: &str, held: i64, memory: usize) -> Vec<String> {
+        let Area { top, cells } = self;
+        let with_held = if held > 0 { " with its held cell" } else { "" };
+        let rows = [
+            (top % 4 != 0, format!("'s top {top:X}h is no multiple of 4")),
+            (cells == 0, " has no cell".to_string()),
+            (
+                self.bytes(held).start < 0,
+                format!("{with_held} begins below 0"),
+            ),
+            (
+                top as usize > memory,
+                format!(" ends past the memory's {memory:X}h"),
+            ),
+        ];
+        let holding = rows.into_iter().filter(|(holds, _)| *holds);
+        let told = holding.map(|(_, what)| format!("the {name}{what}"));
+        told.collect()
     }
 }
 
@@ -63,7 +87,7 @@ impl Areas {
 
     /// The bytes of the data area, with the cell held under it, and of the return area.
     fn bytes(&self) -> [Range<i64>; 2] {
-        [self.data.bytes(1), self.back.bytes(0)]
+        [self.data.bytes(HELD), self.back.bytes(0)]
     }
 
     /// The same of areas that the library accepted, if there are any.
@@ -91,33 +115,19 @@ impl Areas {
     /// What of -4111 holds of these areas.
     fn faults(&self, memory: usize) -> Vec<String> {
         let [data, back] = self.bytes();
-        let shared = data.start.max(back.start) < data.end.min(back.end);
-        let mut faults = Vec::new();
-        for (name, area, bytes) in [
-            ("data area", self.data, data),
-            ("return area", self.back, back),
-        ] {
-            if !area.top.is_multiple_of(4) {
-                faults.push(format!(
-                    "the {name}'s top {:X}h is no multiple of 4",
-                    area.top
-                ));
-            }
-            if area.cells == 0 {
-                faults.push(format!("the {name} has no cell"));
-            }
-            if bytes.start < 0 {
-                faults.push(format!("the {name} begins below 0"));
-            }
-            if bytes.end > memory as i64 {
-                faults.push(format!("the {name} ends past the memory's {memory:X}h"));
-            }
-        }
-        if shared {
+        let mut faults = self.data.faults("data area", HELD, memory);
+        faults.extend(self.back.faults("return area", 0, memory));
+        if share_bytes(&self.data.bytes(0), &back) {
             faults.push("the two areas overlap".to_string());
+        } else if share_bytes(&data, &back) {
+            faults.push("the return area lies over the data area's held cell".to_string());
         }
         faults
     }
+}
+
+fn share_bytes(left: &Range<i64>, right: &Range<i64>) -> bool {
+    left.start.max(right.start) < left.end.min(right.end)
 }
 
 #[cfg(test)]
@@ -129,49 +139,55 @@ mod tests {
     }
 
     #[test]
-    fn each_condition_is_told() {
+    fn each_fault_of_the_data_area_is_told() {
         let rows = [
+            ([0x102, 4], "the data area's top 102h is no multiple of 4"),
+            ([0x100, 0], "the data area has no cell"),
             (
-                [0x102, 4, 0x200, 4],
-                "the data area's top 102h is no multiple of 4",
+                [0x100, 0x40],
+                "the data area with its held cell begins below 0",
             ),
+            ([0x404, 4], "the data area ends past the memory's 400h"),
+            ([0x200, 4], "the two areas overlap"),
             (
-                [0x100, 4, 0x201, 4],
-                "the return area's top 201h is no multiple of 4",
+                [0x210, 4],
+                "the return area lies over the data area's held cell",
             ),
-            ([0x100, 0, 0x200, 4], "the data area has no cell"),
-            ([0x100, 4, 0x200, 0], "the return area has no cell"),
-            ([0x100, 0x40, 0x200, 4], "the data area begins below 0"),
-            ([0x200, 4, 0x100, 0x41], "the return area begins below 0"),
-            (
-                [0x404, 4, 0x200, 4],
-                "the data area ends past the memory's 400h",
-            ),
-            (
-                [0x200, 4, 0x404, 4],
-                "the return area ends past the memory's 400h",
-            ),
-            ([0x200, 4, 0x1F0, 4], "the two areas overlap"),
-            ([0x200, 4, 0x200, 4], "the two areas overlap"),
-            (
-                [1, 0, 0, 0],
-                "the data area's top 1h is no multiple of 4, the data area has no cell, \
-                 the data area begins below 0, the return area has no cell",
-            ),
+            ([0x214, 4], ""),
+            ([0x1F0, 4], ""),
         ];
-        for (numbers, expected) in rows {
-            assert_eq!(faults(numbers), expected, "{numbers:X?}");
+        for ([top, cells], expected) in rows {
+            assert_eq!(faults([top, cells, 0x200, 4]), expected, "{top:X}");
         }
     }
 
     #[test]
-    fn areas_may_touch_each_other_and_the_ends_of_memory() {
-        for numbers in [
-            [0x200, 4, 0x1EC, 0x7B],
-            [0x400, 4, 0x3EC, 0xFB],
-            [0x100, 0x3F, 0x400, 0xC0],
-        ] {
-            assert_eq!(faults(numbers), "", "{numbers:X?}");
+    fn each_fault_of_the_return_area_is_told() {
+        let rows = [
+            ([0x201, 4], "the return area's top 201h is no multiple of 4"),
+            ([0x200, 0], "the return area has no cell"),
+            ([0x80, 0x21], "the return area begins below 0"),
+            ([0x80, 0x4000_0001], "the return area begins below 0"),
+            ([0x404, 4], "the return area ends past the memory's 400h"),
+            ([0x400, 0xBF], "the two areas overlap"),
+            ([0x80, 0x20], ""),
+            ([0xEC, 0x3B], ""),
+            ([0x400, 0xBC], ""),
+        ];
+        for ([top, cells], expected) in rows {
+            assert_eq!(
+                faults([0x110, 8, top, cells]),
+                expected,
+                "{top:X} {cells:X}"
+            );
         }
+    }
+
+    #[test]
+    fn all_faults_are_told_together() {
+        let expected = "the data area's top 1h is no multiple of 4, the data area has no cell, \
+                        the data area with its held cell begins below 0, \
+                        the return area has no cell";
+        assert_eq!(faults([1, 0, 0, 0]), expected);
     }
 }

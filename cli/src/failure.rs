@@ -78,8 +78,8 @@ pub fn meaning(refusal: i32) -> &'static str {
         -4109 => "a branch leads to no item",
         -4110 => "the base is below 10h, or the image passes 16,777,216",
         BAD_AREAS => {
-            "the stack areas, with the cell held under the data area, are unaligned, empty, \
-             outside memory or overlapping"
+            "the stack areas, with the cell held under that of the data stack, are unaligned, \
+             empty, outside memory or overlapping"
         }
         _ => "a number that the documents do not list",
     }

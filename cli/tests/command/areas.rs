@@ -122,48 +122,25 @@ fn areas_turned_away() {
     let folder = Folder::new("areas_refused");
     folder.rule("1 HALT");
     let rows = [
+        ("1012h,4", "the data area's top 1012h is no multiple of 4"),
+        ("1010h,0", "the data area has no cell"),
         (
-            "1012h,4",
-            "2010h,4",
-            "the data area's top 1012h is no multiple of 4",
+            "1010h,404h",
+            "the data area with its held cell begins below 0",
         ),
+        ("10004h,4", "the data area ends past the memory's 10000h"),
+        ("2010h,4", "the two areas overlap"),
         (
-            "1010h,4",
-            "2011h,4",
-            "the return area's top 2011h is no multiple of 4",
+            "2020h,4",
+            "the return area lies over the data area's held cell",
         ),
-        ("1010h,0", "2010h,4", "the data area has no cell"),
-        ("1010h,4", "2010h,0", "the return area has no cell"),
-        ("100h,64", "2010h,4", "the data area begins below 0"),
-        ("1010h,4", "100h,65", "the return area begins below 0"),
-        (
-            "1010h,4",
-            "100h,40000001h",
-            "the return area begins below 0",
-        ),
-        (
-            "10004h,4",
-            "2010h,4",
-            "the data area ends past the memory's 10000h",
-        ),
-        (
-            "1010h,4",
-            "10004h,4",
-            "the return area ends past the memory's 10000h",
-        ),
-        ("2024h,4", "2010h,4", ""),
-        ("2020h,4", "2010h,4", "the two areas overlap"),
-        ("0,0", "0,1", "the data area has no cell"),
+        ("0,0", "the data area has no cell"),
     ];
-    for (data, back, error) in rows {
-        let areas = format!("--data-area {data} --return-area {back}");
+    for (data, error) in rows {
         for command in ["run rule.mod", "follow rule.lst"] {
-            let said = folder.beetle(&format!("{command} {areas}"));
-            if error.is_empty() {
-                assert_eq!((said.status, said.error.as_str()), (0, ""), "{areas}");
-                continue;
-            }
-            assert_eq!(said.status, 1, "{areas}");
+            let words = format!("{command} --data-area {data} --return-area 2010h,4");
+            let said = folder.beetle(&words);
+            assert_eq!(said.status, 1, "{words}");
             assert!(said.error.contains("refused with -4111: "), "{said:?}");
             assert!(said.error.contains(&format!("\n  {error}\n")), "{said:?}");
         }
@@ -171,6 +148,20 @@ fn areas_turned_away() {
     let bad = "--data-area 1,0 --return-area 1,0";
     let said = folder.beetle(&format!("follow rule.lst --memory 1020 {bad}"));
     assert!(said.error.contains("refused with -4101: "), "{said:?}");
+}
+
+#[test]
+fn areas_that_touch() {
+    let folder = Folder::new("areas_touch");
+    folder.rule("1 HALT");
+    for areas in [
+        "--data-area 2024h,4 --return-area 2010h,4",
+        "--data-area 1010h,403h --return-area 10000h,3BFCh",
+    ] {
+        let ran = folder.done(&format!("run rule.mod {areas}"));
+        assert!(ran.contains("stopped by HALT, reason 1\n"), "{ran}");
+        folder.done(&format!("follow rule.lst --beside {areas}"));
+    }
 }
 
 #[test]
