@@ -72,27 +72,25 @@ impl<'l> Following<'l> {
         })
     }
 
-    /// The code that the next item throws, where the stacks have areas and the code is no rule's
-    /// own: with no address in 'THROW, an item that throws stops the machine.
-    pub fn thrown_next(&self) -> Result<Option<u32>, Failure> {
-        let kind = self.packed.listing.kinds.get(self.stand.item as usize);
-        let own = matches!(kind, None | Some(&THROW | &HALT));
-        if own || self.stand.areas.given().is_none() {
+    /// The line of a throw, where the next item takes a stack over an end of its area. With no
+    /// address in 'THROW, an item that throws stops the machine, its code on the data stack.
+    pub fn next_goes_over(&self) -> Result<Option<String>, Failure> {
+        let Stand { item, areas, .. } = self.stand;
+        let kind = self.packed.listing.kinds.get(item as usize);
+        let own_code = matches!(kind, Some(&THROW | &HALT));
+        if own_code || areas.given().is_none() {
             return Ok(None);
         }
         let mut memory = self.memory.clone();
         memory[..4].fill(0xFF);
         let listed = self.resume(&mut memory, 1)?;
-        let code = memory::cell_at(self.packed.order, &memory, listed.sp);
-        Ok(code.filter(|_| listed.end == End::Stopped(BAD_HANDLER)))
-    }
-
-    /// The line of a throw by a stack that went over an end of its area, if the item just carried
-    /// out left this code.
-    pub fn threw(&self, code: u32) -> Option<String> {
-        let left = memory::cell_at(self.packed.order, &self.memory, self.stand.sp);
-        let over = over_the_end(code as i32, &self.stand.areas)?;
-        let threw = format!("threw {}: {over}", code as i32);
-        (left == Some(code)).then_some(threw)
+        if listed.end != End::Stopped(BAD_HANDLER) {
+            return Ok(None);
+        }
+        let code = memory::cell_at(self.packed.order, &memory, listed.sp).map(|code| code as i32);
+        Ok(code.and_then(|code| {
+            let over = over_the_end(code, &areas)?;
+            Some(format!("threw {code}: {over}"))
+        }))
     }
 }

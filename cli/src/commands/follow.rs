@@ -81,13 +81,13 @@ pub fn carry_out(words: &[String], out: &mut dyn Write) -> Result<u8, Failure> {
     let mut last = following.judged()?;
     while last.end == End::WentOn && last.items_done < items {
         let item = last.item;
-        let thrown = following.thrown_next()?;
+        let over = following.next_goes_over()?;
         last = following.step()?;
         if matches!(last.end, End::Outside(_)) {
             break;
         }
         writeln!(out, "{}", line(&following, item, &last))?;
-        if let Some(over) = thrown.and_then(|code| following.threw(code)) {
+        if let Some(over) = over {
             writeln!(out, "{over}")?;
         }
         if let Some(processor) = &mut beside {

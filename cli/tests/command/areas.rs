@@ -88,6 +88,22 @@ fn a_stack_that_takes_no_code_and_has_no_reason() {
     bad_stack("1 -258 HALT", "the rule gave HALT this reason");
 }
 
+#[test]
+fn pointers_off_their_stacks() {
+    let folder = Folder::new("areas_pointers");
+    folder.rule("FF8h SP! HALT");
+    let said = folder.beetle(&format!("run rule.mod {AREAS}"));
+    let below = "\nSP 00000FF8  below its stack, which begins at 00000FFC\n";
+    assert!(said.output.contains(below), "{}", said.output);
+    let followed = folder.done(&format!("follow rule.lst {AREAS}"));
+    let line = followed.lines().nth(2).expect("the line of SP!");
+    assert!(line.contains(" SP! ") && line.ends_with("2   |"), "{line}");
+    folder.rule("1014h SP! HALT");
+    let said = folder.beetle(&format!("run rule.mod {AREAS}"));
+    let above = "\nSP 00001014  outside its stack, which ends at 00001010\n";
+    assert!(said.output.contains(above), "{}", said.output);
+}
+
 /// A code that a rule throws by itself is not told as the machine's by `follow`, nor without areas.
 #[test]
 fn codes_of_the_rules_own() {
