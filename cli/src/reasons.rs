@@ -28,7 +28,7 @@ fn bad_stack(sp: u32, areas: &Areas) -> &'static str {
     } else if sp == data.start {
         "the data stack had filled its area and the cell held under it: no place for a throw's code"
     } else if sp == data.end {
-        "the data stack was empty: no place for HALT's reason"
+        "the data stack is empty: HALT found no reason there, or this one as the last item"
     } else if sp > data.end {
         "SP was above the data area: no place for a throw's code or for HALT's reason"
     } else {
@@ -87,7 +87,7 @@ mod tests {
             (0xFE, "no multiple of 4"),
             (0x100, "gave HALT"),
             (0x10C, "gave HALT"),
-            (0x110, "was empty"),
+            (0x110, "is empty"),
             (0x114, "above the data area"),
         ];
         for (sp, expected) in rows {

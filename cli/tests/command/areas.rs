@@ -74,7 +74,11 @@ fn a_stack_that_takes_no_code_and_has_no_reason() {
     );
     bad_stack(
         "1 DROP HALT",
-        "the data stack was empty: no place for HALT's reason",
+        "the data stack is empty: HALT found no reason there, or this one as the last item",
+    );
+    bad_stack(
+        "-258 HALT",
+        "the data stack is empty: HALT found no reason there, or this one as the last item",
     );
     let nothing = "no place for a throw's code or for HALT's reason";
     bad_stack(
