@@ -40,6 +40,8 @@ fn write_mutant(folder: &Path, edit: &edits::Mutant) {
             applied = text.matches(edit.find).count();
             text = text.replace(edit.find, edit.put);
         }
+        // Not laid in, the mutants' functions are compiled in half the time.
+        text = text.replace("#[inline(always)]", "");
         fs::write(folder.join(name), text).expect("a writable folder");
     }
     assert_eq!(applied, 1, "the edit of \"{}\" applies once", edit.name);

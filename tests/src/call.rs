@@ -5,6 +5,7 @@
 
 use std::hint::black_box;
 
+pub type Start = fn(u8, &mut [u8], u32, u32, u32, u32, u32, u32, &mut [u32], &mut [u32]) -> u32;
 pub type ListRun = fn(u8, &[u8], &[u32], u32, &mut [u8], &mut [u32], u32, &mut [u32]) -> u32;
 pub type ListResume =
     fn(u8, &[u8], &[u32], u32, &mut [u8], u32, u8, &mut [u32], u32, &mut [u32]) -> u32;
@@ -12,7 +13,7 @@ pub type ListResume =
 /// The ten calls of the interface.
 #[derive(Clone, Copy)]
 pub struct Implementation {
-    pub start: fn(u8, &mut [u8], u32, u32, &mut [u32], &mut [u32]) -> u32,
+    pub start: Start,
     pub cycle: fn(u8, &mut [u8], &mut [u32], &mut [u32]) -> u32,
     pub run: fn(u8, &mut [u8], &mut [u32], u32, &mut [u32]) -> u32,
     pub load: fn(u8, &mut [u8], &[u8], u32, &mut [u32]) -> u32,
@@ -76,12 +77,14 @@ pub struct Call {
     /// start: EP, handler; run: budget; load: address; load_first, save: address, cells; pack: base;
     /// list_run: base, items; list_resume: base, items, item, ran (its low byte).
     pub numbers: [u32; 4],
+    /// start: the four numbers of the areas.
+    pub areas: [u32; 4],
     pub memory: Vec<u8>,
     pub file: Vec<u8>,
     pub kinds: Vec<u8>,
     pub operands: Vec<u32>,
     pub output: Vec<u8>,
-    /// list_run, list_resume: SP, RP.
+    /// EP, A, SP, RP and the areas; list_run, list_resume: SP, RP and the areas.
     pub registers: Vec<u32>,
     pub out: Vec<u32>,
 }
@@ -92,6 +95,7 @@ impl Call {
             entry,
             order: 0,
             numbers: [0; 4],
+            areas: [0; 4],
             memory: Vec::new(),
             file: Vec::new(),
             kinds: Vec::new(),
@@ -100,6 +104,18 @@ impl Call {
             registers: Vec::new(),
             out: Vec::new(),
         }
+    }
+
+    /// The four numbers of the areas, wherever they are given; nothing where they are not, or where
+    /// the array is too short to hold them.
+    pub fn given_areas(&mut self) -> &mut [u32] {
+        let numbers = match self.entry {
+            Entry::Start => return &mut self.areas,
+            Entry::Cycle | Entry::Run => self.registers.get_mut(4..8),
+            Entry::ListRun | Entry::ListResume => self.registers.get_mut(2..6),
+            _ => None,
+        };
+        numbers.unwrap_or_default()
     }
 }
 
@@ -173,11 +189,12 @@ impl Arrays {
     /// Makes the call on these arrays: its answer.
     fn lend(&mut self, to: &Implementation, call: &Call) -> u32 {
         let (order, [x, y, item, ran]) = (call.order, call.numbers);
+        let [data_top, data, return_top, back] = call.areas;
         let (m, f) = (self.memory.lent(), self.file.lent());
         let (k, v, w) = (self.kinds.lent(), self.operands.lent(), self.output.lent());
         let (r, o) = (self.registers.lent(), self.out.lent());
         match call.entry {
-            Entry::Start => (to.start)(order, m, x, y, r, o),
+            Entry::Start => (to.start)(order, m, x, y, data_top, data, return_top, back, r, o),
             Entry::Cycle => (to.cycle)(order, m, r, o),
             Entry::Run => (to.run)(order, m, r, x, o),
             Entry::Load => (to.load)(order, m, f, x, o),
@@ -200,6 +217,7 @@ pub fn perform(implementation: &Implementation, call: &Call) -> Returned {
         entry: call.entry,
         order: call.order,
         numbers: call.numbers,
+        areas: call.areas,
         memory: arrays.memory.taken_back(&mut kept),
         file: arrays.file.taken_back(&mut kept),
         kinds: arrays.kinds.taken_back(&mut kept),

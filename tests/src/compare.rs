@@ -123,6 +123,7 @@ pub struct Rules {
     pub longest: u32,
     pub stopped: u32,
     pub outside: u32,
+    pub with_areas: u32,
 }
 
 /// Tries demand 3 on an implementation; the error is the first rule that breaks it.
@@ -130,7 +131,7 @@ pub fn try_rules(implementation: &Implementation, rules: u32) -> Result<Rules, D
     let mut random = Random::new(3);
     let mut tally = Rules::default();
     for index in 0..rules {
-        let call = rules::rule(&mut random);
+        let mut call = rules::rule(&mut random);
         let Ok(followed) = follow(implementation, &call) else {
             return Err(Difference {
                 name: "demand 3",
@@ -143,6 +144,7 @@ pub fn try_rules(implementation: &Implementation, rules: u32) -> Result<Rules, D
         tally.longest = tally.longest.max(followed.items);
         tally.stopped += u32::from(followed.stopped);
         tally.outside += u32::from(followed.outside);
+        tally.with_areas += u32::from(call.given_areas() != [0; 4]);
     }
     Ok(tally)
 }

@@ -33,7 +33,8 @@ fn processor_at_base(rule: &Call) -> Call {
     let mut call = Call::new(Entry::Run);
     call.order = rule.order;
     call.memory = rule.memory.clone();
-    call.registers = vec![base + 4, a, rule.registers[0], rule.registers[1]];
+    call.registers = vec![base + 4, a];
+    call.registers.extend(&rule.registers);
     call.out = vec![0; 2];
     call
 }
@@ -67,11 +68,11 @@ fn difference(list: &Returned, processor: &Returned) -> Option<String> {
     if u64::from(p.out[1]) != cycles_of(list) {
         return Some(format!("cycles {} and {}", cycles_of(list), p.out[1]));
     }
-    if l.registers[..2] != p.registers[2..4] {
+    if l.registers[..] != p.registers[2..] {
         return Some(format!(
-            "SP and RP {:X?} and {:X?}",
-            &l.registers[..2],
-            &p.registers[2..4]
+            "SP, RP and areas {:X?} and {:X?}",
+            l.registers,
+            &p.registers[2..]
         ));
     }
     let at = (0..l.memory.len()).find(|at| l.memory[*at] != p.memory[*at])?;

@@ -11,3 +11,4 @@ pub mod random;
 pub mod reference;
 pub mod shrink;
 pub mod worked;
+pub mod worked_areas;

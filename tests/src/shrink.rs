@@ -22,6 +22,7 @@ pub fn smallest(call: &Call, differs: &dyn Fn(&Call) -> bool) -> Call {
         let before = shrinking.best.clone();
         shrinking.shorten_listing();
         shrinking.shorten_memory();
+        shrinking.lower_areas();
         shrinking.lower_numbers();
         shrinking.zero_bytes(|call| &mut call.memory);
         shrinking.zero_bytes(|call| &mut call.file);
@@ -116,6 +117,17 @@ impl Shrinking<'_> {
         }
     }
 
+    /// No areas, or areas of one cell: a number by itself can seldom be lowered.
+    fn lower_areas(&mut self) {
+        self.attempt_with(|call| call.given_areas().fill(0));
+        for count in [1, 3] {
+            self.attempt_with(|call| {
+                let number = call.given_areas().get_mut(count);
+                number.into_iter().for_each(|cells| *cells = 1.min(*cells));
+            });
+        }
+    }
+
     fn zero_bytes(&mut self, of: impl Fn(&mut Call) -> &mut Vec<u8>) {
         let length = of(&mut self.best).len();
         for size in pieces(2 * length) {
@@ -160,6 +172,9 @@ pub fn call_text(call: &Call) -> String {
         "{:?}, order {}, numbers {x:X}h {y:X}h {item:X}h {ran:X}h\n",
         call.entry, call.order
     );
+    if call.areas != [0; 4] {
+        text += &array_text("areas", &call.areas);
+    }
     if !call.memory.is_empty() {
         text += &format!("  memory: {}\n", memory_text(&call.memory));
     }

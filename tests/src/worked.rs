@@ -55,14 +55,25 @@ fn cell(memory: &[u8], address: usize) -> u32 {
 }
 
 /// Started at 10h with these cells there.
-fn started(calls: &Implementation, cells: &[u32]) -> (Vec<u8>, [u32; 4]) {
+fn started(calls: &Implementation, cells: &[u32]) -> (Vec<u8>, [u32; 8]) {
     let mut memory = vec![0; 0x400];
     for (number, cell) in cells.iter().enumerate() {
         put(&mut memory, 0x10 + 4 * number, *cell);
     }
-    let mut registers = [0; 4];
+    let mut registers = [0; 8];
     let mut out = [0];
-    let answer = (calls.start)(0, &mut memory, 0x10, 0x10, &mut registers, &mut out);
+    let answer = (calls.start)(
+        0,
+        &mut memory,
+        0x10,
+        0x10,
+        0,
+        0,
+        0,
+        0,
+        &mut registers,
+        &mut out,
+    );
     assert_eq!(answer, 0, "the machine is ready");
     (memory, registers)
 }

@@ -1,7 +1,7 @@
 //! The worked rows, on the reference and, where it is linked, on the library.
 
 use beetle_tests::call::{reference, Implementation};
-use beetle_tests::worked;
+use beetle_tests::{worked, worked_areas};
 
 fn all_rows(implementation: &Implementation) {
     worked::running(implementation);
@@ -9,6 +9,7 @@ fn all_rows(implementation: &Implementation) {
     worked::loading(implementation);
     worked::halting(implementation);
     worked::packing(implementation);
+    worked_areas::rows(implementation);
 }
 
 #[test]

@@ -17,12 +17,14 @@ fn found(group: &str, mutant: &Implementation) -> Option<Difference> {
         return try_rules(mutant, RULES).err();
     }
     let suites = || SUITES.iter().filter(|suite| suite.group == group);
-    // The start of each suite first, as most are found there.
-    let starts = suites().map(|suite| (suite, (suite.cases / 100).max(12)));
-    let wholes = suites().map(|suite| (suite, suite.cases));
-    starts
-        .chain(wholes)
-        .find_map(|(suite, cases)| compare(suite, &reference(), mutant, cases).err())
+    // The start of each suite first, as most are found there; suites of few, large cases later.
+    [100, 10, 1].iter().find_map(|share| {
+        let mut suites = suites().filter(|suite| suite.cases >= *share);
+        suites.find_map(|suite| {
+            let cases = (suite.cases / share).max(12);
+            compare(suite, &reference(), mutant, cases).err()
+        })
+    })
 }
 
 #[test]
@@ -93,5 +95,7 @@ fn loads_of_the_reference_can_halt() {
 #[test]
 fn the_reference_meets_demand_3() {
     let rules = try_rules(&reference(), RULES).ok().expect("demand 3");
+    println!("{rules:?}");
     assert!(rules.items > u64::from(RULES) && rules.stopped > 0 && rules.outside > 0);
+    assert!(rules.with_areas > RULES / 4);
 }

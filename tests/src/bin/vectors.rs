@@ -1,12 +1,13 @@
 //! Checks the reference, and the library where it is linked, against vectors: those of the folder
-//! `vectors`, or a file that is named: `vectors cycles FILE`, `vectors listings FILE`,
-//! `vectors firsts FILE`.
+//! `vectors`, or a file that is named after its kind: `vectors cycles FILE`.
 //!
-//! A cycle is a line of order, EP, A, SP, RP and memory, `=`, the answer (`on`, or `stop` and the
-//! reason in decimal), the registers afterwards, and each changed byte as `address:byte`. A listing
-//! is a line of a file's bytes (`-` for none), `=`, and the cells or the refusal's number. A load that
-//! halts is a line of order, length of a memory of 5Ah, file, address and cells, `=`, and `refused` with
-//! the number, or the cells loaded and each changed byte.
+//! A cycle is a line of order, EP, A, SP, RP, the four numbers of the areas (or nothing for none) and
+//! memory, `=`, the answer (`on`, or `stop` and the reason in decimal, or `refused` and the number), EP,
+//! A, SP, RP afterwards, and each changed byte as `address:byte`. A start is a line of order, EP,
+//! handler, the areas and memory, `=`, and the same. A listing is a line of a file's bytes (`-` for
+//! none), `=`, and the cells or the refusal's number. A load that halts is a line of order, length of a
+//! memory of 5Ah, file, address and cells, `=`, and `refused` with the number, or the cells loaded and
+//! each changed byte.
 
 #[cfg(feature = "library")]
 use beetle_tests::call::library;
@@ -19,11 +20,16 @@ struct Kind {
     agrees: fn(&Implementation, &str) -> bool,
 }
 
-const KINDS: [Kind; 3] = [
+const KINDS: [Kind; 4] = [
     Kind {
         name: "cycles",
-        files: &["cycles.txt", "plusloops.txt"],
+        files: &["cycles.txt", "plusloops.txt", "areas.txt"],
         agrees: cycle_agrees,
+    },
+    Kind {
+        name: "starts",
+        files: &["starts.txt"],
+        agrees: start_agrees,
     },
     Kind {
         name: "listings",
@@ -73,22 +79,60 @@ fn sides(line: &str) -> (Vec<&str>, Vec<&str>) {
     (left, right.split_whitespace().collect())
 }
 
+/// A number in words: of a refusal, or of a stop with its reason; `on` for neither.
+fn answer_words(answer: u32, reason: u32) -> Vec<String> {
+    let (word, number) = match answer {
+        0 => return vec!["on".to_string()],
+        1 => ("stop", reason),
+        refusal => ("refused", refusal),
+    };
+    vec![word.to_string(), (number as i32).to_string()]
+}
+
+/// The words of a line in front of its memory and the memory: order, then numbers.
+fn state(given: &[&str]) -> (u8, Vec<u32>, Vec<u8>) {
+    let (memory, numbers) = given.split_last().expect("a memory");
+    let numbers: Vec<u32> = numbers.iter().map(|word| hexadecimal(word)).collect();
+    (numbers[0] as u8, numbers[1..].to_vec(), bytes(memory))
+}
+
+/// The four registers that move, in words.
+fn register_words(registers: &[u32]) -> Vec<String> {
+    let moving = registers[..4].iter();
+    moving.map(|register| format!("{register:X}")).collect()
+}
+
 fn cycle_agrees(calls: &Implementation, line: &str) -> bool {
     let (given, expected) = sides(line);
-    let order = hexadecimal(given[0]) as u8;
-    let mut registers: Vec<u32> = given[1..5].iter().map(|word| hexadecimal(word)).collect();
-    let mut memory = bytes(given[5]);
-    let before = memory.clone();
+    let (order, mut registers, mut memory) = state(&given);
+    registers.resize(8, 0);
+    let (areas, before) = (registers[4..].to_vec(), memory.clone());
     let mut out = [0];
     let answer = (calls.cycle)(order, &mut memory, &mut registers, &mut out);
-    let mut told = match answer {
-        0 => vec!["on".to_string()],
-        1 => vec!["stop".to_string(), (out[0] as i32).to_string()],
-        refusal => vec![(refusal as i32).to_string()],
-    };
-    told.extend(registers.iter().map(|register| format!("{register:X}")));
+    let mut told = answer_words(answer, out[0]);
+    told.extend(register_words(&registers));
     told.extend(changes(&before, &memory));
-    told == expected
+    told == expected && registers[4..] == areas
+}
+
+fn start_agrees(calls: &Implementation, line: &str) -> bool {
+    let (given, expected) = sides(line);
+    let (order, numbers, mut memory) = state(&given);
+    let [ep, handler, data_top, data, return_top, back] = numbers[..] else {
+        panic!("six numbers");
+    };
+    let (mut registers, before) = ([0; 8], memory.clone());
+    let mut out = [0];
+    let (m, r) = (&mut memory, &mut registers);
+    let answer = (calls.start)(
+        order, m, ep, handler, data_top, data, return_top, back, r, &mut out,
+    );
+    let refused = answer > 1;
+    let areas = if refused { &[0; 4] } else { &numbers[2..] };
+    let mut told = answer_words(answer, out[0]);
+    told.extend(register_words(&registers));
+    told.extend(changes(&before, &memory));
+    told == expected && registers[4..] == *areas
 }
 
 fn listing_agrees(calls: &Implementation, line: &str) -> bool {
@@ -175,7 +219,8 @@ fn check_all(name: &str, calls: &Implementation, files: &[(&Kind, String)]) -> b
 fn main() {
     let words: Vec<String> = std::env::args().skip(1).collect();
     let Some(files) = chosen(&words) else {
-        eprintln!("usage: vectors [cycles FILE | listings FILE | firsts FILE]");
+        eprintln!("usage: vectors [KIND FILE]; the kinds:");
+        KINDS.iter().for_each(|kind| eprintln!("{}", kind.name));
         std::process::exit(2);
     };
     let good = check_all("reference", &reference(), &files);

@@ -1,5 +1,6 @@
 //! Calls drawn at random, hostile ones among them.
 
+pub mod areas;
 pub mod listings;
 pub mod modules;
 pub mod processor;
@@ -97,23 +98,28 @@ fn odd_length(random: &mut Random) -> usize {
     random.choose(&lengths)
 }
 
-/// Damages what is lent beside the input: byte order, memory's length, short arrays. Up to three
-/// at once, so that the order of refusals shows.
+/// Damages what is lent beside the input: byte order, memory's length, areas, short arrays. Up to
+/// three at once, so that the order of refusals shows.
 pub fn damage(random: &mut Random, call: &mut Call) {
     for _ in 0..random.between(1, 3) {
-        match random.below(5) {
+        match random.below(6) {
             0 => call.order = random.choose(&[0, 1, 2, 3, 128, 254, 255]),
             1 => {
                 let length = odd_length(random);
                 call.memory.resize(length, 0x5A);
             }
             2 => {
-                let length = random.below(6) as usize;
+                let length = random.below(10) as usize;
                 call.registers.resize(length, 0x1234_5678);
             }
             3 => {
                 let length = random.below(7) as usize;
                 call.out.resize(length, 0x8765_4321);
+            }
+            4 => {
+                let bad = areas::bad(random, 1024);
+                let numbers = call.given_areas().iter_mut().zip(bad);
+                numbers.for_each(|(number, bad)| *number = bad);
             }
             _ => {
                 let length = (call.output.len() + 2).saturating_sub(random.below(5) as usize);

@@ -1,7 +1,7 @@
 //! Calls of the processor.
 
 use super::{any_cell, any_cells, damage, fill_memory, memory_length, order_of, out_with_room};
-use super::{pointer, put_cell, rules};
+use super::{areas, pointer, put_cell, rules};
 use crate::call::{perform, reference, Call, Entry};
 use crate::random::Random;
 
@@ -12,13 +12,17 @@ fn machine(random: &mut Random, entry: Entry) -> Call {
     let length = memory_length(random);
     fill_memory(random, &mut call, length);
     let length = length as u32;
-    let sp = pointer(random, length);
-    let rp = if random.one_in(6) {
-        sp.wrapping_add(4 * random.below(9)).wrapping_sub(16)
+    let areas = areas::any(random, length);
+    let [sp, mut rp] = if areas == areas::NONE {
+        [pointer(random, length), pointer(random, length)]
     } else {
-        pointer(random, length)
+        areas::pointers_about(random, length, &areas)
     };
+    if random.one_in(6) {
+        rp = sp.wrapping_add(4 * random.below(9)).wrapping_sub(16);
+    }
     call.registers = vec![pointer(random, length), any_cell(random), sp, rp];
+    call.registers.extend(areas);
     if random.one_in(8) {
         call.registers.push(random.cell());
     }
@@ -28,13 +32,16 @@ fn machine(random: &mut Random, entry: Entry) -> Call {
     call
 }
 
-/// A top item: an address, a number that matters, or one that reaches to the end of memory.
-fn top_item(random: &mut Random, length: u32, sp: u32) -> u32 {
+/// A top item: an address, a number that matters, or one that reaches to the end of memory, or of
+/// the data area.
+fn top_item(random: &mut Random, length: u32, sp: u32, data_top: u32) -> u32 {
     match random.below(8) {
         0 | 1 => any_cell(random),
         2 => random.below(5),
         3 => {
-            let to_end = length.wrapping_sub(sp) / 4;
+            let with_area = data_top != 0 && random.one_in(2);
+            let end = if with_area { data_top } else { length };
+            let to_end = end.wrapping_sub(sp) / 4;
             let near = to_end.wrapping_add(random.below(4)).wrapping_sub(3);
             near.wrapping_add(random.below(4) << 30)
         }
@@ -57,10 +64,10 @@ fn near(random: &mut Random, cell: u32) -> u32 {
 /// Puts items that belong together on both stacks, and an address at EP.
 fn prime(random: &mut Random, call: &mut Call) {
     let length = call.memory.len() as u32;
-    let [ep, _, sp, rp] = call.registers[..4] else {
+    let [ep, _, sp, rp, data_top] = call.registers[..5] else {
         return;
     };
-    let top = top_item(random, length, sp);
+    let top = top_item(random, length, sp, data_top);
     let second = near(random, top);
     let third = near(random, second);
     let index = near(random, top);
@@ -117,6 +124,7 @@ pub fn start(random: &mut Random, _: u32) -> Call {
     let mut call = machine(random, Entry::Start);
     let length = call.memory.len() as u32;
     call.numbers = [pointer(random, length), pointer(random, length), 0, 0];
+    call.areas = areas::any(random, length);
     if random.one_in(8) {
         damage(random, &mut call);
     }
@@ -132,6 +140,17 @@ pub fn budget(random: &mut Random) -> u32 {
         3 => random.below(20_000),
         4..=7 => random.below(2_000),
         _ => random.below(60),
+    }
+}
+
+/// SP and RP with which a run can go on for some time.
+fn run_pointers(random: &mut Random, call: &Call) -> [u32; 2] {
+    let areas = areas::of(&call.registers, 4);
+    if areas == areas::NONE {
+        let cells = call.memory.len() as u32 / 4;
+        [(); 2].map(|_| 4 * random.between(64, cells - 64))
+    } else {
+        areas::pointers_inside(random, &areas)
     }
 }
 
@@ -159,8 +178,8 @@ fn run_of_bytes(random: &mut Random) -> Call {
         put_cell(&mut call, 0, 4 * random.between(4, length / 4 - 1));
     }
     if !random.one_in(4) {
-        call.registers[2] = 4 * random.between(64, length / 4 - 64);
-        call.registers[3] = 4 * random.between(64, length / 4 - 64);
+        let pointers = run_pointers(random, &call);
+        call.registers[2..4].copy_from_slice(&pointers);
     }
     call.numbers[0] = budget(random);
     call
@@ -178,7 +197,8 @@ fn run_of_rule(random: &mut Random) -> Call {
     let mut call = Call::new(Entry::Run);
     call.order = rule.order;
     call.memory = rule.memory;
-    call.registers = vec![base + 4, a, rule.registers[0], rule.registers[1]];
+    call.registers = vec![base + 4, a];
+    call.registers.extend(rule.registers);
     call.out = any_cells(random, 2);
     call.numbers[0] = budget(random);
     call
@@ -203,11 +223,12 @@ pub fn run(random: &mut Random, index: u32) -> Call {
     } else {
         run_of_rule(random)
     };
-    if random.one_in(6) {
-        close_budget(random, &mut call);
-    }
     if random.one_in(20) {
         damage(random, &mut call);
+    }
+    // last, as the budget may be very large: what is run is known to stop
+    if random.one_in(6) {
+        close_budget(random, &mut call);
     }
     call
 }
@@ -226,16 +247,18 @@ pub fn large(random: &mut Random, index: u32) -> Call {
     let end = length & !3;
     call.memory[end - 1024..end].copy_from_slice(&first[..1024]);
     let length = length as u32;
+    let areas = areas::any(random, length & !3);
     if entry == Entry::Start {
         call.numbers = [pointer(random, length), pointer(random, length), 0, 0];
+        call.areas = areas;
     } else {
-        let opcode = random.below(0x58);
-        call.registers = vec![
-            length - 4 * random.below(8),
-            (random.below(64) << 8) | opcode,
-            length - 4 * random.below(12),
-            length - 4 * random.below(12),
-        ];
+        let a = (random.below(64) << 8) | random.below(0x58);
+        let [ep, mut sp, mut rp] = [8, 12, 12].map(|cells| length - 4 * random.below(cells));
+        if areas != areas::NONE {
+            [sp, rp] = areas::pointers_about(random, length, &areas);
+        }
+        call.registers = vec![ep, a, sp, rp];
+        call.registers.extend(areas);
     }
     if entry == Entry::Run {
         call.numbers[0] = random.below(100);

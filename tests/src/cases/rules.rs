@@ -2,11 +2,12 @@
 
 use super::writer::Writer;
 use super::{any_cell, damage, fill_memory, memory_length, order_of, out_with_room, pointer};
-use super::{put_cell, unused_length, GREATEST};
+use super::{areas, put_cell, unused_length, GREATEST};
 use crate::call::{perform, reference, Call, Entry};
 use crate::random::Random;
 use crate::reference::listing::{accept, Listing};
 use crate::reference::packer::{self, Layout};
+use crate::reference::stacks::Numbers;
 
 /// The address of some entry.
 fn entry_address(random: &mut Random, listing: &Listing, layout: &Layout, base: u32) -> u32 {
@@ -37,6 +38,42 @@ fn stack_pointer(random: &mut Random, length: u32, image: &std::ops::Range<u32>)
         }
     }
     length
+}
+
+/// Whether the areas are clear of the image, with room for some items.
+fn roomy(areas: &Numbers, image: &std::ops::Range<u32>) -> bool {
+    let [data_top, data, return_top, back] = *areas;
+    let clear = |top: u32, cells: u32| top <= image.start || image.end <= top - 4 * cells;
+    clear(data_top, data + 1) && clear(return_top, back) && data.min(back) >= 4
+}
+
+/// Good areas, mostly with room for a rule.
+fn good_areas(random: &mut Random, length: u32, image: &std::ops::Range<u32>) -> Numbers {
+    let mut areas = areas::good(random, length);
+    for _ in 0..random.choose(&[0, 8, 8, 8]) {
+        if roomy(&areas, image) {
+            break;
+        }
+        areas = areas::good(random, length);
+    }
+    areas
+}
+
+/// SP, RP and areas that a rule begins with: mostly none, else good ones.
+fn stacks(random: &mut Random, length: u32, image: &std::ops::Range<u32>) -> Vec<u32> {
+    let (pointers, areas) = if random.one_in(3) {
+        let areas = good_areas(random, length, image);
+        let pointers = if random.one_in(3) {
+            areas::pointers_about(random, length, &areas)
+        } else {
+            areas::pointers_inside(random, &areas)
+        };
+        (pointers, areas)
+    } else {
+        let pointers = [(); 2].map(|_| stack_pointer(random, length, image));
+        (pointers, areas::NONE)
+    };
+    pointers.into_iter().chain(areas).collect()
 }
 
 /// Puts the image where it begins, if memory holds it whole.
@@ -101,13 +138,12 @@ pub fn rule(random: &mut Random) -> Call {
     };
     fill_memory(random, &mut call, length);
     plant_addresses(random, &mut call, &listing, &layout, base);
-    let sp = stack_pointer(random, length as u32, &image);
-    let rp = stack_pointer(random, length as u32, &image);
+    call.registers = stacks(random, length as u32, &image);
     if random.one_in(2) {
         let address = entry_address(random, &listing, &layout, base);
+        let rp = call.registers[1];
         put_cell(&mut call, rp, address);
     }
-    call.registers = vec![sp, rp];
     call.numbers = [base, rule_items(random), 0, 0];
     let cells = packer::image(&listing, &layout, base);
     let image = packer::bytes(&cells, order_of(call.order));
@@ -139,11 +175,15 @@ fn close_items(random: &mut Random, call: &mut Call) {
     }
 }
 
-/// A run of the list machine: of a rule, or with its image not in memory, not whole there, or bad
-/// input.
+/// A run of the list machine: of a rule, or with its image not in memory, not whole there, bad areas
+/// or bad input.
 pub fn list_run(random: &mut Random, _: u32) -> Call {
     let mut call = rule(random);
     let length = call.memory.len() as u32;
+    if random.one_in(16) {
+        let areas = areas::bad(random, length);
+        call.registers[2..].copy_from_slice(&areas);
+    }
     match random.below(24) {
         0 => fill_memory(random, &mut call, length as usize),
         1 => call.numbers[0] = length - 4 * random.below(8),
@@ -201,9 +241,6 @@ pub fn large(random: &mut Random, index: u32) -> Call {
     let image = packer::bytes(&cells, order_of(call.order));
     put_image(&mut call, &image);
     let image = base..GREATEST;
-    call.registers = vec![
-        stack_pointer(random, length, &image),
-        stack_pointer(random, length, &image),
-    ];
+    call.registers = stacks(random, length, &image);
     call
 }

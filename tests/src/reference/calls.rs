@@ -1,5 +1,5 @@
-//! The ten calls of the C interface: refusals in document 01's order, -4105 last; what is lent
-//! is written on success only.
+//! The ten calls of the C interface: refusals in document 01's order, with -4111 after -4102, and
+//! -4105 last; what is lent is written on success only.
 
 use super::instructions::Registers;
 use super::list_machine::{ListMachine, Position, Step};
@@ -9,6 +9,7 @@ use super::module;
 use super::packer;
 use super::processor::{self, Outcome};
 use super::refusal::{demand, Refusal};
+use super::stacks::{Areas, Numbers};
 
 const WENT_ON: u32 = 0;
 const STOPPED: u32 = 1;
@@ -34,6 +35,25 @@ fn room<T>(lent: &[T], needed: usize) -> Result<(), Refusal> {
     demand(lent.len() >= needed, Refusal::ShortOutput)
 }
 
+/// The numbers of the areas behind so many registers that move; none where the array is too short
+/// to hold them.
+fn areas_behind(moving: usize, lent: &[u32]) -> Option<Numbers> {
+    lent.get(moving..moving + 4)?.try_into().ok()
+}
+
+/// What is judged first wherever areas are given: -4101, -4102, -4111. Areas that an array is too
+/// short to hold are not judged; -4105 follows for it.
+fn machine(order: u8, memory: &mut [u8], areas: Option<Numbers>) -> Result<Lent<'_>, Refusal> {
+    memory_length(memory)?;
+    let order = byte_order(order)?;
+    let areas = Areas::accept(areas.unwrap_or_default(), memory.len() as u32)?;
+    Ok(Lent {
+        order,
+        areas,
+        bytes: memory,
+    })
+}
+
 fn read_registers(lent: &[u32]) -> Registers {
     Registers {
         ep: lent[0],
@@ -43,6 +63,7 @@ fn read_registers(lent: &[u32]) -> Registers {
     }
 }
 
+/// The registers that move; the areas stay as they were given.
 fn write_registers(lent: &mut [u32], r: &Registers) {
     lent[..4].copy_from_slice(&[r.ep, r.a, r.sp, r.rp]);
 }
@@ -55,25 +76,27 @@ fn told(outcome: Outcome) -> (u32, u32) {
     }
 }
 
+#[allow(clippy::too_many_arguments)]
 pub fn start(
     order: u8,
     memory: &mut [u8],
     ep: u32,
     handler: u32,
+    data_top: u32,
+    data_cells: u32,
+    return_top: u32,
+    return_cells: u32,
     registers: &mut [u32],
     out: &mut [u32],
 ) -> u32 {
+    let areas = [data_top, data_cells, return_top, return_cells];
     number((|| {
-        memory_length(memory)?;
-        let order = byte_order(order)?;
-        room(registers, 4)?;
+        let mut lent = machine(order, memory, Some(areas))?;
+        room(registers, 8)?;
         room(out, 1)?;
-        let mut lent = Lent {
-            order,
-            bytes: memory,
-        };
-        let (r, outcome) = processor::start(&mut lent, ep, handler);
+        let (r, outcome) = processor::start(&mut lent, ep, handler, areas);
         write_registers(registers, &r);
+        registers[4..8].copy_from_slice(&areas);
         let (answer, reason) = told(outcome);
         out[0] = reason;
         Ok(answer)
@@ -82,14 +105,9 @@ pub fn start(
 
 pub fn cycle(order: u8, memory: &mut [u8], registers: &mut [u32], out: &mut [u32]) -> u32 {
     number((|| {
-        memory_length(memory)?;
-        let order = byte_order(order)?;
-        room(registers, 4)?;
+        let mut lent = machine(order, memory, areas_behind(4, registers))?;
+        room(registers, 8)?;
         room(out, 1)?;
-        let mut lent = Lent {
-            order,
-            bytes: memory,
-        };
         let mut r = read_registers(registers);
         let (answer, reason) = told(processor::run(&mut lent, &mut r, 1).0);
         write_registers(registers, &r);
@@ -106,14 +124,9 @@ pub fn run(
     out: &mut [u32],
 ) -> u32 {
     number((|| {
-        memory_length(memory)?;
-        let order = byte_order(order)?;
-        room(registers, 4)?;
+        let mut lent = machine(order, memory, areas_behind(4, registers))?;
+        room(registers, 8)?;
         room(out, 2)?;
-        let mut lent = Lent {
-            order,
-            bytes: memory,
-        };
         let mut r = read_registers(registers);
         let (outcome, done) = processor::run(&mut lent, &mut r, budget);
         write_registers(registers, &r);
@@ -243,17 +256,12 @@ pub fn list_resume(
     out: &mut [u32],
 ) -> u32 {
     number((|| {
-        memory_length(memory)?;
-        let order = byte_order(order)?;
+        let lent = machine(order, memory, areas_behind(2, pointers))?;
         let listing = listing::accept(kinds, operands)?;
         let layout = packer::layout(&listing);
         packer::accept_base(base, &layout)?;
-        room(pointers, 2)?;
+        room(pointers, 6)?;
         room(out, 5)?;
-        let lent = Lent {
-            order,
-            bytes: memory,
-        };
         let position = Position {
             item,
             run_on_into: ran != 0,

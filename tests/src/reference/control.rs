@@ -7,6 +7,7 @@
 use super::arithmetic::ends_loop;
 use super::instructions::{above, below, call_from, Act, Control, Registers, BAD_STACK};
 use super::memory::{Fault, Memory};
+use super::stacks::Stacks;
 
 /// A branch that was taken, or not (a loop that ended counts as not taken).
 #[derive(Clone, Copy, PartialEq, Eq, Debug)]
@@ -30,7 +31,7 @@ pub fn question_branch<M: Memory>(
     r: &mut Registers,
     target: impl Fn(&M) -> Result<u32, Fault>,
 ) -> Branching {
-    let branching = match m.fetch(r.sp)? {
+    let branching = match m.data_item(r.sp)? {
         0 => Branch::Taken(target(m)?),
         _ => Branch::NotTaken,
     };
@@ -58,8 +59,8 @@ pub fn loop_once<M: Memory>(
     r: &mut Registers,
     target: impl Fn(&M) -> Result<u32, Fault>,
 ) -> Branching {
-    let index = m.fetch(r.rp)?;
-    let limit = m.fetch(above(r.rp, 1))?;
+    let index = m.return_item(r.rp)?;
+    let limit = m.return_item(above(r.rp, 1))?;
     let new = index.wrapping_add(1);
     step(m, r, new == limit, new, target)
 }
@@ -71,9 +72,9 @@ pub fn plus_loop<M: Memory>(
     r: &mut Registers,
     target: impl Fn(&M) -> Result<u32, Fault>,
 ) -> Branching {
-    let n = m.fetch(r.sp)?;
-    let index = m.fetch(r.rp)?;
-    let limit = m.fetch(above(r.rp, 1))?;
+    let n = m.data_item(r.sp)?;
+    let index = m.return_item(r.rp)?;
+    let limit = m.return_item(above(r.rp, 1))?;
     let new = index.wrapping_add(n);
     let branching = step(m, r, ends_loop(index, limit, n), new, target)?;
     r.sp = above(r.sp, 1);
@@ -94,6 +95,7 @@ fn step<M: Memory>(
         return Ok(Branch::NotTaken);
     }
     let address = target(m)?;
+    m.check_return(r.rp)?;
     m.set_cell(r.rp, index);
     Ok(Branch::Taken(address))
 }
@@ -101,7 +103,7 @@ fn step<M: Memory>(
 /// EXECUTE ( xt -- ) R: ( -- a-addr )
 #[inline(always)]
 pub fn execute(m: &mut impl Memory, r: &mut Registers) -> Act {
-    let xt = m.fetch(r.sp)?;
+    let xt = m.data_item(r.sp)?;
     let jump = call_from(m, r, r.ep, xt)?;
     r.sp = above(r.sp, 1);
     Ok(jump)
@@ -110,7 +112,7 @@ pub fn execute(m: &mut impl Memory, r: &mut Registers) -> Act {
 /// @EXECUTE ( a-addr1 -- ) R: ( -- a-addr2 )
 #[inline(always)]
 pub fn fetch_execute(m: &mut impl Memory, r: &mut Registers) -> Act {
-    let xt = m.fetch(m.fetch(r.sp)?)?;
+    let xt = m.fetch(m.data_item(r.sp)?)?;
     let jump = call_from(m, r, r.ep, xt)?;
     r.sp = above(r.sp, 1);
     Ok(jump)
@@ -119,7 +121,7 @@ pub fn fetch_execute(m: &mut impl Memory, r: &mut Registers) -> Act {
 /// EXIT ( -- ) R: ( a-addr -- )
 #[inline(always)]
 pub fn exit(m: &mut impl Memory, r: &mut Registers) -> Act {
-    let address = m.fetch(r.rp)?;
+    let address = m.return_item(r.rp)?;
     r.rp = above(r.rp, 1);
     Ok(Control::Jump(address))
 }
@@ -127,10 +129,10 @@ pub fn exit(m: &mut impl Memory, r: &mut Registers) -> Act {
 /// (DO) ( x1 x2 -- ) R: ( -- x1 x2 ): limit and index, index on top.
 #[inline(always)]
 pub fn bracket_do(m: &mut impl Memory, r: &mut Registers) -> Act {
-    let x2 = m.fetch(r.sp)?;
-    let x1 = m.fetch(above(r.sp, 1))?;
-    m.check_cell(below(r.rp, 1))?;
-    m.check_cell(below(r.rp, 2))?;
+    let x2 = m.data_item(r.sp)?;
+    let x1 = m.data_item(above(r.sp, 1))?;
+    m.check_return(below(r.rp, 1))?;
+    m.check_return(below(r.rp, 2))?;
     m.set_cell(below(r.rp, 1), x1);
     m.set_cell(below(r.rp, 2), x2);
     r.rp = below(r.rp, 2);
@@ -141,8 +143,8 @@ pub fn bracket_do(m: &mut impl Memory, r: &mut Registers) -> Act {
 /// UNLOOP R: ( x1 x2 -- )
 #[inline(always)]
 pub fn unloop(m: &mut impl Memory, r: &mut Registers) -> Act {
-    m.fetch(r.rp)?;
-    m.fetch(above(r.rp, 1))?;
+    m.return_item(r.rp)?;
+    m.return_item(above(r.rp, 1))?;
     r.rp = above(r.rp, 2);
     Ok(Control::Continue)
 }
@@ -150,16 +152,16 @@ pub fn unloop(m: &mut impl Memory, r: &mut Registers) -> Act {
 /// J ( -- x1 ) R: ( x1 x2 x3 -- x1 x2 x3 )
 #[inline(always)]
 pub fn j(m: &mut impl Memory, r: &mut Registers) -> Act {
-    m.fetch(r.rp)?;
-    m.fetch(above(r.rp, 1))?;
-    let x1 = m.fetch(above(r.rp, 2))?;
+    m.return_item(r.rp)?;
+    m.return_item(above(r.rp, 1))?;
+    let x1 = m.return_item(above(r.rp, 2))?;
     super::instructions::push(m, r, x1)
 }
 
 /// HALT ( x -- ): stops with x, or with -258 where no x can be popped.
 #[inline(always)]
 pub fn halt(m: &mut impl Memory, r: &mut Registers) -> Act {
-    match m.fetch(r.sp) {
+    match m.data_item(r.sp) {
         Ok(reason) => {
             r.sp = above(r.sp, 1);
             Ok(Control::Stop(reason))
@@ -171,6 +173,6 @@ pub fn halt(m: &mut impl Memory, r: &mut Registers) -> Act {
 /// LIB is always -257, once its operand could be read.
 #[inline(always)]
 pub fn lib(m: &mut impl Memory, r: &mut Registers) -> Act {
-    m.fetch(r.sp)?;
+    m.data_item(r.sp)?;
     Err(Fault::LibraryRoutine)
 }

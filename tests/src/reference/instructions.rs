@@ -5,6 +5,7 @@
 
 use super::arithmetic::{floored, Division};
 use super::memory::{Fault, Memory, Order};
+use super::stacks::Stacks;
 
 /// EP, A, SP, RP: they travel with each call.
 #[derive(Clone, Copy, PartialEq, Eq, Debug, Default)]
@@ -45,16 +46,16 @@ pub fn above(address: u32, cells: u32) -> u32 {
 #[inline(always)]
 pub fn push(m: &mut impl Memory, r: &mut Registers, x: u32) -> Act {
     let place = below(r.sp, 1);
-    m.check_cell(place)?;
+    m.check_data(place)?;
     m.set_cell(place, x);
     r.sp = place;
     Ok(Control::Continue)
 }
 
-/// DUP ( x -- x x ) and R@ ( -- x ) R: ( x -- x ): a copy of the cell at `place`.
+/// DUP ( x -- x x )
 #[inline(always)]
-pub fn push_from(m: &mut impl Memory, r: &mut Registers, place: u32) -> Act {
-    let x = m.fetch(place)?;
+pub fn dup(m: &mut impl Memory, r: &mut Registers) -> Act {
+    let x = m.data_item(r.sp)?;
     push(m, r, x)
 }
 
@@ -62,16 +63,37 @@ pub fn push_from(m: &mut impl Memory, r: &mut Registers, place: u32) -> Act {
 #[inline(always)]
 pub fn call_from(m: &mut impl Memory, r: &mut Registers, back: u32, target: u32) -> Act {
     let place = below(r.rp, 1);
-    m.check_cell(place)?;
+    m.check_return(place)?;
     m.set_cell(place, back);
     r.rp = place;
     Ok(Control::Jump(target))
 }
 
+/// One item in the place of two.
+#[inline(always)]
+fn replace_two(m: &mut impl Memory, r: &mut Registers, x: u32) -> Act {
+    let place = above(r.sp, 1);
+    m.check_data(place)?;
+    m.set_cell(place, x);
+    r.sp = place;
+    Ok(Control::Continue)
+}
+
+/// Two items in the place of two, the deeper one first.
+#[inline(always)]
+fn replace_pair(m: &mut impl Memory, r: &mut Registers, deeper: u32, top: u32) -> Act {
+    m.check_data(above(r.sp, 1))?;
+    m.check_data(r.sp)?;
+    m.set_cell(above(r.sp, 1), deeper);
+    m.set_cell(r.sp, top);
+    Ok(Control::Continue)
+}
+
 /// ( x1 -- x2 )
 #[inline(always)]
 pub fn monadic(m: &mut impl Memory, r: &mut Registers, of: impl Fn(u32) -> u32) -> Act {
-    let x1 = m.fetch(r.sp)?;
+    let x1 = m.data_item(r.sp)?;
+    m.check_data(r.sp)?;
     m.set_cell(r.sp, of(x1));
     Ok(Control::Continue)
 }
@@ -79,11 +101,9 @@ pub fn monadic(m: &mut impl Memory, r: &mut Registers, of: impl Fn(u32) -> u32) 
 /// ( x1 x2 -- x3 )
 #[inline(always)]
 pub fn dyadic(m: &mut impl Memory, r: &mut Registers, of: impl Fn(u32, u32) -> u32) -> Act {
-    let x2 = m.fetch(r.sp)?;
-    let x1 = m.fetch(above(r.sp, 1))?;
-    r.sp = above(r.sp, 1);
-    m.set_cell(r.sp, of(x1, x2));
-    Ok(Control::Continue)
+    let x2 = m.data_item(r.sp)?;
+    let x1 = m.data_item(above(r.sp, 1))?;
+    replace_two(m, r, of(x1, x2))
 }
 
 /// ( n1 n2 -- ): the operands of a division; the divisor is checked once both are read.
@@ -93,8 +113,8 @@ fn divided(
     r: &Registers,
     of: impl Fn(u32, u32) -> Division,
 ) -> Result<Division, Fault> {
-    let n2 = m.fetch(r.sp)?;
-    let n1 = m.fetch(above(r.sp, 1))?;
+    let n2 = m.data_item(r.sp)?;
+    let n1 = m.data_item(above(r.sp, 1))?;
     if n2 == 0 {
         return Err(Fault::DivisionByZero);
     }
@@ -105,9 +125,7 @@ fn divided(
 #[inline(always)]
 pub fn divide(m: &mut impl Memory, r: &mut Registers, of: impl Fn(Division) -> u32) -> Act {
     let division = divided(m, r, floored)?;
-    r.sp = above(r.sp, 1);
-    m.set_cell(r.sp, of(division));
-    Ok(Control::Continue)
+    replace_two(m, r, of(division))
 }
 
 /// ( n1 n2 -- n3 n4 ): the remainder below the quotient.
@@ -118,15 +136,13 @@ pub fn divide_both(
     of: impl Fn(u32, u32) -> Division,
 ) -> Act {
     let division = divided(m, r, of)?;
-    m.set_cell(above(r.sp, 1), division.remainder);
-    m.set_cell(r.sp, division.quotient);
-    Ok(Control::Continue)
+    replace_pair(m, r, division.remainder, division.quotient)
 }
 
 /// DROP ( x -- )
 #[inline(always)]
 pub fn drop_item(m: &mut impl Memory, r: &mut Registers) -> Act {
-    m.fetch(r.sp)?;
+    m.data_item(r.sp)?;
     r.sp = above(r.sp, 1);
     Ok(Control::Continue)
 }
@@ -134,18 +150,16 @@ pub fn drop_item(m: &mut impl Memory, r: &mut Registers) -> Act {
 /// SWAP ( x1 x2 -- x2 x1 )
 #[inline(always)]
 pub fn swap(m: &mut impl Memory, r: &mut Registers) -> Act {
-    let x2 = m.fetch(r.sp)?;
-    let x1 = m.fetch(above(r.sp, 1))?;
-    m.set_cell(above(r.sp, 1), x2);
-    m.set_cell(r.sp, x1);
-    Ok(Control::Continue)
+    let x2 = m.data_item(r.sp)?;
+    let x1 = m.data_item(above(r.sp, 1))?;
+    replace_pair(m, r, x2, x1)
 }
 
 /// OVER ( x1 x2 -- x1 x2 x1 )
 #[inline(always)]
 pub fn over(m: &mut impl Memory, r: &mut Registers) -> Act {
-    m.fetch(r.sp)?;
-    let x1 = m.fetch(above(r.sp, 1))?;
+    m.data_item(r.sp)?;
+    let x1 = m.data_item(above(r.sp, 1))?;
     push(m, r, x1)
 }
 
@@ -157,10 +171,13 @@ pub fn rotate(
     r: &mut Registers,
     after: impl Fn(u32, u32, u32) -> [u32; 3],
 ) -> Act {
-    let x3 = m.fetch(r.sp)?;
-    let x2 = m.fetch(above(r.sp, 1))?;
-    let x1 = m.fetch(above(r.sp, 2))?;
+    let x3 = m.data_item(r.sp)?;
+    let x2 = m.data_item(above(r.sp, 1))?;
+    let x1 = m.data_item(above(r.sp, 2))?;
     let [deepest, middle, top] = after(x1, x2, x3);
+    m.check_data(above(r.sp, 2))?;
+    m.check_data(above(r.sp, 1))?;
+    m.check_data(r.sp)?;
     m.set_cell(above(r.sp, 2), deepest);
     m.set_cell(above(r.sp, 1), middle);
     m.set_cell(r.sp, top);
@@ -170,56 +187,69 @@ pub fn rotate(
 /// TUCK ( x1 x2 -- x2 x1 x2 )
 #[inline(always)]
 pub fn tuck(m: &mut impl Memory, r: &mut Registers) -> Act {
-    let x2 = m.fetch(r.sp)?;
-    let x1 = m.fetch(above(r.sp, 1))?;
-    m.check_cell(below(r.sp, 1))?;
+    let x2 = m.data_item(r.sp)?;
+    let x1 = m.data_item(above(r.sp, 1))?;
+    m.check_data(above(r.sp, 1))?;
+    m.check_data(r.sp)?;
+    m.check_data(below(r.sp, 1))?;
     m.set_cell(above(r.sp, 1), x2);
     m.set_cell(r.sp, x1);
     push(m, r, x2)
 }
 
-/// The address of x_u, exact and not wrapped, checked right after u is read.
+/// x_u and its address, which is exact and not wrapped; judged right after u is read.
 #[inline(always)]
-fn address_of_item(m: &impl Memory, sp: u32, u: u32) -> Result<u32, Fault> {
+fn deep_item(m: &impl Memory, sp: u32, u: u32) -> Result<(u32, u32), Fault> {
     let exact = u64::from(sp) + 4 + 4 * u64::from(u);
+    let address = exact as u32;
     if exact >= u64::from(m.length()) {
-        return Err(Fault::InvalidAddress(exact as u32));
+        return Err(Fault::InvalidAddress(address));
     }
-    Ok(exact as u32)
+    Ok((m.data_item(address)?, address))
 }
 
 /// PICK ( x_u .. x0 u -- x_u .. x0 x_u )
 #[inline(always)]
 pub fn pick(m: &mut impl Memory, r: &mut Registers) -> Act {
-    let u = m.fetch(r.sp)?;
-    let x_u = m.fetch(address_of_item(m, r.sp, u)?)?;
+    let u = m.data_item(r.sp)?;
+    let (x_u, _) = deep_item(m, r.sp, u)?;
+    m.check_data(r.sp)?;
     m.set_cell(r.sp, x_u);
     Ok(Control::Continue)
+}
+
+/// Every item from `top` on takes the place below it, down to `deepest`, whose item is lost.
+#[inline(always)]
+fn roll_down(m: &mut impl Memory, top: u32, deepest: u32) -> Result<(), Fault> {
+    let places = (top..=deepest).rev().step_by(4);
+    for place in places.clone() {
+        m.check_data(place)?;
+    }
+    for place in places.take_while(|place| *place > top) {
+        let item_above = m.cell(below(place, 1));
+        m.set_cell(place, item_above);
+    }
+    Ok(())
 }
 
 /// ROLL ( x_u .. x0 u -- x_u-1 .. x0 x_u )
 #[inline(always)]
 pub fn roll(m: &mut impl Memory, r: &mut Registers) -> Act {
-    let u = m.fetch(r.sp)?;
-    let deepest = address_of_item(m, r.sp, u)?;
-    let x_u = m.fetch(deepest)?;
-    r.sp = above(r.sp, 1);
-    let mut place = deepest;
-    while place > r.sp {
-        let item_above = m.cell(below(place, 1));
-        m.set_cell(place, item_above);
-        place = below(place, 1);
-    }
+    let u = m.data_item(r.sp)?;
+    let (x_u, deepest) = deep_item(m, r.sp, u)?;
+    let top = above(r.sp, 1);
     if u > 0 {
-        m.set_cell(r.sp, x_u);
+        roll_down(m, top, deepest)?;
+        m.set_cell(top, x_u);
     }
+    r.sp = top;
     Ok(Control::Continue)
 }
 
 /// ?DUP ( x -- 0 | x x ): on 0 nothing is written.
 #[inline(always)]
 pub fn question_dup(m: &mut impl Memory, r: &mut Registers) -> Act {
-    match m.fetch(r.sp)? {
+    match m.data_item(r.sp)? {
         0 => Ok(Control::Continue),
         x => push(m, r, x),
     }
@@ -228,9 +258,9 @@ pub fn question_dup(m: &mut impl Memory, r: &mut Registers) -> Act {
 /// >R ( x -- ) R: ( -- x )
 #[inline(always)]
 pub fn to_r(m: &mut impl Memory, r: &mut Registers) -> Act {
-    let x = m.fetch(r.sp)?;
+    let x = m.data_item(r.sp)?;
     let place = below(r.rp, 1);
-    m.check_cell(place)?;
+    m.check_return(place)?;
     m.set_cell(place, x);
     r.rp = place;
     r.sp = above(r.sp, 1);
@@ -240,10 +270,16 @@ pub fn to_r(m: &mut impl Memory, r: &mut Registers) -> Act {
 /// R> ( -- x ) R: ( x -- )
 #[inline(always)]
 pub fn r_from(m: &mut impl Memory, r: &mut Registers) -> Act {
-    let x = m.fetch(r.rp)?;
-    push(m, r, x)?;
+    r_fetch(m, r)?;
     r.rp = above(r.rp, 1);
     Ok(Control::Continue)
+}
+
+/// R@ ( -- x ) R: ( x -- x )
+#[inline(always)]
+pub fn r_fetch(m: &mut impl Memory, r: &mut Registers) -> Act {
+    let x = m.return_item(r.rp)?;
+    push(m, r, x)
 }
 
 /// C@, C!: with the most significant byte first, the two low bits of the address are inverted.
@@ -258,7 +294,8 @@ fn byte_address(m: &impl Memory, address: u32) -> u32 {
 /// @ ( a-addr -- x )
 #[inline(always)]
 pub fn fetch(m: &mut impl Memory, r: &mut Registers) -> Act {
-    let x = m.fetch(m.fetch(r.sp)?)?;
+    let x = m.fetch(m.data_item(r.sp)?)?;
+    m.check_data(r.sp)?;
     m.set_cell(r.sp, x);
     Ok(Control::Continue)
 }
@@ -266,8 +303,8 @@ pub fn fetch(m: &mut impl Memory, r: &mut Registers) -> Act {
 /// ! ( x a-addr -- )
 #[inline(always)]
 pub fn store(m: &mut impl Memory, r: &mut Registers) -> Act {
-    let address = m.fetch(r.sp)?;
-    let x = m.fetch(above(r.sp, 1))?;
+    let address = m.data_item(r.sp)?;
+    let x = m.data_item(above(r.sp, 1))?;
     m.check_cell(address)?;
     m.set_cell(address, x);
     r.sp = above(r.sp, 2);
@@ -277,9 +314,10 @@ pub fn store(m: &mut impl Memory, r: &mut Registers) -> Act {
 /// C@ ( c-addr -- char )
 #[inline(always)]
 pub fn c_fetch(m: &mut impl Memory, r: &mut Registers) -> Act {
-    let address = byte_address(m, m.fetch(r.sp)?);
+    let address = byte_address(m, m.data_item(r.sp)?);
     m.check_byte(address)?;
     let char = m.byte(address);
+    m.check_data(r.sp)?;
     m.set_cell(r.sp, u32::from(char));
     Ok(Control::Continue)
 }
@@ -287,8 +325,8 @@ pub fn c_fetch(m: &mut impl Memory, r: &mut Registers) -> Act {
 /// C! ( char c-addr -- )
 #[inline(always)]
 pub fn c_store(m: &mut impl Memory, r: &mut Registers) -> Act {
-    let address = byte_address(m, m.fetch(r.sp)?);
-    let char = m.fetch(above(r.sp, 1))?;
+    let address = byte_address(m, m.data_item(r.sp)?);
+    let char = m.data_item(above(r.sp, 1))?;
     m.check_byte(address)?;
     m.set_byte(address, char as u8);
     r.sp = above(r.sp, 2);
@@ -298,8 +336,8 @@ pub fn c_store(m: &mut impl Memory, r: &mut Registers) -> Act {
 /// +! ( n a-addr -- )
 #[inline(always)]
 pub fn plus_store(m: &mut impl Memory, r: &mut Registers) -> Act {
-    let address = m.fetch(r.sp)?;
-    let n = m.fetch(above(r.sp, 1))?;
+    let address = m.data_item(r.sp)?;
+    let n = m.data_item(above(r.sp, 1))?;
     let old = m.fetch(address)?;
     m.set_cell(address, old.wrapping_add(n));
     r.sp = above(r.sp, 2);
@@ -309,7 +347,7 @@ pub fn plus_store(m: &mut impl Memory, r: &mut Registers) -> Act {
 /// The operand of SP! and RP!: -23 where it is unaligned, and no check of range.
 #[inline(always)]
 fn pointer_operand(m: &impl Memory, r: &Registers) -> Result<u32, Fault> {
-    let pointer = m.fetch(r.sp)?;
+    let pointer = m.data_item(r.sp)?;
     if !pointer.is_multiple_of(4) {
         return Err(Fault::Alignment(pointer));
     }

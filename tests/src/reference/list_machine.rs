@@ -11,6 +11,7 @@ use super::memory::{Fault, Lent, Memory, Order};
 use super::opcodes::plain;
 use super::packer::{address, Form, Layout};
 use super::processor::raise;
+use super::stacks::Areas;
 
 /// Lent memory that notes writes into the image and can take an item's writes back.
 struct Watched<'m> {
@@ -40,6 +41,10 @@ impl Memory for Watched<'_> {
 
     fn order(&self) -> Order {
         self.lent.order()
+    }
+
+    fn areas(&self) -> &Areas {
+        self.lent.areas()
     }
 
     fn cell(&self, address: u32) -> u32 {

@@ -1,5 +1,7 @@
 //! Cells and bytes of the lent memory, and the faults of reaching for them.
 
+use super::stacks::Areas;
+
 /// ENDISM, the byte order of a cell.
 #[derive(Clone, Copy, PartialEq, Eq, Debug)]
 pub enum Order {
@@ -39,13 +41,21 @@ impl Order {
     }
 }
 
-/// What an instruction may raise (document 001, table 4).
+/// What an instruction may raise (document 001, table 4; document 02, (a)).
 #[derive(Clone, Copy, PartialEq, Eq, Debug)]
 pub enum Fault {
     /// -9, with the address.
     InvalidAddress(u32),
     /// -23, with the address.
     Alignment(u32),
+    /// -3: below the data area.
+    DataBelow,
+    /// -4: at the top of the data area, or above.
+    DataAbove,
+    /// -5: below the return area.
+    ReturnBelow,
+    /// -6: at the top of the return area, or above.
+    ReturnAbove,
     /// -10.
     DivisionByZero,
     /// -256.
@@ -60,6 +70,10 @@ impl Fault {
         let code: i32 = match self {
             Fault::InvalidAddress(_) => -9,
             Fault::Alignment(_) => -23,
+            Fault::DataBelow => -3,
+            Fault::DataAbove => -4,
+            Fault::ReturnBelow => -5,
+            Fault::ReturnAbove => -6,
             Fault::DivisionByZero => -10,
             Fault::IllegalOpcode => -256,
             Fault::LibraryRoutine => -257,
@@ -82,6 +96,7 @@ pub trait Memory {
     /// MEMORY.
     fn length(&self) -> u32;
     fn order(&self) -> Order;
+    fn areas(&self) -> &Areas;
     fn cell(&self, address: u32) -> u32;
     fn set_cell(&mut self, address: u32, cell: u32);
     fn byte(&self, address: u32) -> u8;
@@ -116,9 +131,10 @@ pub trait Memory {
     }
 }
 
-/// The memory that the caller lent, with its byte order.
+/// The memory that the caller lent, with its byte order and the stack areas.
 pub struct Lent<'m> {
     pub order: Order,
+    pub areas: Areas,
     pub bytes: &'m mut [u8],
 }
 
@@ -127,6 +143,7 @@ impl Lent<'_> {
     pub fn again(&mut self) -> Lent<'_> {
         Lent {
             order: self.order,
+            areas: self.areas,
             bytes: self.bytes,
         }
     }
@@ -141,6 +158,11 @@ impl Memory for Lent<'_> {
     #[inline(always)]
     fn order(&self) -> Order {
         self.order
+    }
+
+    #[inline(always)]
+    fn areas(&self) -> &Areas {
+        &self.areas
     }
 
     #[inline(always)]

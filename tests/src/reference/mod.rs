@@ -14,3 +14,4 @@ pub mod opcodes;
 pub mod packer;
 pub mod processor;
 pub mod refusal;
+pub mod stacks;

@@ -11,7 +11,7 @@ use super::memory::{Fault, Memory};
 pub fn plain<M: Memory>(opcode: u8, m: &mut M, r: &mut Registers) -> Act {
     match opcode {
         // Stack manipulation
-        0x01 => push_from(m, r, r.sp),                   // DUP
+        0x01 => dup(m, r),                               // DUP
         0x02 => drop_item(m, r),                         // DROP
         0x03 => swap(m, r),                              // SWAP
         0x04 => over(m, r),                              // OVER
@@ -24,7 +24,7 @@ pub fn plain<M: Memory>(opcode: u8, m: &mut M, r: &mut Registers) -> Act {
         0x0B => question_dup(m, r),                      // ?DUP
         0x0C => to_r(m, r),                              // >R
         0x0D => r_from(m, r),                            // R>
-        0x0E => push_from(m, r, r.rp),                   // R@
+        0x0E => r_fetch(m, r),                           // R@
         // Comparison
         0x0F => dyadic(m, r, |n1, n2| flag(signed(n1) < signed(n2))), // <
         0x10 => dyadic(m, r, |n1, n2| flag(signed(n1) > signed(n2))), // >

@@ -4,6 +4,7 @@ use super::control::{branch, call, loop_once, plus_loop, question_branch, Branch
 use super::instructions::{push, Act, Control, Registers, BAD_STACK};
 use super::memory::{Fault, Lent, Memory};
 use super::opcodes::plain;
+use super::stacks::{first_pointers, Numbers, Stacks};
 
 /// Reason -259, of a bad 'THROW.
 pub const BAD_HANDLER: u32 = -259_i32 as u32;
@@ -29,7 +30,7 @@ pub fn raise<M: Memory>(m: &mut M, r: &mut Registers, fault: Option<Fault>) -> R
     }
     if let Some(fault) = fault {
         let place = r.sp.wrapping_sub(4);
-        if place >= m.length() {
+        if !m.takes_code(place) {
             return Err(BAD_STACK);
         }
         if let Some(address) = fault.address() {
@@ -176,17 +177,13 @@ fn finish(m: &mut Lent<'_>, r: Registers, pass: Pass) -> (Registers, Outcome) {
 }
 
 /// Start: the four cells, the registers, then NEXT.
-pub fn start(m: &mut Lent<'_>, ep: u32, handler: u32) -> (Registers, Outcome) {
+pub fn start(m: &mut Lent<'_>, ep: u32, handler: u32, areas: Numbers) -> (Registers, Outcome) {
     m.set_cell(THROW, handler);
     m.set_cell(MEMORY, m.length());
     m.set_cell(BAD, 0xFFFF_FFFF);
     m.set_cell(NOT_ADDRESS, 0xFFFF_FFFF);
-    let mut r = Registers {
-        ep,
-        a: 0,
-        sp: m.length() - 0x100,
-        rp: m.length(),
-    };
+    let (sp, rp) = first_pointers(areas, m.length());
+    let mut r = Registers { ep, a: 0, sp, rp };
     let pass = next(m, &mut r);
     finish(m, r, pass)
 }

@@ -1,4 +1,4 @@
-//! What is refused, with its number (document 01, the two lists).
+//! What is refused, with its number (document 01, the two lists; document 02, (a)).
 
 #[derive(Clone, Copy, PartialEq, Eq, Debug)]
 pub enum Refusal {
@@ -18,6 +18,8 @@ pub enum Refusal {
     MemoryLength,
     /// -4102.
     ByteOrder,
+    /// -4111.
+    Areas,
     /// -4104.
     Unaligned,
     /// -1.
@@ -39,6 +41,7 @@ impl Refusal {
             Refusal::Target => -4109,
             Refusal::MemoryLength => -4101,
             Refusal::ByteOrder => -4102,
+            Refusal::Areas => -4111,
             Refusal::Unaligned => -4104,
             Refusal::OutsideMemory => -1,
             Refusal::Base => -4110,
