@@ -38,7 +38,7 @@ use Rattle.list_machine.proofs.Frame.{stores-frame}
 use Rattle.list_machine.proofs.Image.{still-holds}
 use Rattle.list_machine.proofs.Meets.{Meets, enters}
 
-noted-frame : (machine : Machine) (lo hi : ℕ) (m : List ℕ) (e : Exception) → 16 ≤ lo → Alike lo hi m (noted machine m e)
+pub noted-frame : (machine : Machine) (lo hi : ℕ) (m : List ℕ) (e : Exception) → 16 ≤ lo → Alike lo hi m (noted machine m e)
 noted-frame machine lo hi m (Range a) h = cell-frame lo hi (machine .order) m addressCell (a .0) (inl (omega arith))
 noted-frame machine lo hi m (Alignment a) h = cell-frame lo hi (machine .order) m addressCell (a .0) (inl (omega arith))
 noted-frame machine lo hi m DataOverflow h = alike-refl lo hi m

@@ -1,0 +1,3 @@
+-- The laws.
+pub mod Places
+pub mod Cycles

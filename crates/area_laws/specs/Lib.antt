@@ -1,0 +1,2 @@
+-- What is claimed of stack areas.
+pub mod Staying
