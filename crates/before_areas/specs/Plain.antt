@@ -1,0 +1,164 @@
+-- The effects of the instructions that take no operand, before areas: the same clauses as in crate `instruction` (Plain, which has the stack pictures), over the
+-- fetch of that time.
+use mathlib.Core.Bool.{not}
+use mathlib.Core.List.{List, [], _∷_}
+use Prim.Native.Nat.{ℕ, _+_, _*_, _%_, _^_}
+use lib.Bits.{bitAnd, bitOr, bitXor}
+use lib.Dec.{ltb, eqb}
+use Rattle.cell.specs.Choice.{if}
+use Rattle.cell.specs.Number.{sum, difference, product, negated, less, magnitude, greater, lesser, flag, inverted, shiftedLeft, shiftedRight, halved, byteAddress}
+use Rattle.cell.specs.Division.{unsignedOf, symmetricOf, flooredOf}
+use Rattle.cell.specs.Memory.{byte0}
+use Rattle.cell.specs.Place.{address}
+use Rattle.cell.specs.declared.Fault.the-variants.{Range, Divisor, Library}
+use Rattle.cell.specs.declared.Fault.the-variants as fault
+use Rattle.cell.specs.declared.Fetched.{Fetched}
+use Rattle.cell.specs.declared.Fetched.the-variants.{Failed}
+use Rattle.machine.specs.Places.{oneByte}
+use Rattle.machine.specs.Effects.{cellStore, goOn, jump, throwing, Effect, raise, fetched, rolled}
+use Rattle.machine.specs.declared.Access.the-variants.{DataWrite, ReturnWrite, NamedWrite}
+use Rattle.instruction.specs.Plain.{action, replaces, reduces, pushes, dividedBoth, aligned, halted}
+use Rattle.instruction.specs.declared.Instruction.{Instruction}
+use Rattle.instruction.specs.declared.Instruction.the-variants.{Next, Dup, Drop, Swap, Over, Rot, MinusRot, Tuck, Nip, Pick, Roll, QuestionDup, ToR, RFrom, RFetch, Less, Greater, Equal, NotEqual, ZeroLess, ZeroGreater, ZeroEqual, ZeroNotEqual, ULess, UGreater, Zero, One, MinusOne, CellSize, MinusCell, Plus, Minus, SwapMinus, OnePlus, OneMinus, CellPlus, CellMinus, Star, Slash, Mod, SlashMod, USlashMod, SSlashRem, TwoSlash, Cells, Abs, Negate, Max, Min, Invert, And, Or, Xor, LShift, RShift, OneLShift, OneRShift, FetchCell, StoreCell, CFetch, CStore, PlusStore, SpFetch, SpStore, RpFetch, RpStore, Branch, BranchI, QuestionBranch, QuestionBranchI, Execute, FetchExecute, Call, CallI, Exit, Do, Loop, LoopI, PlusLoop, PlusLoopI, Unloop, J, Literal, LiteralI, Throw, Halt, Lib, Illegal}
+use Rattle.before_areas.specs.Places.{fetchBefore, fetchByteBefore}
+
+module _ (order : ℕ) (m : List ℕ) where
+  -- items of a stack, the top one first
+  abbrev pub items1 : ℕ → (ℕ → Effect) → Effect
+  items1 sp k = fetched (fetchBefore order m sp) k
+
+  abbrev pub items2 : ℕ → (ℕ → ℕ → Effect) → Effect
+  items2 sp k = items1 sp (λ x2. fetched (fetchBefore order m (sum sp 4)) (λ x1. k x1 x2))
+
+  abbrev pub items3 : ℕ → (ℕ → ℕ → ℕ → Effect) → Effect
+  items3 sp k = items2 sp (λ x2 x3. fetched (fetchBefore order m (sum sp 8)) (λ x1. k x1 x2 x3))
+
+  -- two items and the divisor, which is the top one
+  abbrev divided : ℕ → (ℕ → ℕ → Effect) → Effect
+  divided sp k = items2 sp (λ n1 n2. if (eqb n2 0) (raise Divisor) (k n1 n2))
+
+  -- PICK's and ROLL's deep item
+  abbrev pub fetchDeepBefore : ℕ → Fetched
+  fetchDeepBefore a = if (ltb a (2 ^ 32)) (fetchBefore order m a) (Failed (Range (address (a % 2 ^ 32))))
+
+  module _ (ep sp rp : ℕ) where
+    unfoldable pub plainBefore : Instruction → Effect
+    plainBefore Dup = items1 sp (λ x. pushes sp rp x)
+    plainBefore Drop = items1 sp (λ x. action (sum sp 4) rp [] goOn)
+    plainBefore Swap = items2 sp (λ x1 x2. action sp rp (cellStore DataWrite (sum sp 4) x2 ∷ cellStore DataWrite sp x1 ∷ []) goOn)
+    plainBefore Over = items2 sp (λ x1 x2. pushes sp rp x1)
+    plainBefore Rot =
+        items3 sp
+        (λ x1 x2 x3. action sp rp (cellStore DataWrite (sum sp 8) x2 ∷ cellStore DataWrite (sum sp 4) x3 ∷ cellStore DataWrite sp x1 ∷ []) goOn)
+    plainBefore MinusRot =
+        items3 sp
+        (λ x1 x2 x3. action sp rp (cellStore DataWrite (sum sp 8) x3 ∷ cellStore DataWrite (sum sp 4) x1 ∷ cellStore DataWrite sp x2 ∷ []) goOn)
+    plainBefore Tuck =
+        items2 sp
+        (λ x1 x2.
+        action (difference sp 4) rp
+        (cellStore DataWrite (sum sp 4) x2 ∷ cellStore DataWrite sp x1 ∷ cellStore DataWrite (difference sp 4) x2 ∷ [])
+        goOn)
+    plainBefore Nip = items2 sp (λ x1 x2. reduces sp rp x2)
+    plainBefore Pick = items1 sp (λ u. fetched (fetchDeepBefore (sp + 4 + 4 * u)) (λ x. replaces sp rp x))
+    plainBefore Roll =
+        items1 sp
+        (λ u. fetched (fetchDeepBefore (sp + 4 + 4 * u)) (λ x. action (sum sp 4) rp (rolled order m (sp + 4) u) goOn))
+    plainBefore QuestionDup = items1 sp (λ x. if (eqb x 0) (action sp rp [] goOn) (pushes sp rp x))
+    plainBefore ToR =
+        items1 sp (λ x. action (sum sp 4) (difference rp 4) (cellStore ReturnWrite (difference rp 4) x ∷ []) goOn)
+    plainBefore RFrom =
+        items1 rp (λ x. action (difference sp 4) (sum rp 4) (cellStore DataWrite (difference sp 4) x ∷ []) goOn)
+    plainBefore RFetch = items1 rp (λ x. pushes sp rp x)
+    plainBefore Less = items2 sp (λ x1 x2. reduces sp rp (flag (less x1 x2)))
+    plainBefore Greater = items2 sp (λ x1 x2. reduces sp rp (flag (less x2 x1)))
+    plainBefore Equal = items2 sp (λ x1 x2. reduces sp rp (flag (eqb x1 x2)))
+    plainBefore NotEqual = items2 sp (λ x1 x2. reduces sp rp (flag (not (eqb x1 x2))))
+    plainBefore ZeroLess = items1 sp (λ x. replaces sp rp (flag (less x 0)))
+    plainBefore ZeroGreater = items1 sp (λ x. replaces sp rp (flag (less 0 x)))
+    plainBefore ZeroEqual = items1 sp (λ x. replaces sp rp (flag (eqb x 0)))
+    plainBefore ZeroNotEqual = items1 sp (λ x. replaces sp rp (flag (not (eqb x 0))))
+    plainBefore ULess = items2 sp (λ x1 x2. reduces sp rp (flag (ltb x1 x2)))
+    plainBefore UGreater = items2 sp (λ x1 x2. reduces sp rp (flag (ltb x2 x1)))
+    plainBefore Zero = pushes sp rp 0
+    plainBefore One = pushes sp rp 1
+    plainBefore MinusOne = pushes sp rp 0xFFFFFFFF
+    plainBefore CellSize = pushes sp rp 4
+    plainBefore MinusCell = pushes sp rp 0xFFFFFFFC
+    plainBefore Plus = items2 sp (λ x1 x2. reduces sp rp (sum x1 x2))
+    plainBefore Minus = items2 sp (λ x1 x2. reduces sp rp (difference x1 x2))
+    plainBefore SwapMinus = items2 sp (λ x1 x2. reduces sp rp (difference x2 x1))
+    plainBefore OnePlus = items1 sp (λ x. replaces sp rp (sum x 1))
+    plainBefore OneMinus = items1 sp (λ x. replaces sp rp (difference x 1))
+    plainBefore CellPlus = items1 sp (λ x. replaces sp rp (sum x 4))
+    plainBefore CellMinus = items1 sp (λ x. replaces sp rp (difference x 4))
+    plainBefore Star = items2 sp (λ x1 x2. reduces sp rp (product x1 x2))
+    plainBefore Slash = divided sp (λ n1 n2. reduces sp rp (flooredOf n1 n2 .quotient))
+    plainBefore Mod = divided sp (λ n1 n2. reduces sp rp (flooredOf n1 n2 .remainder))
+    plainBefore SlashMod = divided sp (λ n1 n2. dividedBoth sp rp (flooredOf n1 n2))
+    plainBefore USlashMod = divided sp (λ u1 u2. dividedBoth sp rp (unsignedOf u1 u2))
+    plainBefore SSlashRem = divided sp (λ n1 n2. dividedBoth sp rp (symmetricOf n1 n2))
+    plainBefore TwoSlash = items1 sp (λ x. replaces sp rp (halved x))
+    plainBefore Cells = items1 sp (λ x. replaces sp rp (product x 4))
+    plainBefore Abs = items1 sp (λ x. replaces sp rp (magnitude x))
+    plainBefore Negate = items1 sp (λ x. replaces sp rp (negated x))
+    plainBefore Max = items2 sp (λ x1 x2. reduces sp rp (greater x1 x2))
+    plainBefore Min = items2 sp (λ x1 x2. reduces sp rp (lesser x1 x2))
+    plainBefore Invert = items1 sp (λ x. replaces sp rp (inverted x))
+    plainBefore And = items2 sp (λ x1 x2. reduces sp rp (bitAnd x1 x2))
+    plainBefore Or = items2 sp (λ x1 x2. reduces sp rp (bitOr x1 x2))
+    plainBefore Xor = items2 sp (λ x1 x2. reduces sp rp (bitXor x1 x2))
+    plainBefore LShift = items2 sp (λ x1 x2. reduces sp rp (shiftedLeft x1 x2))
+    plainBefore RShift = items2 sp (λ x1 x2. reduces sp rp (shiftedRight x1 x2))
+    plainBefore OneLShift = items1 sp (λ x. replaces sp rp (shiftedLeft x 1))
+    plainBefore OneRShift = items1 sp (λ x. replaces sp rp (shiftedRight x 1))
+    plainBefore FetchCell = items1 sp (λ a. fetched (fetchBefore order m a) (λ x. replaces sp rp x))
+    plainBefore StoreCell = items2 sp (λ x a. action (sum sp 8) rp (cellStore NamedWrite a x ∷ []) goOn)
+    plainBefore CFetch =
+        items1 sp (λ a. fetched (fetchByteBefore m (byteAddress order a)) (λ x. replaces sp rp x))
+    plainBefore CStore =
+        items2 sp
+        (λ x a.
+        action (sum sp 8) rp
+        (record { width = oneByte; access = NamedWrite; at = byteAddress order a; value = byte0 x } ∷ [])
+        goOn)
+    plainBefore PlusStore =
+        items2 sp
+        (λ n a. fetched (fetchBefore order m a) (λ x. action (sum sp 8) rp (cellStore NamedWrite a (sum x n) ∷ []) goOn))
+    plainBefore SpFetch = pushes sp rp sp
+    plainBefore SpStore = items1 sp (λ x. aligned x (action x rp [] goOn))
+    plainBefore RpFetch = pushes sp rp rp
+    plainBefore RpStore = items1 sp (λ x. aligned x (action (sum sp 4) x [] goOn))
+    plainBefore Execute =
+        items1 sp (λ to. action (sum sp 4) (difference rp 4) (cellStore ReturnWrite (difference rp 4) ep ∷ []) (jump to))
+    plainBefore FetchExecute =
+        items1 sp
+        (λ a.
+        fetched (fetchBefore order m a)
+        (λ to. action (sum sp 4) (difference rp 4) (cellStore ReturnWrite (difference rp 4) ep ∷ []) (jump to)))
+    plainBefore Exit = items1 rp (λ to. action sp (sum rp 4) [] (jump to))
+    plainBefore Do =
+        items2 sp
+        (λ x1 x2.
+        action (sum sp 8) (difference rp 8)
+        (cellStore ReturnWrite (difference rp 4) x1 ∷ cellStore ReturnWrite (difference rp 8) x2 ∷ [])
+        goOn)
+    plainBefore Unloop = items2 rp (λ x1 x2. action sp (sum rp 8) [] goOn)
+    plainBefore J = items3 rp (λ x1 x2 x3. pushes sp rp x1)
+    plainBefore Throw = action sp rp [] throwing
+    plainBefore Halt = halted sp rp (fetchBefore order m sp)
+    plainBefore Lib = items1 sp (λ n. raise Library)
+    plainBefore Illegal = raise fault.Illegal
+    plainBefore Next = raise fault.Illegal
+    plainBefore Branch = raise fault.Illegal
+    plainBefore BranchI = raise fault.Illegal
+    plainBefore QuestionBranch = raise fault.Illegal
+    plainBefore QuestionBranchI = raise fault.Illegal
+    plainBefore Call = raise fault.Illegal
+    plainBefore CallI = raise fault.Illegal
+    plainBefore Loop = raise fault.Illegal
+    plainBefore LoopI = raise fault.Illegal
+    plainBefore PlusLoop = raise fault.Illegal
+    plainBefore PlusLoopI = raise fault.Illegal
+    plainBefore Literal = raise fault.Illegal
+    plainBefore LiteralI = raise fault.Illegal
