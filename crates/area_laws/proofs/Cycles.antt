@@ -3,9 +3,9 @@ use mathlib.Core.Path.{_≡_, refl, sym, _∙_}
 use mathlib.Core.Bool.{Bool, true, false, _&&_, _||_, true≢false}
 use mathlib.Core.List.{List, [], _∷_}
 use mathlib.Core.Logic.{inl}
-use Prim.Native.Nat.{ℕ, zero, suc, _+_, _-_, _%_, _≤_, _<_}
+use Prim.Native.Nat.{ℕ, zero, suc, _+_, _-_, _%_, _<_}
 use native.Mathlib.Omega.{arith}
-use lib.Dec.{ltb, leb, eqb}
+use lib.Dec.{ltb, eqb}
 use lib.ListN.{length, getD}
 use borrow.Author.Tests.{ltb-true, lt-ltb, le-leb}
 use Rattle.cell.specs.Choice.{if}
@@ -19,7 +19,7 @@ use Rattle.cell.proofs.BooleanLaws.{neither}
 use Rattle.cell.proofs.MemoryLaws.{cell-frame, alike-refl, alike-trans}
 use Rattle.machine.specs.Places.{Width, oneByte, oneCell, placeOf, fetchOf}
 use Rattle.machine.specs.Effects.{Store, cellStore, Action, Effect, act, raise}
-use Rattle.machine.specs.Commits.{Stepped, firstBad, placesOf, storedOf, carriedOut, commitOf, touches}
+use Rattle.machine.specs.Commits.{Stepped, placesOf, storedOf, carriedOut, commitOf, touches}
 use Rattle.machine.specs.Exceptions.{exceptionOf, exceptionCode}
 use Rattle.machine.specs.Throws.{CycleState, cycleState, badStack, badCell, handlerCell, handed, handlerOf, noted, pushed, throwOf, throwingOf, nexted, nextOf, finished, finishOf}
 use Rattle.machine.specs.declared.Machine.{Machine}
@@ -44,7 +44,7 @@ use Rattle.areas.specs.declared.Area.{Area}
 use Rattle.areas.specs.declared.Areas.{Areas}
 use Rattle.list_machine.proofs.Frame.{stores-frame}
 use Rattle.list_machine.proofs.Throwing.{noted-frame}
-use Rattle.area_laws.specs.Staying.{Given, CellOf, CellFor, isNamed, named, storesOf, storesBy, storesIn, names, inArea, Off, StackWritesStay, RunWritesStay}
+use Rattle.area_laws.specs.Staying.{Given, CellOf, CellFor, isNamed, named, storesOf, storesBy, names, inArea, Off, StackWritesStay, RunWritesStay}
 use Rattle.area_laws.proofs.Places.{places-in}
 
 -- a cell of an area does not have a byte that is off it

@@ -5,7 +5,7 @@ use mathlib.Core.Path.{_≡_}
 use mathlib.Core.Bool.{Bool, true, false, _&&_}
 use mathlib.Core.List.{List, [], _∷_}
 use Prim.{Unit}
-use Prim.Native.Nat.{ℕ, _+_, _-_, _*_, _%_, _≤_, _<_}
+use Prim.Native.Nat.{ℕ, _+_, _-_, _%_, _≤_, _<_}
 use lib.Dec.{ltb, leb}
 use lib.ListN.{length, getD}
 use Rattle.cell.specs.Choice.{if}
@@ -13,7 +13,7 @@ use Rattle.cell.specs.declared.Checked.the-variants.{Good}
 use Rattle.cell.specs.declared.Judged.the-variants.{Passed}
 use Rattle.machine.specs.Places.{Width, oneByte, oneCell, placeOf}
 use Rattle.machine.specs.Effects.{Store, Effect, act, raise}
-use Rattle.machine.specs.Commits.{placesOf, touches}
+use Rattle.machine.specs.Commits.{touches}
 use Rattle.machine.specs.Throws.{CycleState}
 use Rattle.machine.specs.declared.Machine.{Machine}
 use Rattle.machine.specs.declared.Registers.{Registers}

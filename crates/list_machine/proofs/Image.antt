@@ -8,7 +8,6 @@ use borrow.Author.Tests.{lt-ltb, eq-eqb}
 use lib.ListN.{length, getD}
 use Rattle.cell.specs.Memory.{cellAt, Alike}
 use Rattle.cell.specs.Number.{sum}
-use Rattle.cell.specs.declared.Checked.the-variants.{Good}
 use Rattle.cell.specs.declared.Fetched.the-variants.{Cell}
 use Rattle.cell.proofs.MemoryLaws.{cell-alike}
 use Rattle.machine.specs.Places.{placeOf, fetchOf}

@@ -1,7 +1,6 @@
 -- A run keeps the memory's length.
 use mathlib.Core.Path.{_≡_, refl, _∙_}
 use mathlib.Core.Bool.{Bool, true, false, not}
-use mathlib.Core.List.{List}
 use Prim.{Unit, tt}
 use Prim.Native.Nat.{ℕ, zero, suc}
 use lib.Dec.{ltb}
@@ -15,9 +14,8 @@ use Rattle.machine.specs.Exceptions.{exceptionOf}
 use Rattle.machine.specs.declared.Exception.{Exception}
 use Rattle.machine.specs.Effects.{Control, goOn, jump, halt, throwing, Action, Effect, act, raise}
 use Rattle.machine.specs.Commits.{placesOf}
-use Rattle.machine.specs.Throws.{CycleState, throwOf, throwingOf, finishOf}
+use Rattle.machine.specs.Throws.{CycleState, throwOf, throwingOf}
 use Rattle.machine.specs.declared.Machine.{Machine}
-use Rattle.machine.specs.declared.Registers.{Registers}
 use Rattle.machine.specs.declared.Access.the-variants.{Push}
 use Rattle.machine.specs.declared.Ended.{Ended}
 use Rattle.machine.specs.declared.Ended.the-variants.{Went, Threw, Stopped}

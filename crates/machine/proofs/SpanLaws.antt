@@ -7,10 +7,9 @@ use lib.Dec.{ltb, leb, eqb}
 use borrow.Author.Tests.{ltb-true, ltb-false, leb-true, leb-false, eqb-true, eqb-false, lt-ltb, le-ltb, eq-eqb, ne-eqb}
 use Rattle.cell.specs.Number.{difference}
 use Rattle.cell.specs.Place.{address}
-use Rattle.cell.specs.Refusals.{Lent}
 use Rattle.cell.specs.declared.Checked.the-variants.{Good, Bad}
 use Rattle.cell.specs.declared.Fault.the-variants.{Range}
-use Rattle.machine.specs.Places.{Fits, unbounded, oneCell, endIn, within, allowed, faultAt, placeOf}
+use Rattle.machine.specs.Places.{oneCell, endIn, within, allowed, faultAt, placeOf}
 use Rattle.machine.specs.declared.Span.{Span}
 use Rattle.machine.specs.declared.Machine.{Machine}
 use Rattle.machine.specs.declared.Access.{Access}
@@ -108,15 +107,3 @@ module _ (machine : Machine) (a : ℕ) where
       go true true u e = e
       go true false u e = refl
       go false t u e = refl
-
--- without areas every memory that is lent fits
-pub unbounded-fits : (order len : ℕ) → Lent len → Fits (unbounded order len) len
-unbounded-fits order len l =
-    record {
-      whole = l .whole;
-      most = l .most;
-      stack-aligned = refl;
-      stack-ends = omega arith;
-      returns-aligned = refl;
-      returns-end = omega arith;
-    }

@@ -3,7 +3,7 @@ use mathlib.Core.Path.{_≡_, refl, sym, ap, _∙_}
 use mathlib.Core.Logic.{_≢_}
 use mathlib.Core.Bool.{Bool, true, false, true≢false}
 use mathlib.Core.List.{List}
-use Prim.Native.Nat.{ℕ, zero, suc, _+_, _-_, _≤_}
+use Prim.Native.Nat.{ℕ, zero, suc, _+_, _-_}
 use native.Mathlib.Omega.{arith}
 use lib.ListN.{length}
 use Rattle.cell.specs.declared.Judged.{Judged}
@@ -150,10 +150,6 @@ long-if g Passed =
 pub run-keeps-length : (g : Given RegisterFile) → length (runAnswer g .memory) ≡ length (g .memory)
 unfolding runAnswer
 run-keeps-length g = long-if g (judgeRun g)
-
-pub run-keeps-areas : (g : Given RegisterFile) → runAnswer g .registers .areas ≡ g .registers .areas
-unfolding runAnswer
-run-keeps-areas g = areas-if g (judgeRun g)
 
 -- the number of a run is its answer's
 number-if : (g : Given RegisterFile) (j : Judged) → runIf j g .number ≡ runNumber (runIf j g .answer)

@@ -2,7 +2,6 @@
 use mathlib.Core.List.{List}
 use Prim.Native.Nat.{ℕ, zero, suc, _%_, _^_, _<_}
 use native.Mathlib.Omega.{arith}
-use lib.ListN.{length}
 use Rattle.cell.specs.Memory.{Bytewise}
 use Rattle.cell.proofs.MemoryLaws.{store-bytewise}
 use Rattle.machine.specs.Commits.{Stepped, commitOf}
