@@ -9,9 +9,9 @@
  * `registers` holds eight numbers: EP, A, SP, RP, data_top, data_cells, return_top, return_cells. The
  * last four are the stack areas, so many cells below each top: no call changes them, and four zeros
  * are a machine without areas. The held cell, next below the data area, can be read as the area can,
- * but of all pushes only a throw's may go there. A stack access outside its area raises -3 (data,
- * below) or -4 (data, at the top or above), -5 or -6 (return, likewise). A throw that finds neither
- * area nor held cell for its code stops with -258, and so does HALT where SP is off both.
+ * but a throw's code is all that the data stack may write there. A stack access outside its area
+ * raises -3 (data, below) or -4 (data, at the top or above), -5 or -6 (return, likewise). A throw that
+ * finds neither area nor held cell for its code stops with -258, and so does HALT where SP is off both.
  *
  * A listing is its kinds, its operands and a base; as a file it is n, base, the kinds, the operands,
  * least significant byte first. `pointers` holds six numbers: SP, RP and the same areas.
@@ -19,8 +19,8 @@
  * The answer is 0, 1 where the machine stopped, 2 where the list machine stands outside, or a
  * refusal, below 0. On a refusal nothing that was lent is written. A `registers`, `pointers`, `out`
  * or `output` shorter than what a success writes is refused with BEETLE_SHORT_OUTPUT, the last of
- * the refusals to be judged. What is longer keeps its rest. Areas that `registers` or `pointers` are
- * too short to hold are not judged.
+ * the refusals to be judged. What is longer keeps its rest. Areas that come in `registers` or
+ * `pointers` are not judged where the array is too short to hold them.
  */
 #ifndef BEETLE_H
 #define BEETLE_H
