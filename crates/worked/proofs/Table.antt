@@ -10,7 +10,7 @@ use Rattle.areas.specs.Areas.{judgeAreas, judgeBounded}
 use Rattle.machine.specs.Places.{placeOf, fetchOf}
 use Rattle.machine.specs.Exceptions.{exceptionOf}
 use Rattle.machine.specs.Commits.{placesOf, storedOf, commitOf}
-use Rattle.machine.specs.Throws.{handlerOf, throwOf, nextOf, finishOf}
+use Rattle.machine.specs.Throws.{handlerOf, throwOf, throwingOf, nextOf, finishOf}
 use Rattle.instruction.specs.Plain.{plainOf}
 use Rattle.instruction.specs.Counting.{plusEnds}
 use Rattle.instruction.specs.Taking.{takingOf}
@@ -34,7 +34,7 @@ use Rattle.worked.specs.Rows.{tableHolds}
 use Rattle.worked.specs.Table.{table}
 
 pub worked-on-paper : tableHolds table ≡ true
-unfolding tableHolds cellAt storeCell sum difference negated symmetricOf flooredOf asr8 placeOf fetchOf exceptionOf placesOf storedOf commitOf handlerOf throwOf
+unfolding tableHolds cellAt storeCell sum difference negated symmetricOf flooredOf asr8 placeOf fetchOf exceptionOf placesOf storedOf commitOf handlerOf throwOf throwingOf
     nextOf finishOf plainOf plusEnds takingOf decodeOf executeOf cycleOf advance cyclesOf startOf judgeMachine judgeAreas judgeBounded startAnswer cycleAnswer doneOf runAnswer classOf
     fits pack any entry judgedFrom judgedListing judgedArrays cur word cells rounds settle settled marks image countOf judgeLoad copied loadOf loadFirstOf
 worked-on-paper = refl

@@ -2,6 +2,7 @@
 pub mod Rows
 pub mod Processor
 pub mod Counting
+pub mod Areas
 pub mod Packing
 pub mod Modules
 pub mod Table
