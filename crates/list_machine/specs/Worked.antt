@@ -5,8 +5,9 @@ use mathlib.Core.List.{List, [], _∷_, map}
 use Prim.Native.Nat.{ℕ, _-_, _^_}
 use lib.ListN.{replicate}
 use Rattle.cell.specs.Memory.{cellAt, storeCell}
-use Rattle.areas.specs.Areas.{noAreas}
+use Rattle.areas.specs.Areas.{noAreas, areasOf}
 use Rattle.areas.specs.Bounds.{machineOf}
+use Rattle.areas.specs.declared.Areas.{Areas}
 use Rattle.pack_layout.specs.Listing.{listed}
 use Rattle.list_machine.specs.declared.Outside.the-variants.{WritesImage, NoEntry, NoHandler, PastEnd}
 use Rattle.list_machine.specs.Runs.{Course, goesOn, stoppedBy, stoodOutside, Run, runOf, resuming}
@@ -21,9 +22,10 @@ pub record Seen : Type 0 where
   pub returned : ℕ
   pub course : Course
 
--- a listing at 10h, 'THROW, the item at which the run is taken up and whether it was run on into, SP, and the number of items asked for; RP is 400h,
+-- the stack areas, a listing at 10h, 'THROW, the item at which the run is taken up and whether it was run on into, SP, and the number of items asked for; RP is 400h,
 -- the memory 400h bytes, all others 0
 pub record Case : Type 0 where
+  pub areas : Areas
   pub kinds : List ℕ
   pub operands : List ℕ
   pub handler : ℕ
@@ -33,13 +35,20 @@ pub record Case : Type 0 where
   pub asked : ℕ
   pub seen : Seen
 
+abbrev pub caseIn : Areas → ℕ → Bool → List ℕ → List ℕ → ℕ → ℕ → ℕ → Seen → Case
+caseIn areas item ran kinds operands handler sp asked seen =
+    record { areas = areas; kinds = kinds; operands = operands; handler = handler; item = item; ran = ran; sp = sp; asked = asked; seen = seen }
+
 abbrev pub caseAt : ℕ → Bool → List ℕ → List ℕ → ℕ → ℕ → ℕ → Seen → Case
-caseAt item ran kinds operands handler sp asked seen =
-    record { kinds = kinds; operands = operands; handler = handler; item = item; ran = ran; sp = sp; asked = asked; seen = seen }
+caseAt = caseIn noAreas
 
 -- from item 0 on
 abbrev pub case : List ℕ → List ℕ → ℕ → ℕ → ℕ → Seen → Case
 case = caseAt 0 false
+
+-- the same with a data area from 210h to 220h, above the held cell at 20Ch, and a return area of four cells up to 400h
+abbrev pub caseWithin : List ℕ → List ℕ → ℕ → ℕ → ℕ → Seen → Case
+caseWithin = caseIn (areasOf 0x220 4 0x400 4) 0 false
 
 abbrev pub seen : ℕ → ℕ → ℕ → ℕ → ℕ → Course → Seen
 seen item items cycles sp returned course =
@@ -47,7 +56,7 @@ seen item items cycles sp returned course =
 
 abbrev pub runAt : ℕ → Case → Run
 runAt order c =
-    runOf (machineOf order noAreas 0x400) 0x10 (listed (c .kinds) (c .operands)) (c .asked)
+    runOf (machineOf order (c .areas) 0x400) 0x10 (listed (c .kinds) (c .operands)) (c .asked)
     (resuming (listed (c .kinds) (c .operands))
     (record { item = c .item; ran = c .ran; memory = storeCell order (replicate 0x400 0) 0 (c .handler); sp = c .sp; rp = 0x400 }))
 
@@ -100,4 +109,11 @@ cases =
     -- taken up behind the last item: past the end, also where no item is asked for
     ∷ caseAt 2 true (0x42 ∷ 0x55 ∷ []) (1 ∷ 0 ∷ []) 0 0x300 9 (seen 2 0 0 0x300 0 (stoodOutside PastEnd))
     ∷ caseAt 7 false (0x42 ∷ 0x55 ∷ []) (1 ∷ 0 ∷ []) 0 0x300 0 (seen 7 0 0 0x300 0 (stoodOutside PastEnd))
+    -- 0 with the data area full: -3 goes into the held cell and the run to its first item, whose next push finds no room for its -3
+    ∷ caseWithin (0x19 ∷ 0x55 ∷ []) (0 ∷ 0 ∷ []) 0x10 0x210 1 (seen 0 1 1 0x20C 0 goesOn)
+    ∷ caseWithin (0x19 ∷ 0x55 ∷ []) (0 ∷ 0 ∷ []) 0x10 0x210 9 (seen 0 2 2 0x20C 0 (stoppedBy (2 ^ 32 - 258)))
+    -- DUP with none in it: -4, then a second one, of the code
+    ∷ caseWithin (0x01 ∷ 0x55 ∷ []) (0 ∷ 0 ∷ []) 0x10 0x220 9 (seen 1 3 3 0x21C 0 (stoppedBy (2 ^ 32 - 4)))
+    -- HALT at the top
+    ∷ caseWithin (0x55 ∷ []) (0 ∷ []) 0x10 0x220 9 (seen 0 1 1 0x220 0 (stoppedBy (2 ^ 32 - 258)))
     ∷ []
