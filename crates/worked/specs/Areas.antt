@@ -1,7 +1,7 @@
 -- The rows on stack areas (document 02, (a)), for a byte order: the data area is 210h to 220h with the held cell at 20Ch, the return area 310h to 320h. One cycle
 -- of an opcode in A, with EP 10h; the handler is at 20h, and -ADDRESS is 5A5Ah before it.
 use mathlib.Core.List.{List, [], _∷_, _++_, map}
-use Prim.Native.Nat.{ℕ, _+_, _-_, _^_}
+use Prim.Native.Nat.{ℕ, _-_, _^_}
 use Rattle.cell.specs.Memory.{cellAt, storeCell}
 use Rattle.areas.specs.Areas.{areasOf, filed}
 use Rattle.areas.specs.declared.Areas.{Areas}
