@@ -5,7 +5,9 @@ use Rattle.cell.specs.Memory.{cellAt, storeCell}
 use Rattle.cell.specs.Number.{sum, difference}
 use Rattle.cell.specs.Shift.{asr8}
 use Rattle.cell.specs.Refusals.{judgeMachine}
-use Rattle.areas.specs.Areas.{judgeAreas, judgeBounded}
+use Rattle.areas.specs.Areas.{judgeAreas}
+use Rattle.areas.specs.Tables.{judgeTable}
+use Rattle.areas.specs.Bounds.{judgeBounded}
 use Rattle.machine.specs.Places.{placeOf, fetchOf}
 use Rattle.machine.specs.Exceptions.{exceptionOf}
 use Rattle.machine.specs.Commits.{placesOf, storedOf, commitOf}
@@ -35,14 +37,14 @@ use Rattle.approved.specs.Worked.{ways, expected}
 
 pub from-least-first : ways 0 ≡ replicate 2 expected
 unfolding cellAt storeCell sum difference asr8 placeOf fetchOf exceptionOf placesOf storedOf commitOf handlerOf throwOf nextOf finishOf plainOf takingOf decodeOf
-    executeOf cycleOf advance cyclesOf startOf judgeMachine judgeAreas judgeBounded startAnswer doneOf runAnswer classOf fits pack any entry judgedFrom judgedListing
+    executeOf cycleOf advance cyclesOf startOf judgeMachine judgeAreas judgeTable judgeBounded startAnswer doneOf runAnswer classOf fits pack any entry judgedFrom judgedListing
     judgedArrays cur word cells rounds settle settled marks image bytesOf judgeOrder judgeRoom judgePack packOf countOf headerOf moduleOf judgeLoad
     judgeSave copied loadOf saveOf
 from-least-first = refl
 
 pub from-most-first : ways 1 ≡ replicate 2 expected
 unfolding cellAt storeCell sum difference asr8 placeOf fetchOf exceptionOf placesOf storedOf commitOf handlerOf throwOf nextOf finishOf plainOf takingOf decodeOf
-    executeOf cycleOf advance cyclesOf startOf judgeMachine judgeAreas judgeBounded startAnswer doneOf runAnswer classOf fits pack any entry judgedFrom judgedListing
+    executeOf cycleOf advance cyclesOf startOf judgeMachine judgeAreas judgeTable judgeBounded startAnswer doneOf runAnswer classOf fits pack any entry judgedFrom judgedListing
     judgedArrays cur word cells rounds settle settled marks image bytesOf judgeOrder judgeRoom judgePack packOf countOf headerOf moduleOf judgeLoad
     judgeSave copied loadOf saveOf
 from-most-first = refl

@@ -14,8 +14,9 @@ use Rattle.machine.specs.Places.{fetchOf}
 use Rattle.machine.specs.Throws.{nextOf, handlerCell, memoryCell, badCell, addressCell}
 use Rattle.machine.specs.declared.Access.the-variants.{Stream}
 use Rattle.machine.specs.declared.Machine.{Machine}
-use Rattle.areas.specs.Areas.{judgeBounded, filed as withAreas}
-use Rattle.areas.specs.Bounds.{machineOf, firstSp, firstRp}
+use Rattle.machine.specs.declared.Table.{Table}
+use Rattle.areas.specs.Areas.{filed as withAreas}
+use Rattle.areas.specs.Bounds.{judgeBounded, machineOf, firstSp, firstRp}
 use Rattle.areas.specs.declared.Areas.{Areas}
 use Rattle.processor.specs.Starting.{fourCells, startOf}
 use Rattle.processor.specs.Answers.{startedTo, startAnswer}
@@ -43,10 +44,10 @@ module _ (machine : Machine) (m : List ℕ) (handler : ℕ) where
       (alike-trans lo hi _ _ _ (cell-frame lo hi (machine .order) _ badCell 0xFFFFFFFF (inl (omega arith)))
       (cell-frame lo hi (machine .order) _ addressCell 0xFFFFFFFF (inl (omega arith)))))
 
-module _ (order : ℕ) (areas : Areas) (base : ℕ) (l : Listing) (ok : Legal base l) (m : List ℕ) (handler : ℕ)
-    (h : Holds (machineOf order areas (length m)) base l m) where
+module _ (order : ℕ) (areas : Areas) (table : Table) (base : ℕ) (l : Listing) (ok : Legal base l) (m : List ℕ) (handler : ℕ)
+    (h : Holds (machineOf order areas table (length m)) base l m) where
   abbrev machine : Machine
-  machine = machineOf order areas (length m)
+  machine = machineOf order areas table (length m)
 
   pub four-holds : Holds machine base l (fourCells machine m handler)
   four-holds =
@@ -65,8 +66,8 @@ module _ (order : ℕ) (areas : Areas) (base : ℕ) (l : Listing) (ok : Legal ba
   unfolding sum
   first-ep = omega (arith, placed base l ok .inside, at-inside base l ok 0 (some-item l (ok .input) .0))
 
-  pub start-ready : judgeBounded (length m) order areas ≡ Passed
-      → startAnswer order areas m base handler
+  pub start-ready : judgeBounded (length m) order areas table ≡ Passed
+      → startAnswer order areas table m base handler
       ≡ startedTo (fourCells machine m handler)
       (Ready (withAreas areas (firstRegisters machine base (fourCells machine m handler) (firstSp (length m) areas) (firstRp (length m) areas))))
   unfolding startAnswer startOf nextOf

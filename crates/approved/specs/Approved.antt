@@ -9,8 +9,10 @@ use Rattle.cell.specs.Memory.{Bytewise}
 use Rattle.cell.specs.Refusals.{GoodMachine}
 use Rattle.cell.specs.declared.Judged.the-variants.{Passed}
 use Rattle.cycles.specs.Counts.{begun}
-use Rattle.areas.specs.Areas.{judgeAreas, judgeBounded, filed as withAreas}
-use Rattle.areas.specs.Bounds.{machineOf, firstSp, firstRp}
+use Rattle.machine.specs.declared.Table.{Table}
+use Rattle.areas.specs.Areas.{judgeAreas, filed as withAreas}
+use Rattle.areas.specs.Tables.{judgeTable}
+use Rattle.areas.specs.Bounds.{judgeBounded, machineOf, firstSp, firstRp}
 use Rattle.areas.specs.declared.Areas.{Areas}
 use Rattle.processor.specs.Answers.{startedTo, startAnswer}
 use Rattle.processor.specs.Starting.{fourCells}
@@ -43,22 +45,22 @@ pub record StandsAt (p : PackResult) (m : List ℕ) (a : ℕ) : Type 0 where
 -- from the cell at the base on, with any areas and any SP and RP, the processor runs as the listing reads, for any number k of items: its state is that of
 -- demand 3, and where the memory is one that is lent and the areas are taken, so is what `run` answers
 pub record RunsAsListed (order base : ℕ) (l : Listing) (m : List ℕ) : Type 0 where
-  pub agrees : (areas : Areas) (sp rp k : ℕ)
-      → Agree (machineOf order areas (length m)) (begun m (firstRegisters (machineOf order areas (length m)) base m sp rp))
-      (runOf (machineOf order areas (length m)) base l k (beginning l m sp rp))
-  pub answers : (areas : Areas) → judgeBounded (length m) order areas ≡ Passed → (sp rp k : ℕ)
-      → RunAgrees order areas base m sp rp (runOf (machineOf order areas (length m)) base l k (beginning l m sp rp))
+  pub agrees : (areas : Areas) (table : Table) (sp rp k : ℕ)
+      → Agree (machineOf order areas table (length m)) (begun m (firstRegisters (machineOf order areas table (length m)) base m sp rp))
+      (runOf (machineOf order areas table (length m)) base l k (beginning l m sp rp))
+  pub answers : (areas : Areas) (table : Table) → judgeBounded (length m) order areas table ≡ Passed → (sp rp k : ℕ)
+      → RunAgrees order areas table base m sp rp (runOf (machineOf order areas table (length m)) base l k (beginning l m sp rp))
 
 -- and `start` at the base, with any handler and these areas, makes the machine ready there, the stacks at their tops: the memory with its four cells set runs as
 -- the listing reads
-pub record StartsAsListed (order : ℕ) (areas : Areas) (base : ℕ) (l : Listing) (m : List ℕ) (handler : ℕ) : Type 0 where
+pub record StartsAsListed (order : ℕ) (areas : Areas) (table : Table) (base : ℕ) (l : Listing) (m : List ℕ) (handler : ℕ) : Type 0 where
   pub ready :
-      startAnswer order areas m base handler
-      ≡ startedTo (fourCells (machineOf order areas (length m)) m handler)
+      startAnswer order areas table m base handler
+      ≡ startedTo (fourCells (machineOf order areas table (length m)) m handler)
       (Ready (withAreas areas
-      (firstRegisters (machineOf order areas (length m)) base (fourCells (machineOf order areas (length m)) m handler) (firstSp (length m) areas)
+      (firstRegisters (machineOf order areas table (length m)) base (fourCells (machineOf order areas table (length m)) m handler) (firstSp (length m) areas)
       (firstRp (length m) areas))))
-  pub runs : RunsAsListed order base l (fourCells (machineOf order areas (length m)) m handler)
+  pub runs : RunsAsListed order base l (fourCells (machineOf order areas table (length m)) m handler)
 
 -- what was packed, in memory at its base, runs as its listing reads
 abbrev pub PackedRuns : Type 0
@@ -73,7 +75,8 @@ pub record Arrives (ours base : ℕ) (l : Listing) (r : LoadResult) (count : ℕ
   pub accepted : r .number ≡ 0
   pub counted : r .count ≡ count
   pub runs : RunsAsListed ours base l (r .memory)
-  pub starts : (areas : Areas) → judgeAreas (length (r .memory)) areas ≡ Passed → (handler : ℕ) → StartsAsListed ours areas base l (r .memory) handler
+  pub starts : (areas : Areas) (table : Table) → judgeAreas (length (r .memory)) areas ≡ Passed → judgeTable (length (r .memory)) table ≡ Passed
+      → (handler : ℕ) → StartsAsListed ours areas table base l (r .memory) handler
 
 abbrev pub ApprovedRuns : Type 0
 ApprovedRuns =

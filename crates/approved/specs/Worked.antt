@@ -4,6 +4,8 @@ use mathlib.Core.List.{List, [], _∷_}
 use Prim.Native.Nat.{ℕ, _*_}
 use lib.ListN.{replicate, take}
 use lib.Seq.{sets}
+use Rattle.machine.specs.Places.{tableOf}
+use Rattle.machine.specs.declared.Table.{Table}
 use Rattle.areas.specs.Areas.{noAreas}
 use Rattle.processor.specs.Answers.{StartAnswer, startAnswer, RunAnswer, givenOf, runAnswer}
 use Rattle.packer.specs.Pack.{PackResult, packOf}
@@ -27,11 +29,15 @@ saved theirs = saveOf theirs (office theirs) 0x40 (packed theirs .count) (replic
 abbrev pub loaded : ℕ → ℕ → LoadResult
 loaded theirs ours = loadOf ours blank (savedFile (saved theirs)) 0x10
 
+-- the rule's own cells are the table
+abbrev pub itsCells : Table
+itsCells = tableOf 0x10 0x1C
+
 abbrev pub ready : ℕ → ℕ → StartAnswer
-ready theirs ours = startAnswer ours noAreas (loaded theirs ours .memory) 0x10 0
+ready theirs ours = startAnswer ours noAreas itsCells (loaded theirs ours .memory) 0x10 0
 
 abbrev pub ran : ℕ → ℕ → RunAnswer
-ran theirs ours = runAnswer (givenOf ours (ready theirs ours .memory) (ready theirs ours .registers) 100)
+ran theirs ours = runAnswer (givenOf ours itsCells (ready theirs ours .memory) (ready theirs ours .registers) 100)
 
 -- packed to three cells, saved, loaded and started, each with the number 0; stopped, with reason 5, in the fourth cycle
 abbrev pub seen : ℕ → ℕ → List ℕ

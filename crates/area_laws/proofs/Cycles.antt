@@ -38,6 +38,7 @@ use Rattle.instruction.specs.Dispatch.{OperandClass, next, plain, taking, opera
 use Rattle.instruction.specs.declared.Instruction.{Instruction}
 use Rattle.cycles.specs.Cycles.{shifted, cycleOf, advanced, advance, cyclesOf}
 use Rattle.cycles.specs.Counts.{begun}
+use Rattle.machine.specs.declared.Table.{Table}
 use Rattle.areas.specs.Areas.{heldUnderData, heldUnderReturn, bytesWith}
 use Rattle.areas.specs.Bounds.{machineOf}
 use Rattle.areas.specs.declared.Area.{Area}
@@ -68,9 +69,9 @@ miss held area at a c e = go (ltb at (a + 1)) (ltb a (at + 4)) refl refl
 lower : (area : Area) (at : ℕ) → CellOf 0 area at → CellOf heldUnderData area at
 lower area at c = record { from = omega (arith, c .from); up = c .up }
 
-module _ (len order : ℕ) (areas : Areas) (g : Given len order areas) (a : ℕ) (off : Off areas a) where
+module _ (len order : ℕ) (areas : Areas) (table : Table) (g : Given len order areas) (a : ℕ) (off : Off areas a) where
   abbrev machine : Machine
-  machine = machineOf order areas len
+  machine = machineOf order areas table len
 
   -- a good stack place does not have the byte
   stack-miss : (access : Access) (at : ℕ) → isNamed oneCell access ≡ false → CellFor areas access at → (ltb at (a + 1) && ltb a (at + 4)) ≡ false

@@ -25,14 +25,15 @@ use Rattle.instruction.specs.Dispatch.{OperandClass, next, plain, taking, opera
 use Rattle.instruction.specs.declared.Instruction.{Instruction}
 use Rattle.cycles.specs.Cycles.{shifted, cycleOf, cyclesOf}
 use Rattle.cycles.specs.Counts.{begun}
-use Rattle.areas.specs.Areas.{heldUnderData, heldUnderReturn, bytesWith, none, judgeBounded}
-use Rattle.areas.specs.Bounds.{machineOf}
+use Rattle.machine.specs.declared.Table.{Table}
+use Rattle.areas.specs.Areas.{heldUnderData, heldUnderReturn, bytesWith, none}
+use Rattle.areas.specs.Bounds.{judgeBounded, machineOf}
 use Rattle.areas.specs.declared.Area.{Area}
 use Rattle.areas.specs.declared.Areas.{Areas}
 
 -- areas that were taken, for a memory's length and a byte order
-pub record Given (len order : ℕ) (areas : Areas) : Type 0 where
-  pub passed : judgeBounded len order areas ≡ Passed
+pub record Given (len order : ℕ) (areas : Areas) (table : Table) : Type 0 where
+  pub passed : judgeBounded len order areas table ≡ Passed
   pub some : none areas ≡ false
 
 -- a cell of an area, with the cells held under it
@@ -54,8 +55,8 @@ CellFor areas Push a = CellOf heldUnderData (areas .stack) a
 -- a place that is found good lies there
 abbrev pub PlacesStay : Type 0
 PlacesStay =
-    (len order : ℕ) (areas : Areas) → Given len order areas → (access : Access) (a : ℕ)
-    → placeOf (machineOf order areas len) oneCell access len a ≡ Good
+    (len order : ℕ) (areas : Areas) (table : Table) → Given len order areas → (access : Access) (a : ℕ)
+    → placeOf (machineOf order areas table len) oneCell access len a ≡ Good
     → CellFor areas access a
 
 -- stores at a place that an operand names: those of !, +! and C!
@@ -104,11 +105,11 @@ pub record Off (areas : Areas) (a : ℕ) : Type 0 where
 -- a cycle, thrown or not
 abbrev pub StackWritesStay : Type 0
 StackWritesStay =
-    (order : ℕ) (areas : Areas) (m : List ℕ) (r : Registers) (a : ℕ)
+    (order : ℕ) (areas : Areas) (table : Table) (m : List ℕ) (r : Registers) (a : ℕ)
     → Given (length m) order areas
     → Off areas a
-    → names (machineOf order areas (length m)) m r a ≡ false
-    → getD (cycleOf (machineOf order areas (length m)) m r .memory) a 0 ≡ getD m a 0
+    → names (machineOf order areas table (length m)) m r a ≡ false
+    → getD (cycleOf (machineOf order areas table (length m)) m r .memory) a 0 ≡ getD m a 0
 
 -- the state after k cycles
 abbrev pub after : Machine → List ℕ → Registers → ℕ → CycleState
@@ -117,10 +118,10 @@ after machine m r k = cyclesOf machine k (begun m r)
 -- n cycles
 abbrev pub RunWritesStay : Type 0
 RunWritesStay =
-    (order : ℕ) (areas : Areas) (m : List ℕ) (r : Registers) (a n : ℕ)
+    (order : ℕ) (areas : Areas) (table : Table) (m : List ℕ) (r : Registers) (a n : ℕ)
     → Given (length m) order areas
     → Off areas a
     → ((k : ℕ) → k < n
-    → names (machineOf order areas (length m)) (after (machineOf order areas (length m)) m r k .memory)
-    (after (machineOf order areas (length m)) m r k .result .registers) a ≡ false)
-    → getD (after (machineOf order areas (length m)) m r n .memory) a 0 ≡ getD m a 0
+    → names (machineOf order areas table (length m)) (after (machineOf order areas table (length m)) m r k .memory)
+    (after (machineOf order areas table (length m)) m r k .result .registers) a ≡ false)
+    → getD (after (machineOf order areas table (length m)) m r n .memory) a 0 ≡ getD m a 0

@@ -8,7 +8,7 @@ use lib.Dec.{ltb, eqb}
 use Rattle.cell.specs.Choice.{if}
 use Rattle.cell.specs.Memory.{cellCount}
 use Rattle.cell.specs.Place.{address}
-use Rattle.cell.specs.Refusals.{Ground, judge, after, judgeMachine}
+use Rattle.cell.specs.Refusals.{Ground, judge}
 use Rattle.cell.specs.declared.Refusal.the-variants.{StackAreas}
 use Rattle.cell.specs.declared.Judged.{Judged}
 use Rattle.cell.specs.declared.Judged.the-variants.{Passed}
@@ -73,10 +73,6 @@ judgeAreas len areas =
     ∷ badAreas (misplaced len heldUnderReturn (areas .returns))
     ∷ badAreas (overlapping areas)
     ∷ []))
-
--- what every call that is given areas judges first: -4101, -4102, -4111
-unfoldable pub judgeBounded : ℕ → ℕ → Areas → Judged
-judgeBounded len order areas = after (judgeMachine len order) (judgeAreas len areas)
 
 -- the registers that cycles move, beside the areas
 abbrev pub filed : Areas → Registers → RegisterFile

@@ -1,3 +1,4 @@
 -- What crate `areas` means.
 pub mod Areas
+pub mod Tables
 pub mod Bounds

@@ -11,40 +11,42 @@ use cell::Address;
 use cell::CellCount;
 use machine::Machine;
 use machine::Span;
+use machine::Table;
+use machine::places::guard;
 use machine::places::unbounded;
 
 // The cells of an area that was taken, and those held under it.
 fn span_of(held: u32, area: Area) -> Span
     requires { ⌜ held ≤ 1 ⌝ }
-    requires { ⌜ areas.bytesWith held area ≤ area .top .0 ⌝ }
+    requires { ⌜ (1 ≤ area .cells .0) × (areas.bytesWith held area ≤ area .top .0) ⌝ }
     ensures { λ s. ⌜ s ≡ bounds.spanOf held area ⌝ }
 {
     let top = area.top;
     let cells = area.cells;
     Span {
-        floor: Address(top.0 - 4 * (cells.0 + held)),
+        last: Address(top.0 - 4),
         cells: CellCount(cells.0 + held),
     }
 }
 
 // The machine of areas that were taken.
-pub fn machine_of(order: u8, given: Areas, length: usize) -> Machine
-    requires { ⌜ length ≤ 16777216 ⌝ }
+pub fn machine_of(order: u8, given: Areas, table: Table, length: usize) -> Machine
+    requires { ⌜ (4 ≤ length) × (length ≤ 16777216) ⌝ }
     requires { ⌜ areas.judgeAreas length given ≡ judged.Passed ⌝ }
-    ensures { λ m. ⌜ m ≡ bounds.machineOf order given length ⌝ }
+    ensures { λ m. ⌜ m ≡ bounds.machineOf order given table length ⌝ }
 {
     if is_none(given) {
-        return unbounded(order, length);
+        return unbounded(order, table, length);
     }
     let stack = given.stack;
     let returns = given.returns;
-    let span = span_of(1, stack);
-    let floor = span.floor;
+    let cells = stack.cells;
     Machine {
         order: order,
-        stack: span,
+        stack: span_of(1, stack),
+        writes: cells,
         returns: span_of(0, returns),
-        held: floor,
+        table: guard(table),
     }
 }
 

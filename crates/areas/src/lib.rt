@@ -1,4 +1,4 @@
-// Stack areas that an office sets: what they are, their judgement, and the machine that they bound.
+// Stack areas and the table that an office sets: what they are, their judgement, and the machine that they bound.
 pub mod bounding;
 pub mod judging;
 

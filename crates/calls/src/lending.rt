@@ -3,6 +3,7 @@ ghost use mathlib.Core.Path.{_≡_};
 ghost use mathlib.Core.List.{[], _∷_};
 ghost use Prim.Native.Nat.{_+_, _≤_};
 ghost use lib.ListN.{length};
+ghost use Rattle.machine.specs.Places.{tableOf};
 ghost use Rattle.areas.specs.Areas.{areasOf};
 ghost use Rattle.calls.specs.Lending as lending;
 use areas::Area;
@@ -13,6 +14,7 @@ use cell::CellCount;
 use cell::Judged;
 use cell::Refusal;
 use machine::Registers;
+use machine::Table;
 
 // A judgement so far, and then whether a lent array has room for what a success writes.
 pub fn with_room(judged: Judged, size: usize, needed: usize) -> Judged
@@ -43,6 +45,16 @@ pub fn make_areas(data_top: u32, data_cells: u32, return_top: u32, return_cells:
             top: Address(return_top),
             cells: CellCount(return_cells),
         },
+    }
+}
+
+// A table of two numbers.
+pub fn make_table(first: u32, end: u32) -> Table
+    ensures { λ r. ⌜ r ≡ tableOf first end ⌝ }
+{
+    Table {
+        first: Address(first),
+        end: Address(end),
     }
 }
 

@@ -29,6 +29,7 @@ pub refusal-some : (r : Refusal) → refusalNumber r ≡ 0 → ⊥
 refusal-some refusal.MemoryLength e = omega arith
 refusal-some refusal.ByteOrder e = omega arith
 refusal-some refusal.StackAreas e = omega arith
+refusal-some refusal.Table e = omega arith
 refusal-some refusal.Header e = omega arith
 refusal-some refusal.FileLength e = omega arith
 refusal-some refusal.Unaligned e = omega arith

@@ -1,6 +1,6 @@
 -- Refusals: their numbers, and the first that applies. Document 01, Turned back for the input, Turned back for the state, and
--- the order below them: what a call is lent comes first, then its input, then places, and the room of outputs last. Document 02, (a): areas come after the
--- byte order.
+-- the order below them: what a call is lent comes first, then its input, then places, and the room of outputs last. Document 02, (a) and (b): areas
+-- come after the byte order, then the table.
 use mathlib.Core.Path.{_≡_}
 use mathlib.Core.Bool.{Bool, not, _||_}
 use mathlib.Core.List.{List, [], _∷_}
@@ -8,7 +8,7 @@ use Prim.Native.Nat.{ℕ, _-_, _%_, _^_, _≤_}
 use lib.Dec.{ltb, eqb}
 use Rattle.cell.specs.Choice.{if}
 use Rattle.cell.specs.declared.Refusal.{Refusal}
-use Rattle.cell.specs.declared.Refusal.the-variants.{MemoryLength, ByteOrder, StackAreas, Header, FileLength, Unaligned, Outside, ShortOutput, ItemCount, Kind, PlainOperand, Target, Base}
+use Rattle.cell.specs.declared.Refusal.the-variants.{MemoryLength, ByteOrder, StackAreas, Table, Header, FileLength, Unaligned, Outside, ShortOutput, ItemCount, Kind, PlainOperand, Target, Base}
 use Rattle.cell.specs.declared.Judged.{Judged}
 use Rattle.cell.specs.declared.Judged.the-variants.{Passed, Refused}
 
@@ -17,6 +17,7 @@ abbrev pub refusalNumber : Refusal → ℕ
 refusalNumber MemoryLength = 2 ^ 32 - 4101
 refusalNumber ByteOrder = 2 ^ 32 - 4102
 refusalNumber StackAreas = 2 ^ 32 - 4111
+refusalNumber Table = 2 ^ 32 - 4112
 refusalNumber Header = 2 ^ 32 - 2
 refusalNumber FileLength = 2 ^ 32 - 4103
 refusalNumber Unaligned = 2 ^ 32 - 4104

@@ -30,6 +30,7 @@ pub fn refusal_number(r: Refusal) -> u32
         Refusal::MemoryLength => 0xFFFFEFFB,
         Refusal::ByteOrder => 0xFFFFEFFA,
         Refusal::StackAreas => 0xFFFFEFF1,
+        Refusal::Table => 0xFFFFEFF0,
         Refusal::Header => 0xFFFFFFFE,
         Refusal::FileLength => 0xFFFFEFF9,
         Refusal::Unaligned => 0xFFFFEFF8,

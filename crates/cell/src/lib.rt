@@ -21,6 +21,8 @@ pub enum Fault {
     Data(Address),
     // a place in memory that the return stack may not have here: -23, -5 or -6
     Return(Address),
+    // -20: a write into the table
+    Table,
     // -10: division by zero
     Divisor,
     // -256: an opcode with no meaning
@@ -52,6 +54,7 @@ pub enum Refusal {
     MemoryLength,
     ByteOrder,
     StackAreas,
+    Table,
     Header,
     FileLength,
     Unaligned,

@@ -23,9 +23,9 @@ use machine::ThreeStores;
 use machine::TwoReturns;
 use machine::TwoStores;
 use machine::Write;
-use machine::places::check_byte_place;
+use machine::places::check_byte_write;
 use machine::places::check_data_write;
-use machine::places::check_return;
+use machine::places::check_return_write;
 use machine::places::check_target;
 
 // The fault that an instruction met in its reading.
@@ -134,7 +134,7 @@ fn check_back(machine: Machine, length: usize, w: Write) -> Checked
     ensures { λ r. ⌜ r ≡ places.placeOf machine places.oneCell Access.ReturnWrite length (w .at .0) ⌝ }
 {
     let at = w.at;
-    check_return(machine, length, at)
+    check_return_write(machine, length, at)
 }
 
 fn check_store(machine: Machine, length: usize, target: Target, w: Write) -> Checked
@@ -396,6 +396,7 @@ pub fn commit_three(machine: Machine, memory: &mut [u8], r: Registers, e: ThreeS
 }
 
 pub fn commit_byte(machine: Machine, memory: &mut [u8], r: Registers, e: ByteStore) -> Step
+    requires { ⌜ places.Fits machine (length (now memory)) ⌝ }
     ensures { λ s. ⌜ commits.stepped (now (memory .exit)) s ≡ commits.commitOf machine (now (memory .entry)) r (effects.byteStore e) ⌝ }
 {
     let then = e.then;
@@ -412,7 +413,7 @@ pub fn commit_byte(machine: Machine, memory: &mut [u8], r: Registers, e: ByteSto
         );
     };
     let to = e.at;
-    let place = check_byte_place(machine, Access::NamedWrite, memory.len(), to);
+    let place = check_byte_write(machine, memory.len(), to);
     let Checked::Good = place else {
         return raise(
             Registers {

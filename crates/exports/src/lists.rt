@@ -2,8 +2,10 @@
 ghost use mathlib.Core.Path.{_≡_};
 ghost use mathlib.Core.Bool.{not};
 ghost use lib.Dec.{eqb};
+ghost use Rattle.machine.specs.Places.{tableOf};
 ghost use Rattle.processor_calls.specs.Machines as machines;
 ghost use Rattle.list_calls.specs.Lists as lists;
+use calls::lending::make_table;
 use cell::Address;
 use list_calls::lists::resume_list;
 use pack_layout::ItemNumber;
@@ -15,11 +17,13 @@ pub extern "C" fn beetle_list_run(
     operands: &[u32],
     base: u32,
     memory: &mut [u8],
+    table: u32,
+    table_end: u32,
     pointers: &mut [u32],
     items: u32,
     out: &mut [u32],
 ) -> u32
-    ensures { λ n. ⌜ machines.called (now (memory .exit)) (now (pointers .exit)) (now (out .exit)) n ≡ lists.listCall order (now (kinds .entry)) (now (operands .entry)) base (now (memory .entry)) (now (pointers .entry)) items (now (out .entry)) ⌝ }
+    ensures { λ n. ⌜ machines.called (now (memory .exit)) (now (pointers .exit)) (now (out .exit)) n ≡ lists.listCall order (now (kinds .entry)) (now (operands .entry)) base (now (memory .entry)) (tableOf table «table_end») (now (pointers .entry)) items (now (out .entry)) ⌝ }
 {
     resume_list(
         order,
@@ -27,6 +31,7 @@ pub extern "C" fn beetle_list_run(
         operands,
         Address(base),
         memory,
+        make_table(table, table_end),
         ItemNumber(0),
         false,
         pointers,
@@ -43,13 +48,15 @@ pub extern "C" fn beetle_list_resume(
     operands: &[u32],
     base: u32,
     memory: &mut [u8],
+    table: u32,
+    table_end: u32,
     item: u32,
     ran: u8,
     pointers: &mut [u32],
     items: u32,
     out: &mut [u32],
 ) -> u32
-    ensures { λ n. ⌜ machines.called (now (memory .exit)) (now (pointers .exit)) (now (out .exit)) n ≡ lists.resumeCall order (now (kinds .entry)) (now (operands .entry)) base (now (memory .entry)) item (not (eqb ran 0)) (now (pointers .entry)) items (now (out .entry)) ⌝ }
+    ensures { λ n. ⌜ machines.called (now (memory .exit)) (now (pointers .exit)) (now (out .exit)) n ≡ lists.resumeCall order (now (kinds .entry)) (now (operands .entry)) base (now (memory .entry)) (tableOf table «table_end») item (not (eqb ran 0)) (now (pointers .entry)) items (now (out .entry)) ⌝ }
 {
     resume_list(
         order,
@@ -57,6 +64,7 @@ pub extern "C" fn beetle_list_resume(
         operands,
         Address(base),
         memory,
+        make_table(table, table_end),
         ItemNumber(item),
         ran != 0,
         pointers,

@@ -2,8 +2,10 @@
 ghost use mathlib.Core.Path.{_≡_};
 ghost use Rattle.processor_calls.specs.Machines as machines;
 ghost use Rattle.processor.specs.Answers as answers;
+ghost use Rattle.machine.specs.Places.{tableOf};
 ghost use Rattle.areas.specs.Areas.{areasOf};
 use calls::lending::make_areas;
+use calls::lending::make_table;
 use calls::lending::read_registers;
 use cell::Address;
 use cell::Judged;
@@ -27,16 +29,27 @@ pub extern "C" fn beetle_start(
     data_cells: u32,
     return_top: u32,
     return_cells: u32,
+    table: u32,
+    table_end: u32,
     registers: &mut [u32],
     out: &mut [u32],
 ) -> u32
-    ensures { λ n. ⌜ machines.called (now (memory .exit)) (now (registers .exit)) (now (out .exit)) n ≡ machines.startCall order (areasOf «data_top» «data_cells» «return_top» «return_cells») (now (memory .entry)) ep handler (now (registers .entry)) (now (out .entry)) ⌝ }
+    ensures { λ n. ⌜ machines.called (now (memory .exit)) (now (registers .exit)) (now (out .exit)) n ≡ machines.startCall order (areasOf «data_top» «data_cells» «return_top» «return_cells») (tableOf table «table_end») (now (memory .entry)) ep handler (now (registers .entry)) (now (out .entry)) ⌝ }
 {
     let areas = make_areas(data_top, data_cells, return_top, return_cells);
-    match judge_call(memory.len(), order, areas, registers.len(), out.len(), 1) {
+    let given = make_table(table, table_end);
+    match judge_call(
+        memory.len(),
+        order,
+        areas,
+        given,
+        registers.len(),
+        out.len(),
+        1,
+    ) {
         Judged::Refused(n) => refusal_number(n),
         Judged::Passed => {
-            let answer = start(order, memory, Address(ep), Address(handler), areas);
+            let answer = start(order, memory, Address(ep), Address(handler), areas, given);
             tell_started(answer, registers, out)
         },
     }
@@ -46,16 +59,19 @@ pub extern "C" fn beetle_start(
 pub extern "C" fn beetle_cycle(
     order: u8,
     memory: &mut [u8],
+    table: u32,
+    table_end: u32,
     registers: &mut [u32],
     out: &mut [u32],
 ) -> u32
-    ensures { λ n. ⌜ machines.called (now (memory .exit)) (now (registers .exit)) (now (out .exit)) n ≡ machines.cycleCall order (now (memory .entry)) (now (registers .entry)) (now (out .entry)) ⌝ }
+    ensures { λ n. ⌜ machines.called (now (memory .exit)) (now (registers .exit)) (now (out .exit)) n ≡ machines.cycleCall order (tableOf table «table_end») (now (memory .entry)) (now (registers .entry)) (now (out .entry)) ⌝ }
 {
-    match judge_with(memory.len(), order, registers, out.len(), 1) {
+    let given = make_table(table, table_end);
+    match judge_with(memory.len(), order, given, registers, out.len(), 1) {
         Judged::Refused(n) => refusal_number(n),
         Judged::Passed => {
             let r = read_registers(registers);
-            tell_cycled(cycle(order, memory, r), registers, out)
+            tell_cycled(cycle(order, memory, given, r), registers, out)
         }
     }
 }
@@ -64,17 +80,20 @@ pub extern "C" fn beetle_cycle(
 pub extern "C" fn beetle_run(
     order: u8,
     memory: &mut [u8],
+    table: u32,
+    table_end: u32,
     registers: &mut [u32],
     budget: u32,
     out: &mut [u32],
 ) -> u32
-    ensures { λ n. ⌜ machines.called (now (memory .exit)) (now (registers .exit)) (now (out .exit)) n ≡ machines.runCall (answers.givenOf order (now (memory .entry)) (now (registers .entry)) budget) (now (out .entry)) ⌝ }
+    ensures { λ n. ⌜ machines.called (now (memory .exit)) (now (registers .exit)) (now (out .exit)) n ≡ machines.runCall (answers.givenOf order (tableOf table «table_end») (now (memory .entry)) (now (registers .entry)) budget) (now (out .entry)) ⌝ }
 {
-    match judge_with(memory.len(), order, registers, out.len(), 2) {
+    let given = make_table(table, table_end);
+    match judge_with(memory.len(), order, given, registers, out.len(), 2) {
         Judged::Refused(n) => refusal_number(n),
         Judged::Passed => {
             let r = read_registers(registers);
-            tell_ran(run(order, memory, r, budget), budget, registers, out)
+            tell_ran(run(order, memory, given, r, budget), budget, registers, out)
         }
     }
 }

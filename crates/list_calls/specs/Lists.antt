@@ -6,6 +6,7 @@ use Prim.Native.Nat.{ℕ, _/_, _%_, _^_, _≤_}
 use lib.ListN.{length, getD}
 use Rattle.cell.specs.declared.Judged.{Judged}
 use Rattle.cell.specs.declared.Judged.the-variants.{Passed}
+use Rattle.machine.specs.declared.Table.{Table}
 use Rattle.list_proposing.specs.declared.Stand.{Stand}
 use Rattle.list_run.specs.Follow.{FollowResult, followedTo, standAt, resumeIn}
 use Rattle.list_run.specs.declared.Followed.{Followed}
@@ -45,11 +46,11 @@ Room pointers out (followed.Run x) = (6 ≤ pointers) × (5 ≤ out)
 abbrev pub standGiven : ℕ → Bool → List ℕ → Stand
 standGiven item ran pointers = standAt item ran (getD pointers 0 0) (getD pointers 1 0)
 
-unfoldable pub resumeCall : ℕ → List ℕ → List ℕ → ℕ → List ℕ → ℕ → Bool → List ℕ → ℕ → List ℕ → Called
-resumeCall order kinds operands base m item ran pointers items out =
-    let s = resumeIn (judgeLent (length pointers) (length out)) order (areasIn 2 pointers) kinds operands base m (standGiven item ran pointers) items in
+unfoldable pub resumeCall : ℕ → List ℕ → List ℕ → ℕ → List ℕ → Table → ℕ → Bool → List ℕ → ℕ → List ℕ → Called
+resumeCall order kinds operands base m table item ran pointers items out =
+    let s = resumeIn (judgeLent (length pointers) (length out)) order (areasIn 2 pointers) table kinds operands base m (standGiven item ran pointers) items in
     record { memory = s .memory; told = listTold pointers out s }
 
 -- from item 0 on
-abbrev pub listCall : ℕ → List ℕ → List ℕ → ℕ → List ℕ → List ℕ → ℕ → List ℕ → Called
-listCall order kinds operands base m pointers items out = resumeCall order kinds operands base m 0 false pointers items out
+abbrev pub listCall : ℕ → List ℕ → List ℕ → ℕ → List ℕ → Table → List ℕ → ℕ → List ℕ → Called
+listCall order kinds operands base m table pointers items out = resumeCall order kinds operands base m table 0 false pointers items out

@@ -20,6 +20,7 @@ use list_run::Followed;
 use list_run::answers::ending_number;
 use list_run::answers::ending_reason;
 use list_run::follow::follow_within;
+use machine::Table;
 use pack_layout::ItemNumber;
 
 // The number at a place of a lent array, or 0 where it has no such place.
@@ -83,13 +84,14 @@ pub fn resume_list(
     operands: &[u32],
     base: Address,
     memory: &mut [u8],
+    table: Table,
     item: ItemNumber,
     ran: bool,
     pointers: &mut [u32],
     items: u32,
     out: &mut [u32],
 ) -> u32
-    ensures { λ n. ⌜ machines.called (now (memory .exit)) (now (pointers .exit)) (now (out .exit)) n ≡ lists.resumeCall order (now (kinds .entry)) (now (operands .entry)) (base .0) (now (memory .entry)) (item .0) ran (now (pointers .entry)) items (now (out .entry)) ⌝ }
+    ensures { λ n. ⌜ machines.called (now (memory .exit)) (now (pointers .exit)) (now (out .exit)) n ≡ lists.resumeCall order (now (kinds .entry)) (now (operands .entry)) (base .0) (now (memory .entry)) table (item .0) ran (now (pointers .entry)) items (now (out .entry)) ⌝ }
 {
     let sp = number_at(pointers, 0);
     let rp = number_at(pointers, 1);
@@ -104,6 +106,7 @@ pub fn resume_list(
     let answer = follow_within(
         order,
         areas,
+        table,
         kinds,
         operands,
         base,

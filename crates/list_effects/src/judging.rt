@@ -15,12 +15,11 @@ use cell::CellCount;
 use cell::Checked;
 use commits::commit::fault_of;
 use commits::roll::check_roll;
-use machine::Access;
 use machine::Machine;
 use machine::Target;
 use machine::Then;
 use machine::Write;
-use machine::places::check_byte_place;
+use machine::places::check_byte_write;
 use machine::places::check_target;
 
 // What follows the writes.
@@ -101,7 +100,7 @@ fn check_places(machine: Machine, memory: &[u8], shape: Shape) -> Checked
         }
         Shape::Byte(e) => {
             let at = e.at;
-            check_byte_place(machine, Access::NamedWrite, n, at)
+            check_byte_write(machine, n, at)
         }
         Shape::Roll(e) => {
             let top = e.top;

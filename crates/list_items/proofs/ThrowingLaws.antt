@@ -18,7 +18,7 @@ use Rattle.cell.proofs.MemoryLaws.{store-length, cell-back, cell-frame, cell-al
 use Rattle.machine.specs.Places.{oneCell, placeOf, fetchOf}
 use Rattle.machine.specs.Exceptions.{exceptionCode}
 use Rattle.machine.specs.declared.Exception.{Exception}
-use Rattle.machine.specs.declared.Exception.the-variants.{Range, Alignment, DataOverflow, DataUnderflow, ReturnOverflow, ReturnUnderflow, Divisor, Illegal, Library}
+use Rattle.machine.specs.declared.Exception.the-variants.{Range, Alignment, DataOverflow, DataUnderflow, ReturnOverflow, ReturnUnderflow, ReadOnly, Divisor, Illegal, Library}
 use Rattle.machine.specs.Commits.{touches}
 use Rattle.machine.specs.Throws.{CycleState, cycleState, badStack, badCell, handlerCell, handed, handlerOf, noted, pushed, throwOf, throwingOf}
 use Rattle.machine.specs.declared.Machine.{Machine}
@@ -46,6 +46,7 @@ code-below DataOverflow = omega arith
 code-below DataUnderflow = omega arith
 code-below ReturnOverflow = omega arith
 code-below ReturnUnderflow = omega arith
+code-below ReadOnly = omega arith
 code-below Divisor = omega arith
 code-below Illegal = omega arith
 code-below Library = omega arith
@@ -62,6 +63,7 @@ noted-kept machine m DataOverflow = refl
 noted-kept machine m DataUnderflow = refl
 noted-kept machine m ReturnOverflow = refl
 noted-kept machine m ReturnUnderflow = refl
+noted-kept machine m ReadOnly = refl
 noted-kept machine m Divisor = refl
 noted-kept machine m Illegal = refl
 noted-kept machine m Library = refl
@@ -137,14 +139,14 @@ module _ (machine : Machine) (base : ℕ) (l : Listing) (find : ℕ → Entry) (
         go (Bad g) e = refl
         go Good e =
             let a = difference (p .sp) 4 in
-            let w = good-placed machine Push (length (p .memory)) a e in
+            let w = good-placed machine oneCell Push (length (p .memory)) a e in
             let m = storeCell (machine .order) (noted machine (p .memory) f) a (exceptionCode f) in
             let r : Registers = record { ep = epValue base l (p .item); a = 0; sp = a; rp = p .rp } in
             choose (ltb a (base + 4 * imageCells l) && ltb base (a + 4)) (handlerWay machine (p .memory) find (handlerAfter machine (p .memory) find a f))
             (thrownTo p (handlerOf machine m r (Threw f))) (handled machine base l p (handlerOf machine m r (Threw f)))
             (handler-is p m r (Threw f) (handlerAfter machine (p .memory) find a f) (λ t. refl)
             (store-length (machine .order) (noted machine (p .memory) f) a (exceptionCode f) ∙ noted-length machine (p .memory) f)
-            (handler-cell machine (p .memory) find a (r .ep) f (room-place machine Push (length (p .memory)) a whole e) (w .aligned)))
+            (handler-cell machine (p .memory) find a (r .ep) f (room-place machine Push (length (p .memory)) a whole e) (eqb-true (a % 4) 0 (w .aligned))))
 
     -- THROW itself
     pub given-is : along (givenWay machine (p .memory) find (p .sp)) (thrownTo p (throwingOf machine (p .memory) (registersAt machine base l p)))

@@ -16,7 +16,6 @@ use cell::Checked;
 use cell::memory::load;
 use cell::number::subtract;
 use cell::place::address_at;
-use cell::place::check_cell;
 use list_effects::Shape;
 use list_effects::judging::check_shape;
 use list_effects::judging::meets;
@@ -34,7 +33,8 @@ use machine::exceptions::tell;
 use machine::fixed::BAD_HANDLER;
 use machine::fixed::BAD_STACK;
 use machine::fixed::HANDLER_CELL;
-use machine::places::check_data;
+use machine::places::check_named;
+use machine::places::check_push;
 use pack_layout::ItemNumber;
 
 // 'THROW is h: an entry, -259, or outside.
@@ -42,7 +42,7 @@ fn handler_way(machine: Machine, memory: &[u8], table: &[u32], base: Address, h:
     requires { ⌜ tables.Near (now table) (base .0) ⌝ }
     ensures { λ w. ⌜ w ≡ ways.handlerWay machine (now (memory .entry)) (tables.entryBelow (now (table .entry)) (base .0) (tables.rows (now (table .entry)))) (h .0) ⌝ }
 {
-    let place = check_cell(memory.len(), h);
+    let place = check_named(machine, memory.len(), h);
     let Checked::Good = place else {
         return Way::Halt(BAD_HANDLER);
     };
@@ -65,7 +65,7 @@ fn throw_way(
     let base = image.base;
     let cells = image.cells;
     let a = Address(subtract(sp, 4));
-    let place = check_data(machine, memory.len(), a);
+    let place = check_push(machine, memory.len(), a);
     let Checked::Good = place else {
         return Way::Halt(BAD_STACK);
     };

@@ -9,8 +9,9 @@ use Rattle.machine.specs.declared.Machine.{Machine}
 use Rattle.machine.specs.declared.Registers.{Registers}
 use Rattle.machine.specs.declared.Ended.{Ended}
 use Rattle.machine.specs.declared.Ended.the-variants.{Went, Threw, Stopped}
-use Rattle.areas.specs.Areas.{judgeBounded, filed}
-use Rattle.areas.specs.Bounds.{machineOf}
+use Rattle.machine.specs.declared.Table.{Table}
+use Rattle.areas.specs.Areas.{filed}
+use Rattle.areas.specs.Bounds.{judgeBounded, machineOf}
 use Rattle.areas.specs.declared.Areas.{Areas}
 use Rattle.areas.specs.declared.RegisterFile.{RegisterFile}
 use Rattle.cycles.specs.Cycles.{cyclesOf}
@@ -25,11 +26,11 @@ ran-as areas r n Went = refl
 ran-as areas r n (Threw f) = refl
 ran-as areas r n (Stopped x) = refl
 
-budgeted : (order : ℕ) (areas : Areas) (base : ℕ) (m : List ℕ) (sp rp : ℕ) (r : Run) → judgeBounded (length m) order areas ≡ Passed
-    → Agree (machineOf order areas (length m)) (begun m (firstRegisters (machineOf order areas (length m)) base m sp rp)) r
-    → RunAgrees order areas base m sp rp r
+budgeted : (order : ℕ) (areas : Areas) (table : Table) (base : ℕ) (m : List ℕ) (sp rp : ℕ) (r : Run) → judgeBounded (length m) order areas table ≡ Passed
+    → Agree (machineOf order areas table (length m)) (begun m (firstRegisters (machineOf order areas table (length m)) base m sp rp)) r
+    → RunAgrees order areas table base m sp rp r
 unfolding runAnswer
-budgeted order areas base m sp rp r q a =
+budgeted order areas table base m sp rp r q a =
     record {
       registers = t .result .registers;
       answer =
@@ -43,7 +44,7 @@ budgeted order areas base m sp rp r q a =
     }
   where
     machine : Machine
-    machine = machineOf order areas (length m)
+    machine = machineOf order areas table (length m)
 
     given : RegisterFile
     given = filed areas (firstRegisters machine base m sp rp)
@@ -52,6 +53,6 @@ budgeted order areas base m sp rp r q a =
     t = cyclesOf machine (r .cycles) (begun m (given .registers))
 
 pub run-follows : RunFollows
-run-follows order areas base l m sp rp k q ok holds =
-    let machine : Machine = machineOf order areas (length m) in
-    budgeted order areas base m sp rp (runOf machine base l k (beginning l m sp rp)) q (demand3 machine base l m sp rp k ok holds)
+run-follows order areas table base l m sp rp k q ok holds =
+    let machine : Machine = machineOf order areas table (length m) in
+    budgeted order areas table base m sp rp (runOf machine base l k (beginning l m sp rp)) q (demand3 machine base l m sp rp k ok holds)

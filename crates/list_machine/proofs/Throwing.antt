@@ -18,7 +18,7 @@ use Rattle.cell.proofs.MemoryLaws.{store-length, cell-frame, alike-refl}
 use Rattle.machine.specs.Places.{oneCell, placeOf, fetchOf}
 use Rattle.machine.specs.Exceptions.{exceptionCode}
 use Rattle.machine.specs.declared.Exception.{Exception}
-use Rattle.machine.specs.declared.Exception.the-variants.{Range, Alignment, DataOverflow, DataUnderflow, ReturnOverflow, ReturnUnderflow, Divisor, Illegal, Library}
+use Rattle.machine.specs.declared.Exception.the-variants.{Range, Alignment, DataOverflow, DataUnderflow, ReturnOverflow, ReturnUnderflow, ReadOnly, Divisor, Illegal, Library}
 use Rattle.machine.specs.Effects.{cellStore}
 use Rattle.machine.specs.Commits.{touches, storedOf}
 use Rattle.machine.specs.Throws.{cycleState, handed, handlerOf, noted, pushed, throwOf, throwingOf, handlerCell, badCell, addressCell, badStack}
@@ -45,6 +45,7 @@ noted-frame machine lo hi m DataOverflow h = alike-refl lo hi m
 noted-frame machine lo hi m DataUnderflow h = alike-refl lo hi m
 noted-frame machine lo hi m ReturnOverflow h = alike-refl lo hi m
 noted-frame machine lo hi m ReturnUnderflow h = alike-refl lo hi m
+noted-frame machine lo hi m ReadOnly h = alike-refl lo hi m
 noted-frame machine lo hi m Divisor h = alike-refl lo hi m
 noted-frame machine lo hi m Illegal h = alike-refl lo hi m
 noted-frame machine lo hi m Library h = alike-refl lo hi m

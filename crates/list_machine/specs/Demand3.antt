@@ -20,8 +20,9 @@ use Rattle.machine.specs.declared.Machine.{Machine}
 use Rattle.machine.specs.declared.Registers.{Registers}
 use Rattle.machine.specs.declared.Ended.{Ended}
 use Rattle.machine.specs.declared.Ended.the-variants as ended
-use Rattle.areas.specs.Areas.{judgeBounded, filed}
-use Rattle.areas.specs.Bounds.{machineOf}
+use Rattle.machine.specs.declared.Table.{Table}
+use Rattle.areas.specs.Areas.{filed}
+use Rattle.areas.specs.Bounds.{judgeBounded, machineOf}
 use Rattle.areas.specs.declared.Areas.{Areas}
 use Rattle.areas.specs.declared.RegisterFile.{RegisterFile}
 use Rattle.cycles.specs.Cycles.{cyclesOf}
@@ -87,19 +88,19 @@ abbrev pub ranWith : Stop → RegisterFile → ℕ → Ran
 ranWith running r n = Spent r
 ranWith (stoppedWith x) r n = Stopped r x n
 
-pub record RunAgrees (order : ℕ) (areas : Areas) (base : ℕ) (m : List ℕ) (sp rp : ℕ) (r : Run) : Type 0 where
+pub record RunAgrees (order : ℕ) (areas : Areas) (table : Table) (base : ℕ) (m : List ℕ) (sp rp : ℕ) (r : Run) : Type 0 where
   pub registers : Registers
   pub answer :
-      runAnswer (givenOf order m (filed areas (firstRegisters (machineOf order areas (length m)) base m sp rp)) (r .cycles))
-      ≡ ranTo (filed areas (firstRegisters (machineOf order areas (length m)) base m sp rp)) (r .cycles) (r .position .memory)
+      runAnswer (givenOf order table m (filed areas (firstRegisters (machineOf order areas table (length m)) base m sp rp)) (r .cycles))
+      ≡ ranTo (filed areas (firstRegisters (machineOf order areas table (length m)) base m sp rp)) (r .cycles) (r .position .memory)
       (ranWith (stopIn (r .course)) (filed areas registers) (r .cycles))
   pub sp-is : registers .sp ≡ r .position .sp
   pub rp-is : registers .rp ≡ r .position .rp
 
 abbrev pub RunFollows : Type 0
 RunFollows =
-    (order : ℕ) (areas : Areas) (base : ℕ) (l : Listing) (m : List ℕ) (sp rp k : ℕ)
-    → judgeBounded (length m) order areas ≡ Passed
+    (order : ℕ) (areas : Areas) (table : Table) (base : ℕ) (l : Listing) (m : List ℕ) (sp rp k : ℕ)
+    → judgeBounded (length m) order areas table ≡ Passed
     → Legal base l
-    → Holds (machineOf order areas (length m)) base l m
-    → RunAgrees order areas base m sp rp (runOf (machineOf order areas (length m)) base l k (beginning l m sp rp))
+    → Holds (machineOf order areas table (length m)) base l m
+    → RunAgrees order areas table base m sp rp (runOf (machineOf order areas table (length m)) base l k (beginning l m sp rp))

@@ -5,6 +5,7 @@ use mathlib.Core.List.{List, [], _∷_, map}
 use Prim.Native.Nat.{ℕ, _-_, _^_}
 use lib.ListN.{replicate}
 use Rattle.cell.specs.Memory.{cellAt, storeCell}
+use Rattle.machine.specs.Places.{noTable}
 use Rattle.areas.specs.Areas.{noAreas, areasOf}
 use Rattle.areas.specs.Bounds.{machineOf}
 use Rattle.areas.specs.declared.Areas.{Areas}
@@ -56,7 +57,7 @@ seen item items cycles sp returned course =
 
 abbrev pub runAt : ℕ → Case → Run
 runAt order c =
-    runOf (machineOf order (c .areas) 0x400) 0x10 (listed (c .kinds) (c .operands)) (c .asked)
+    runOf (machineOf order (c .areas) noTable 0x400) 0x10 (listed (c .kinds) (c .operands)) (c .asked)
     (resuming (listed (c .kinds) (c .operands))
     (record { item = c .item; ran = c .ran; memory = storeCell order (replicate 0x400 0) 0 (c .handler); sp = c .sp; rp = 0x400 }))
 

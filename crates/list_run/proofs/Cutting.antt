@@ -60,9 +60,9 @@ module _ (machine : Machine) (base : ℕ) (l : Listing) (m : List ℕ) (start : 
 
 pub cut : Cut
 unfolding resumeIn
-cut order areas kinds operands base m start a b =
-    let j : ℕ → Judged = λ n. judgeFollow n order areas kinds operands base Passed in
-    let machine : ℕ → Machine = λ n. machineOf order areas n in
+cut order areas table kinds operands base m start a b =
+    let j : ℕ → Judged = λ n. judgeFollow n order areas table kinds operands base Passed in
+    let machine : ℕ → Machine = λ n. machineOf order areas table n in
     let l : Listing = listed kinds operands in
     let s : FollowResult = followIf (j (length m)) (machine (length m)) base l m start a in (
       λ e. cut-if (machine (length m)) base l m start a b (j (length m)) e

@@ -15,8 +15,9 @@ use Rattle.cell.specs.declared.Judged.the-variants.{Passed, Refused}
 use Rattle.cell.proofs.JudgementLaws.{both-pass}
 use Rattle.machine.specs.declared.Machine.{Machine}
 use Rattle.machine.specs.Places.{Fits}
-use Rattle.areas.specs.Areas.{judgeAreas, judgeBounded}
-use Rattle.areas.specs.Bounds.{machineOf}
+use Rattle.machine.specs.declared.Table.{Table}
+use Rattle.areas.specs.Areas.{judgeAreas}
+use Rattle.areas.specs.Bounds.{judgeBounded, machineOf}
 use Rattle.areas.specs.declared.Areas.{Areas}
 use Rattle.areas.proofs.AreaLaws.{lent, areas-pass, passed-fits}
 use Rattle.pack_layout.specs.Listing.{Listing, listed, judgedArrays, Checked}
@@ -37,23 +38,23 @@ use Rattle.list_run.specs.declared.Followed.{Followed}
 use Rattle.list_run.specs.declared.Followed.the-variants as followed
 
 -- what passed before the layout: the memory, the areas and the arrays
-module _ (len order : ℕ) (areas : Areas) (kinds operands : List ℕ) (e : judgeBegin len order areas kinds operands ≡ Passed) where
-  begin-bounded : judgeBounded len order areas ≡ Passed
+module _ (len order : ℕ) (areas : Areas) (table : Table) (kinds operands : List ℕ) (e : judgeBegin len order areas table kinds operands ≡ Passed) where
+  begin-bounded : judgeBounded len order areas table ≡ Passed
   unfolding judgeBegin
-  begin-bounded = both-pass (judgeBounded len order areas) (judgedArrays kinds operands) e .0
+  begin-bounded = both-pass (judgeBounded len order areas table) (judgedArrays kinds operands) e .0
 
   pub begin-lent : Lent len
-  begin-lent = lent len order areas begin-bounded
+  begin-lent = lent len order areas table begin-bounded
 
   pub begin-areas : judgeAreas len areas ≡ Passed
-  begin-areas = areas-pass len order areas begin-bounded
+  begin-areas = areas-pass len order areas table begin-bounded
 
-  pub begin-fits : Fits (machineOf order areas len) len
-  begin-fits = passed-fits order len areas begin-bounded
+  pub begin-fits : Fits (machineOf order areas table len) len
+  begin-fits = passed-fits len order areas table begin-bounded
 
   pub begin-checked : Checked kinds operands
   unfolding judgeBegin
-  begin-checked = arrays-checked kinds operands (both-pass (judgeBounded len order areas) (judgedArrays kinds operands) e .1)
+  begin-checked = arrays-checked kinds operands (both-pass (judgeBounded len order areas table) (judgedArrays kinds operands) e .1)
 
 -- the table of a listing whose image passed
 pub image-settled : (kinds operands table : List ℕ) (base : ℕ) (cells : CellCount) (room : Judged) (image : Image) → Checked kinds operands
@@ -101,46 +102,46 @@ module _ (machine : Machine) (base : ℕ) (l : Listing) (m : List ℕ) (start : 
       (ap (λ (y : ItemRun). followedTo m2 start (followed.Run y)) (sym (run-back m2 x)))
 
 -- an answer from the judgement before the layout on
-module _ (room : Judged) (order : ℕ) (areas : Areas) (kinds operands : List ℕ) (base : ℕ) (m : List ℕ) (start : Stand) (items : ℕ) where
-  pub begin-refused : (r : Refusal) → judgeBegin (length m) order areas kinds operands ≡ Refused r
-      → followedTo m start (followed.Refused r) ≡ resumeIn room order areas kinds operands base m start items
+module _ (room : Judged) (order : ℕ) (areas : Areas) (table : Table) (kinds operands : List ℕ) (base : ℕ) (m : List ℕ) (start : Stand) (items : ℕ) where
+  pub begin-refused : (r : Refusal) → judgeBegin (length m) order areas table kinds operands ≡ Refused r
+      → followedTo m start (followed.Refused r) ≡ resumeIn room order areas table kinds operands base m start items
   unfolding resumeIn judgeFollow
   begin-refused r e = rw e
 
-  pub begin-passed : (s : FollowResult) → judgeBegin (length m) order areas kinds operands ≡ Passed
-      → s ≡ followIf (judgeImage base (imageCells (listed kinds operands)) room) (machineOf order areas (length m)) base (listed kinds operands) m start items
-      → s ≡ resumeIn room order areas kinds operands base m start items
+  pub begin-passed : (s : FollowResult) → judgeBegin (length m) order areas table kinds operands ≡ Passed
+      → s ≡ followIf (judgeImage base (imageCells (listed kinds operands)) room) (machineOf order areas table (length m)) base (listed kinds operands) m start items
+      → s ≡ resumeIn room order areas table kinds operands base m start items
   unfolding resumeIn judgeFollow
   begin-passed s e q = q ∙ rw e
 
 -- demand 3 of the answer; an operand is a cell
-module _ (order : ℕ) (areas : Areas) (kinds operands : List ℕ) (base : ℕ) (m : List ℕ) (sp rp items : ℕ) (cells : (i : ℕ) → getD operands i 0 < 2 ^ 32) where
+module _ (order : ℕ) (areas : Areas) (table : Table) (kinds operands : List ℕ) (base : ℕ) (m : List ℕ) (sp rp items : ℕ) (cells : (i : ℕ) → getD operands i 0 < 2 ^ 32) where
   abbrev run : Run
-  run = runOf (machineOf order areas (length m)) base (listed kinds operands) items (resuming (listed kinds operands) (positionOf m (standAt 0 false sp rp)))
+  run = runOf (machineOf order areas table (length m)) base (listed kinds operands) items (resuming (listed kinds operands) (positionOf m (standAt 0 false sp rp)))
 
-  ran-packed : (m2 : List ℕ) (x : ItemRun) (j : Judged) → judgeFollow (length m) order areas kinds operands base Passed ≡ j
+  ran-packed : (m2 : List ℕ) (x : ItemRun) (j : Judged) → judgeFollow (length m) order areas table kinds operands base Passed ≡ j
       → followedTo m2 (standAt 0 false sp rp) (followed.Run x)
-      ≡ followIf j (machineOf order areas (length m)) base (listed kinds operands) m (standAt 0 false sp rp) items
-      → AsPacked (machineOf order areas (length m)) base (listed kinds operands) m sp rp m2 (followed.Run x)
+      ≡ followIf j (machineOf order areas table (length m)) base (listed kinds operands) m (standAt 0 false sp rp) items
+      → AsPacked (machineOf order areas table (length m)) base (listed kinds operands) m sp rp m2 (followed.Run x)
   unfolding judgeFollow judgeImage
   ran-packed m2 x (Refused r) q e holds =
       absurd (let f : followed.Run x ≡ followed.Refused r = ap (λ (s : FollowResult). s .answer) e in let z : _≡_ {A = ℕ} 0 1 = cc in omega arith)
   ran-packed m2 x Passed q e holds =
-      let p = both-pass (judgeBegin (length m) order areas kinds operands) (after (judgedPlace base (imageCells (listed kinds operands))) Passed) q in
+      let p = both-pass (judgeBegin (length m) order areas table kinds operands) (after (judgedPlace base (imageCells (listed kinds operands))) Passed) q in
       let f : followed.Run x ≡ followed.Run (ranOf run) = ap (λ (s : FollowResult). s .answer) e in
       let g : x ≡ ranOf run = cc in
       let h : m2 ≡ run .position .memory = ap (λ (s : FollowResult). s .memory) e in
       rw (h, g, run-there run)
-      (demand3 (machineOf order areas (length m)) base (listed kinds operands) m sp rp items
+      (demand3 (machineOf order areas table (length m)) base (listed kinds operands) m sp rp items
       (record {
-        input = begin-checked (length m) order areas kinds operands (p .0) .input;
+        input = begin-checked (length m) order areas table kinds operands (p .0) .input;
         state = both-pass (judgedPlace base (imageCells (listed kinds operands))) Passed (p .1) .0;
         cell = λ i h. cells i;
       })
       holds)
 
-  pub as-packed : (m2 : List ℕ) (a : Followed) → followedTo m2 (standAt 0 false sp rp) a ≡ followOf order areas kinds operands base m sp rp items
-      → AsPacked (machineOf order areas (length m)) base (listed kinds operands) m sp rp m2 a
+  pub as-packed : (m2 : List ℕ) (a : Followed) → followedTo m2 (standAt 0 false sp rp) a ≡ followOf order areas table kinds operands base m sp rp items
+      → AsPacked (machineOf order areas table (length m)) base (listed kinds operands) m sp rp m2 a
   unfolding resumeIn
   as-packed m2 (followed.Refused r) e = tt
-  as-packed m2 (followed.Run x) e = ran-packed m2 x (judgeFollow (length m) order areas kinds operands base Passed) refl e
+  as-packed m2 (followed.Run x) e = ran-packed m2 x (judgeFollow (length m) order areas table kinds operands base Passed) refl e

@@ -3,6 +3,7 @@ use mathlib.Core.Path.{_≡_}
 use mathlib.Core.Logic.{_≢_}
 use mathlib.Core.List.{List}
 use Prim.Native.Nat.{ℕ, _+_}
+use Rattle.machine.specs.declared.Table.{Table}
 use Rattle.areas.specs.declared.Areas.{Areas}
 use Rattle.list_proposing.specs.declared.Stand.{Stand}
 use Rattle.list_run.specs.declared.Followed.{Followed}
@@ -19,17 +20,17 @@ withCounts items cycles (followed.Run x) =
 abbrev pub joinedTo : Stand → FollowResult → FollowResult → FollowResult
 joinedTo start s t = followedTo (t .memory) start (withCounts (s .items) (s .cycles) (t .answer))
 
-module _ (order : ℕ) (areas : Areas) (kinds operands : List ℕ) (base : ℕ) (m : List ℕ) (start : Stand) (a b : ℕ) where
+module _ (order : ℕ) (areas : Areas) (table : Table) (kinds operands : List ℕ) (base : ℕ) (m : List ℕ) (start : Stand) (a b : ℕ) where
   abbrev pub first : FollowResult
-  first = resumeOf order areas kinds operands base m start a
+  first = resumeOf order areas table kinds operands base m start a
 
   abbrev pub whole : FollowResult
-  whole = resumeOf order areas kinds operands base m start (a + b)
+  whole = resumeOf order areas table kinds operands base m start (a + b)
 
   -- a call of a items that goes on, taken up from the memory, item, SP and RP that it left, is the call of a + b items
   abbrev pub CutAnswer : Type 0
   CutAnswer =
-      first .number ≡ 0 → whole ≡ joinedTo start first (resumeOf order areas kinds operands base (first .memory) (first .stand) b)
+      first .number ≡ 0 → whole ≡ joinedTo start first (resumeOf order areas table kinds operands base (first .memory) (first .stand) b)
 
   -- any other answer is that of every larger number of items
   abbrev pub OverAnswer : Type 0
@@ -37,5 +38,5 @@ module _ (order : ℕ) (areas : Areas) (kinds operands : List ℕ) (base : ℕ) 
 
 abbrev pub Cut : Type 0
 Cut =
-    (order : ℕ) (areas : Areas) (kinds operands : List ℕ) (base : ℕ) (m : List ℕ) (start : Stand) (a b : ℕ)
-    → CutAnswer order areas kinds operands base m start a b × OverAnswer order areas kinds operands base m start a b
+    (order : ℕ) (areas : Areas) (table : Table) (kinds operands : List ℕ) (base : ℕ) (m : List ℕ) (start : Stand) (a b : ℕ)
+    → CutAnswer order areas table kinds operands base m start a b × OverAnswer order areas table kinds operands base m start a b

@@ -8,9 +8,9 @@ use lib.ListN.{length}
 use Rattle.cell.specs.Refusals.{refusalNumber, after}
 use Rattle.cell.specs.declared.Judged.{Judged}
 use Rattle.cell.specs.declared.Judged.the-variants as judged
+use Rattle.machine.specs.declared.Table.{Table}
 use Rattle.machine.specs.declared.Machine.{Machine}
-use Rattle.areas.specs.Areas.{judgeBounded}
-use Rattle.areas.specs.Bounds.{machineOf}
+use Rattle.areas.specs.Bounds.{judgeBounded, machineOf}
 use Rattle.areas.specs.declared.Areas.{Areas}
 use Rattle.cycles.specs.Counts.{begun}
 use Rattle.pack_layout.specs.Listing.{Listing, listed, judgedArrays}
@@ -28,17 +28,17 @@ use Rattle.list_items.specs.declared.ItemRun.{ItemRun}
 use Rattle.list_run.specs.declared.Followed.{Followed}
 use Rattle.list_run.specs.declared.Followed.the-variants as followed
 
--- before the layout: -4101, -4102 and -4111, then the input list
-unfoldable pub judgeBegin : ℕ → ℕ → Areas → List ℕ → List ℕ → Judged
-judgeBegin len order areas kinds operands = after (judgeBounded len order areas) (judgedArrays kinds operands)
+-- before the layout: -4101, -4102, -4111 and -4112, then the input list
+unfoldable pub judgeBegin : ℕ → ℕ → Areas → Table → List ℕ → List ℕ → Judged
+judgeBegin len order areas table kinds operands = after (judgeBounded len order areas table) (judgedArrays kinds operands)
 
 -- once the size of the image is known: -4104 and -4110, then room, the caller's judgement of what else was lent. No image is asked for in the memory
 unfoldable pub judgeImage : ℕ → ℕ → Judged → Judged
 judgeImage base cells room = after (judgedPlace base cells) room
 
-unfoldable pub judgeFollow : ℕ → ℕ → Areas → List ℕ → List ℕ → ℕ → Judged → Judged
-judgeFollow len order areas kinds operands base room =
-    after (judgeBegin len order areas kinds operands) (judgeImage base (imageCells (listed kinds operands)) room)
+unfoldable pub judgeFollow : ℕ → ℕ → Areas → Table → List ℕ → List ℕ → ℕ → Judged → Judged
+judgeFollow len order areas table kinds operands base room =
+    after (judgeBegin len order areas table kinds operands) (judgeImage base (imageCells (listed kinds operands)) room)
 
 -- how a run stands, as a number: 0, all items asked for were carried out; 1, stopped by a reason; 2, outside
 abbrev pub endingNumber : Ending → ℕ
@@ -119,17 +119,19 @@ followIf judged.Passed machine base l m start items =
     followedTo (r .position .memory) start (followed.Run (ranOf r))
 
 -- a run taken up at an item, with room judged last
-unfoldable pub resumeIn : Judged → ℕ → Areas → List ℕ → List ℕ → ℕ → List ℕ → Stand → ℕ → FollowResult
-resumeIn room order areas kinds operands base m start items =
-    followIf (judgeFollow (length m) order areas kinds operands base room) (machineOf order areas (length m)) base (listed kinds operands) m start items
+unfoldable pub resumeIn : Judged → ℕ → Areas → Table → List ℕ → List ℕ → ℕ → List ℕ → Stand → ℕ → FollowResult
+resumeIn room order areas table kinds operands base m start items =
+    followIf (judgeFollow (length m) order areas table kinds operands base room) (machineOf order areas table (length m)) base (listed kinds operands) m
+    start
+    items
 
 -- list_resume, which was lent nothing else
-abbrev pub resumeOf : ℕ → Areas → List ℕ → List ℕ → ℕ → List ℕ → Stand → ℕ → FollowResult
-resumeOf order areas kinds operands base m start items = resumeIn judged.Passed order areas kinds operands base m start items
+abbrev pub resumeOf : ℕ → Areas → Table → List ℕ → List ℕ → ℕ → List ℕ → Stand → ℕ → FollowResult
+resumeOf order areas table kinds operands base m start items = resumeIn judged.Passed order areas table kinds operands base m start items
 
 -- list_run: from item 0 on
-abbrev pub followOf : ℕ → Areas → List ℕ → List ℕ → ℕ → List ℕ → ℕ → ℕ → ℕ → FollowResult
-followOf order areas kinds operands base m sp rp items = resumeOf order areas kinds operands base m (standAt 0 false sp rp) items
+abbrev pub followOf : ℕ → Areas → Table → List ℕ → List ℕ → ℕ → List ℕ → ℕ → ℕ → ℕ → FollowResult
+followOf order areas table kinds operands base m sp rp items = resumeOf order areas table kinds operands base m (standAt 0 false sp rp) items
 
 -- demand 3, of this answer: where the memory m held the image, the processor's counted cycles leave what the list machine left
 abbrev pub AsPacked : Machine → ℕ → Listing → List ℕ → ℕ → ℕ → List ℕ → Followed → Type 0

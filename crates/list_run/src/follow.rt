@@ -22,6 +22,7 @@ use list_tables::Image;
 use list_tables::TABLE_NUMBERS;
 use list_tables::settle::settle_table;
 use machine::Machine;
+use machine::Table;
 use pack_layout::ItemNumber;
 
 // A listing that the input list passed, with a table lent: it is laid out once, its image judged, and the run made.
@@ -58,6 +59,7 @@ fn follow_checked(
 pub fn follow_within(
     order: u8,
     areas: Areas,
+    table: Table,
     kinds: &[u8],
     operands: &[u32],
     base: Address,
@@ -66,19 +68,19 @@ pub fn follow_within(
     items: u32,
     room: Judged,
 ) -> Followed
-    ensures { λ r. ⌜ follows.followedTo (now (memory .exit)) start r ≡ follows.resumeIn room order areas (now (kinds .entry)) (now (operands .entry)) (base .0) (now (memory .entry)) start items ⌝ }
+    ensures { λ r. ⌜ follows.followedTo (now (memory .exit)) start r ≡ follows.resumeIn room order areas table (now (kinds .entry)) (now (operands .entry)) (base .0) (now (memory .entry)) start items ⌝ }
 {
-    match judge_begin(memory.len(), order, areas, kinds, operands) {
+    match judge_begin(memory.len(), order, areas, table, kinds, operands) {
         Judged::Refused(r) => Followed::Refused(r),
         Judged::Passed => {
             let size = 4 * kinds.len();
-            let mut table = [0u32; TABLE_NUMBERS];
+            let mut layout = [0u32; TABLE_NUMBERS];
             follow_checked(
-                machine_of(order, areas, memory.len()),
+                machine_of(order, areas, table, memory.len()),
                 memory,
                 kinds,
                 operands,
-                &mut table[0..size],
+                &mut layout[0..size],
                 base,
                 start,
                 items,
@@ -92,6 +94,7 @@ pub fn follow_within(
 pub fn list_resume(
     order: u8,
     areas: Areas,
+    table: Table,
     kinds: &[u8],
     operands: &[u32],
     base: Address,
@@ -102,7 +105,7 @@ pub fn list_resume(
     rp: u32,
     items: u32,
 ) -> Followed
-    ensures { λ r. ⌜ follows.followedTo (now (memory .exit)) (follows.standAt (item .0) ran sp rp) r ≡ follows.resumeOf order areas (now (kinds .entry)) (now (operands .entry)) (base .0) (now (memory .entry)) (follows.standAt (item .0) ran sp rp) items ⌝ }
+    ensures { λ r. ⌜ follows.followedTo (now (memory .exit)) (follows.standAt (item .0) ran sp rp) r ≡ follows.resumeOf order areas table (now (kinds .entry)) (now (operands .entry)) (base .0) (now (memory .entry)) (follows.standAt (item .0) ran sp rp) items ⌝ }
 {
     let start = Stand {
         item: item,
@@ -113,6 +116,7 @@ pub fn list_resume(
     follow_within(
         order,
         areas,
+        table,
         kinds,
         operands,
         base,
@@ -127,6 +131,7 @@ pub fn list_resume(
 pub fn list_run(
     order: u8,
     areas: Areas,
+    table: Table,
     kinds: &[u8],
     operands: &[u32],
     base: Address,
@@ -135,12 +140,13 @@ pub fn list_run(
     rp: u32,
     items: u32,
 ) -> Followed
-    ensures { λ r. ⌜ follows.followedTo (now (memory .exit)) (follows.standAt 0 false sp rp) r ≡ follows.followOf order areas (now (kinds .entry)) (now (operands .entry)) (base .0) (now (memory .entry)) sp rp items ⌝ }
-    ensures { λ r. ⌜ follows.AsPacked (machineOf order areas (length (now (memory .entry)))) (base .0) (listed (now (kinds .entry)) (now (operands .entry))) (now (memory .entry)) sp rp (now (memory .exit)) r ⌝ }
+    ensures { λ r. ⌜ follows.followedTo (now (memory .exit)) (follows.standAt 0 false sp rp) r ≡ follows.followOf order areas table (now (kinds .entry)) (now (operands .entry)) (base .0) (now (memory .entry)) sp rp items ⌝ }
+    ensures { λ r. ⌜ follows.AsPacked (machineOf order areas table (length (now (memory .entry)))) (base .0) (listed (now (kinds .entry)) (now (operands .entry))) (now (memory .entry)) sp rp (now (memory .exit)) r ⌝ }
 {
     list_resume(
         order,
         areas,
+        table,
         kinds,
         operands,
         base,

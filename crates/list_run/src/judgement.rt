@@ -7,14 +7,22 @@ use areas::judging::judge_bounded;
 use cell::Address;
 use cell::CellCount;
 use cell::Judged;
+use machine::Table;
 use pack_judging::check::judge_arrays;
 use pack_judging::check::judge_place;
 
 // What is judged before the layout.
-pub fn judge_begin(length: usize, order: u8, areas: Areas, kinds: &[u8], operands: &[u32]) -> Judged
-    ensures { λ r. ⌜ r ≡ follows.judgeBegin length order areas (now (kinds .entry)) (now (operands .entry)) ⌝ }
+pub fn judge_begin(
+    length: usize,
+    order: u8,
+    areas: Areas,
+    table: Table,
+    kinds: &[u8],
+    operands: &[u32],
+) -> Judged
+    ensures { λ r. ⌜ r ≡ follows.judgeBegin length order areas table (now (kinds .entry)) (now (operands .entry)) ⌝ }
 {
-    match judge_bounded(length, order, areas) {
+    match judge_bounded(length, order, areas, table) {
         Judged::Refused(r) => Judged::Refused(r),
         Judged::Passed => judge_arrays(kinds, operands),
     }

@@ -14,8 +14,7 @@ use Rattle.cell.specs.declared.Fault.{Fault}
 use Rattle.cell.specs.declared.Fault.the-variants.{Range}
 use Rattle.cell.specs.declared.Checked.{Checked}
 use Rattle.cell.specs.declared.Checked.the-variants.{Good, Bad}
-use Rattle.cell.proofs.PlaceLaws.{good-byte}
-use Rattle.machine.specs.Places.{oneByte, oneCell, allowed, faultAt, placeOf}
+use Rattle.machine.specs.Places.{Width, oneByte, oneCell, allowed, tableAllows, alignedAs, faultAt, openTo, placeOf}
 use Rattle.machine.specs.declared.Access.{Access}
 use Rattle.machine.specs.Effects.{Store, effectOf}
 use Rattle.machine.specs.Commits.{firstBad, placesOf, storedOf, stepped, settledOf, faultOf, commitOf, raised}
@@ -52,30 +51,34 @@ module _ (machine : Machine) (m : List ℕ) (r : Registers) (sp rp : ℕ) (ss : 
   commit-good Throw e p = rw p
   commit-good (Raise g) e p = cc
 
--- a good place of a cell: inside memory, a multiple of 4, and allowed
-pub record Placed (machine : Machine) (access : Access) (len a : ℕ) : Type 0 where
+-- what a good place is
+pub record Placed (machine : Machine) (width : Width) (access : Access) (len a : ℕ) : Type 0 where
   pub inside : a < len
-  pub aligned : a % 4 ≡ 0
+  pub aligned : alignedAs width a ≡ true
   pub allows : allowed machine access a ≡ true
+  pub spares : tableAllows machine access a ≡ true
 
-pub good-placed : (machine : Machine) (access : Access) (len a : ℕ) → placeOf machine oneCell access len a ≡ Good → Placed machine access len a
+pub good-placed : (machine : Machine) (width : Width) (access : Access) (len a : ℕ) → placeOf machine width access len a ≡ Good
+    → Placed machine width access len a
 unfolding placeOf
-good-placed machine access len a = go (ltb a len) (allowed machine access a) (eqb (a % 4) 0) refl refl refl
+good-placed machine width access len a = go (ltb a len) (allowed machine access a) (alignedAs width a) (tableAllows machine access a) refl refl refl refl
   where
-    go : (s t u : Bool) → ltb a len ≡ s → allowed machine access a ≡ t → eqb (a % 4) 0 ≡ u
-        → if s (if (t && u) Good (Bad (faultAt access a))) (Bad (Range (address a))) ≡ Good → Placed machine access len a
-    go true true true p q v e = record { inside = ltb-true a len p; aligned = eqb-true (a % 4) 0 v; allows = q }
-    go true true false p q v e = absurd (let z : _≡_ {A = ℕ} 0 1 = cc in omega arith)
-    go true false u p q v e = absurd (let z : _≡_ {A = ℕ} 0 1 = cc in omega arith)
-    go false t u p q v e = absurd (let z : _≡_ {A = ℕ} 0 1 = cc in omega arith)
+    go : (s t u v : Bool) → ltb a len ≡ s → allowed machine access a ≡ t → alignedAs width a ≡ u → tableAllows machine access a ≡ v
+        → openTo (if s (if (t && u) Good (Bad (faultAt access a))) (Bad (Range (address a)))) v ≡ Good → Placed machine width access len a
+    go true true true true p q w x e = record { inside = ltb-true a len p; aligned = w; allows = q; spares = x }
+    go true true true false p q w x e = absurd (let z : _≡_ {A = ℕ} 0 1 = cc in omega arith)
+    go true true false v p q w x e = absurd (let z : _≡_ {A = ℕ} 0 1 = cc in omega arith)
+    go true false u v p q w x e = absurd (let z : _≡_ {A = ℕ} 0 1 = cc in omega arith)
+    go false t u v p q w x e = absurd (let z : _≡_ {A = ℕ} 0 1 = cc in omega arith)
 
 -- all four bytes of a cell at a good place are in memory
 pub room-place : (machine : Machine) (access : Access) (len a : ℕ) → len % 4 ≡ 0 → placeOf machine oneCell access len a ≡ Good → a + 4 ≤ len
-room-place machine access len a w e = let g = good-placed machine access len a e in omega (arith, g .inside, g .aligned)
+room-place machine access len a w e =
+    let g = good-placed machine oneCell access len a e in
+    omega (arith, g .inside, eqb-true (a % 4) 0 (g .aligned))
 
 pub room-byte : (machine : Machine) (access : Access) (len a : ℕ) → placeOf machine oneByte access len a ≡ Good → a < len
-unfolding placeOf
-room-byte machine access len a e = good-byte len a e
+room-byte machine access len a e = good-placed machine oneByte access len a e .inside
 
 -- of two places, the first bad one
 pub first-good : (c : Checked) → firstBad c Good ≡ c

@@ -18,7 +18,7 @@ use Rattle.machine.specs.declared.Machine.{Machine}
 use Rattle.machine.specs.declared.Registers.{Registers}
 use Rattle.machine.specs.declared.Access.the-variants.{Stream, Push}
 use Rattle.machine.specs.declared.Exception.{Exception}
-use Rattle.machine.specs.declared.Exception.the-variants.{Range, Alignment, DataOverflow, DataUnderflow, ReturnOverflow, ReturnUnderflow, Divisor, Illegal, Library}
+use Rattle.machine.specs.declared.Exception.the-variants.{Range, Alignment, DataOverflow, DataUnderflow, ReturnOverflow, ReturnUnderflow, ReadOnly, Divisor, Illegal, Library}
 use Rattle.machine.specs.declared.Outcome.{Outcome}
 use Rattle.machine.specs.declared.Outcome.the-variants as outcome
 use Rattle.machine.specs.declared.Ended.{Ended}
@@ -83,6 +83,7 @@ noted machine m DataOverflow = m
 noted machine m DataUnderflow = m
 noted machine m ReturnOverflow = m
 noted machine m ReturnUnderflow = m
+noted machine m ReadOnly = m
 noted machine m Divisor = m
 noted machine m Illegal = m
 noted machine m Library = m

@@ -19,7 +19,7 @@ use crate::fixed::BAD_CELL;
 use crate::fixed::BAD_HANDLER;
 use crate::fixed::BAD_STACK;
 use crate::fixed::HANDLER_CELL;
-use crate::places::check_data;
+use crate::places::check_push;
 use crate::places::fetch;
 use cell::Address;
 use cell::Checked;
@@ -114,6 +114,7 @@ fn note(machine: Machine, memory: &mut [u8], e: Exception)
         Exception::DataUnderflow => (),
         Exception::ReturnOverflow => (),
         Exception::ReturnUnderflow => (),
+        Exception::ReadOnly => (),
         Exception::Divisor => (),
         Exception::Illegal => (),
         Exception::Library => (),
@@ -126,7 +127,7 @@ pub fn throw(machine: Machine, memory: &mut [u8], r: Registers, e: Exception) ->
     ensures { λ t. ⌜ throws.withResult (now (memory .exit)) t ≡ throws.throwOf machine (now (memory .entry)) r e ⌝ }
 {
     let sp = subtract(r.sp, 4);
-    let place = check_data(machine, memory.len(), Address(sp));
+    let place = check_push(machine, memory.len(), Address(sp));
     let Checked::Good = place else {
         return CycleResult {
             registers: Registers {

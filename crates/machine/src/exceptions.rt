@@ -14,9 +14,8 @@ fn tell_end(span: Span, a: Address, below: Exception, above: Exception) -> Excep
     if a.0 % 4 != 0 {
         return Exception::Alignment(a);
     }
-    let floor = span.floor;
-    let cells = span.cells;
-    if (a.0 as u64) < floor.0 as u64 + 4 * (cells.0 as u64) {
+    let last = span.last;
+    if (a.0 as u64) < last.0 as u64 + 4 {
         return below;
     }
     above
@@ -41,6 +40,7 @@ pub fn tell(machine: Machine, f: Fault) -> Exception
             Exception::ReturnOverflow,
             Exception::ReturnUnderflow,
         ),
+        Fault::Table => Exception::ReadOnly,
         Fault::Divisor => Exception::Divisor,
         Fault::Illegal => Exception::Illegal,
         Fault::Library => Exception::Library,
@@ -57,6 +57,7 @@ pub fn code_of(e: Exception) -> u32
         Exception::DataUnderflow => 0xFFFFFFFC,
         Exception::ReturnOverflow => 0xFFFFFFFB,
         Exception::ReturnUnderflow => 0xFFFFFFFA,
+        Exception::ReadOnly => 0xFFFFFFEC,
         Exception::Divisor => 0xFFFFFFF6,
         Exception::Illegal => 0xFFFFFF00,
         Exception::Library => 0xFFFFFEFF,

@@ -9,19 +9,32 @@ use cell::Address;
 use cell::CellCount;
 use cell::Fault;
 
-// The cells that a stack may have: so many of them from the floor on.
+// The cells that a stack may have: so many of them, the highest at `last`.
 pub struct Span {
-    pub floor: Address,
+    pub last: Address,
     pub cells: CellCount,
 }
 
-// What goes with every call and is no register: the byte order, and the cells that the data stack and the return stack may have. The held cell, the lowest of the data stack's, may
-// be read, and only a throw writes it; where there is none, it is an address that no cell has.
+// Document 02's own term: the bytes from `first` up to, and without, `end`, which no rule writes. Two zeros where there is none.
+pub struct Table {
+    pub first: Address,
+    pub end: Address,
+}
+
+// The table as it is asked for at each write: so many bytes from the first on.
+pub struct Guarded {
+    pub first: Address,
+    pub bytes: u32,
+}
+
+// What goes with every call and is no register: the byte order, the cells that the data stack and the return stack may have, and the bytes that no rule writes. Of the data stack's
+// cells it writes the highest, `writes` of them: the held cell, under these, may be read, and only a throw writes it.
 pub struct Machine {
     pub order: u8,
     pub stack: Span,
+    pub writes: CellCount,
     pub returns: Span,
-    pub held: Address,
+    pub table: Guarded,
 }
 
 // EP, A, SP, RP: cells of any value. They become addresses where memory is touched.
@@ -177,6 +190,8 @@ pub enum Exception {
     ReturnOverflow,
     // -6: the return stack at or above its top
     ReturnUnderflow,
+    // -20: a write into the table
+    ReadOnly,
     // -10: division by zero
     Divisor,
     // -256: an opcode with no meaning

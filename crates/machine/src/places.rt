@@ -8,8 +8,10 @@ ghost use Rattle.cell.specs.Memory.{cellAt};
 ghost use Rattle.cell.specs.Place.{read};
 ghost use Rattle.machine.specs.Places as places;
 use crate::Access;
+use crate::Guarded;
 use crate::Machine;
 use crate::Span;
+use crate::Table;
 use crate::Target;
 use cell::Address;
 use cell::CellCount;
@@ -21,46 +23,75 @@ use cell::number::subtract;
 use cell::place::check_byte;
 use cell::place::check_cell;
 
-// The machine whose stacks may lie anywhere in memory, with no held cell.
-pub fn unbounded(order: u8, length: usize) -> Machine
-    requires { ⌜ length ≤ 16777216 ⌝ }
-    ensures { λ m. ⌜ m ≡ places.unbounded order length ⌝ }
+// The bytes of a table, as they are asked for.
+pub fn guard(table: Table) -> Guarded
+    ensures { λ g. ⌜ g ≡ places.guardedOf table ⌝ }
 {
-    let cells = (length / 4) as u32;
-    Machine {
-        order: order,
-        stack: Span {
-            floor: Address(0),
-            cells: CellCount(cells),
-        },
-        returns: Span {
-            floor: Address(0),
-            cells: CellCount(cells),
-        },
-        held: Address(0xFFFFFFFF),
+    let first = table.first;
+    let end = table.end;
+    if end.0 < first.0 {
+        return Guarded {
+            first: first,
+            bytes: 0,
+        };
+    }
+    Guarded {
+        first: first,
+        bytes: end.0 - first.0,
     }
 }
 
-// Whether an address is that of a cell of the span. One comparison finds it: the distance from the floor, rotated right by two bits,
-// is the number of the cell, or past every number if the address is not aligned.
-fn is_within(span: Span, address: Address) -> bool
-    requires { ⌜ span .floor .0 % 4 ≡ 0 ⌝ }
-    requires { ⌜ span .floor .0 + 4 * span .cells .0 ≤ 2 ^ 32 ⌝ }
-    ensures { λ t. ⌜ t ≡ (places.within span (address .0) && eqb (address .0 % 4) 0) ⌝ }
+// The machine whose stacks may lie anywhere in memory, with no held cell.
+pub fn unbounded(order: u8, table: Table, length: usize) -> Machine
+    requires { ⌜ (4 ≤ length) × (length ≤ 16777216) ⌝ }
+    ensures { λ m. ⌜ m ≡ places.unbounded order table length ⌝ }
 {
-    let floor = span.floor;
-    let cells = span.cells;
-    let distance = subtract(address.0, floor.0) as usize;
+    let cells = (length / 4) as u32;
+    let last = (length - 4) as u32;
+    Machine {
+        order: order,
+        stack: Span {
+            last: Address(last),
+            cells: CellCount(cells),
+        },
+        writes: CellCount(cells),
+        returns: Span {
+            last: Address(last),
+            cells: CellCount(cells),
+        },
+        table: guard(table),
+    }
+}
+
+// Whether an address is that of one of so many cells, the highest at `last`. One comparison finds it: the distance from the highest, rotated right by two
+// bits, is the number of the cell, or past every number if the address is not aligned. Where a place is read and then written, both share the distance.
+fn is_within(last: Address, cells: CellCount, address: Address) -> bool
+    requires { ⌜ (last .0 % 4 ≡ 0) × (4 * cells .0 ≤ last .0 + 4) ⌝ }
+    ensures { λ t. ⌜ t ≡ (places.within (places.spanAt (last .0) (cells .0)) (address .0) && eqb (address .0 % 4) 0) ⌝ }
+{
+    let distance = subtract(last.0, address.0) as usize;
     distance / 4 + distance % 4 * 0x4000000000000000 < cells.0 as usize
 }
 
-// A place that the data stack reads, or that a throw writes.
+// Whether a byte lies in the table.
+fn is_guarded(table: Guarded, address: Address) -> bool
+    requires { ⌜ table .first .0 + table .bytes ≤ 2 ^ 32 ⌝ }
+    ensures { λ t. ⌜ t ≡ places.inTable table (address .0) ⌝ }
+{
+    let first = table.first;
+    subtract(address.0, first.0) < table.bytes
+}
+
+// A place that the data stack reads.
 pub fn check_data(machine: Machine, length: usize, address: Address) -> Checked
     requires { ⌜ places.Fits machine length ⌝ }
     ensures { λ r. ⌜ r ≡ places.placeOf machine places.oneCell Access.DataRead length (address .0) ⌝ }
-    ensures { λ r. ⌜ r ≡ places.placeOf machine places.oneCell Access.Push length (address .0) ⌝ }
 {
-    if is_within(machine.stack, address) {
+    if is_within(
+        Address(machine.stack.last.0),
+        CellCount(machine.stack.cells.0),
+        address,
+    ) {
         return Checked::Good;
     }
     if (address.0 as usize) < length {
@@ -69,15 +100,18 @@ pub fn check_data(machine: Machine, length: usize, address: Address) -> Checked
     Checked::Bad(Fault::Range(address))
 }
 
-// A place that the data stack writes: not the held cell.
+// A place that the data stack writes: not the held cell, and not in the table.
 pub fn check_data_write(machine: Machine, length: usize, address: Address) -> Checked
     requires { ⌜ places.Fits machine length ⌝ }
     ensures { λ r. ⌜ r ≡ places.placeOf machine places.oneCell Access.DataWrite length (address .0) ⌝ }
 {
-    if is_within(machine.stack, address) {
-        let held = machine.held;
-        if address.0 == held.0 {
-            return Checked::Bad(Fault::Data(address));
+    if is_within(
+        Address(machine.stack.last.0),
+        CellCount(machine.writes.0),
+        address,
+    ) {
+        if is_guarded(machine.table, address) {
+            return Checked::Bad(Fault::Table);
         }
         return Checked::Good;
     }
@@ -87,19 +121,86 @@ pub fn check_data_write(machine: Machine, length: usize, address: Address) -> Ch
     Checked::Bad(Fault::Range(address))
 }
 
-// A place that the return stack reads or writes.
+// The place of a throw's code: the held cell too, but not in the table.
+pub fn check_push(machine: Machine, length: usize, address: Address) -> Checked
+    requires { ⌜ places.Fits machine length ⌝ }
+    ensures { λ r. ⌜ r ≡ places.placeOf machine places.oneCell Access.Push length (address .0) ⌝ }
+{
+    if is_within(
+        Address(machine.stack.last.0),
+        CellCount(machine.stack.cells.0),
+        address,
+    ) {
+        if is_guarded(machine.table, address) {
+            return Checked::Bad(Fault::Table);
+        }
+        return Checked::Good;
+    }
+    if (address.0 as usize) < length {
+        return Checked::Bad(Fault::Data(address));
+    }
+    Checked::Bad(Fault::Range(address))
+}
+
+// A place that the return stack reads.
 pub fn check_return(machine: Machine, length: usize, address: Address) -> Checked
     requires { ⌜ places.Fits machine length ⌝ }
     ensures { λ r. ⌜ r ≡ places.placeOf machine places.oneCell Access.ReturnRead length (address .0) ⌝ }
-    ensures { λ r. ⌜ r ≡ places.placeOf machine places.oneCell Access.ReturnWrite length (address .0) ⌝ }
 {
-    if is_within(machine.returns, address) {
+    if is_within(
+        Address(machine.returns.last.0),
+        CellCount(machine.returns.cells.0),
+        address,
+    ) {
         return Checked::Good;
     }
     if (address.0 as usize) < length {
         return Checked::Bad(Fault::Return(address));
     }
     Checked::Bad(Fault::Range(address))
+}
+
+// A place that the return stack writes: not in the table.
+pub fn check_return_write(machine: Machine, length: usize, address: Address) -> Checked
+    requires { ⌜ places.Fits machine length ⌝ }
+    ensures { λ r. ⌜ r ≡ places.placeOf machine places.oneCell Access.ReturnWrite length (address .0) ⌝ }
+{
+    if is_within(
+        Address(machine.returns.last.0),
+        CellCount(machine.returns.cells.0),
+        address,
+    ) {
+        if is_guarded(machine.table, address) {
+            return Checked::Bad(Fault::Table);
+        }
+        return Checked::Good;
+    }
+    if (address.0 as usize) < length {
+        return Checked::Bad(Fault::Return(address));
+    }
+    Checked::Bad(Fault::Range(address))
+}
+
+// A cell of the instruction stream, or one that an operand names, to be read.
+pub fn check_named(machine: Machine, length: usize, address: Address) -> Checked
+    ensures { λ r. ⌜ r ≡ places.placeOf machine places.oneCell Access.Stream length (address .0) ⌝ }
+    ensures { λ r. ⌜ r ≡ places.placeOf machine places.oneCell Access.NamedRead length (address .0) ⌝ }
+{
+    check_cell(length, address)
+}
+
+// A judged place, to be written: not in the table.
+fn check_open(machine: Machine, address: Address, place: Checked) -> Checked
+    requires { ⌜ machine .table .first .0 + machine .table .bytes ≤ 2 ^ 32 ⌝ }
+    ensures { λ r. ⌜ r ≡ places.openTo place (places.tableAllows machine Access.NamedWrite (address .0)) ⌝ }
+{
+    let Checked::Good = place else {
+        return place;
+    };
+    if is_guarded(machine.table, address) {
+        return Checked::Bad(Fault::Table);
+    }
+    Checked::Good
 }
 
 // The place of a store.
@@ -109,20 +210,17 @@ pub fn check_target(machine: Machine, target: Target, length: usize, address: Ad
 {
     match target {
         Target::Data => check_data_write(machine, length, address),
-        Target::Return => check_return(machine, length, address),
-        Target::Named => check_cell(length, address),
+        Target::Return => check_return_write(machine, length, address),
+        Target::Named => check_open(machine, address, check_cell(length, address)),
     }
 }
 
-pub fn check_byte_place(
-    machine: Machine,
-    access: Access,
-    length: usize,
-    address: Address,
-) -> Checked
-    ensures { λ r. ⌜ r ≡ places.placeOf machine places.oneByte access length (address .0) ⌝ }
+// A byte to be written: not in the table.
+pub fn check_byte_write(machine: Machine, length: usize, address: Address) -> Checked
+    requires { ⌜ places.Fits machine length ⌝ }
+    ensures { λ r. ⌜ r ≡ places.placeOf machine places.oneByte Access.NamedWrite length (address .0) ⌝ }
 {
-    check_byte(length, address)
+    check_open(machine, address, check_byte(length, address))
 }
 
 // The cell at a place that was judged, or its fault.
@@ -160,15 +258,16 @@ pub fn fetch(machine: Machine, memory: &[u8], address: Address) -> Fetched
     ensures { λ r. ⌜ r ≡ places.fetchOf machine Access.Stream (now (memory .entry)) (address .0) ⌝ }
     ensures { λ r. ⌜ r ≡ places.fetchOf machine Access.NamedRead (now (memory .entry)) (address .0) ⌝ }
 {
-    let place = check_cell(memory.len(), address);
+    let place = check_named(machine, memory.len(), address);
     fetch_at(machine.order, memory, address, place)
 }
 
-pub fn fetch_byte(machine: Machine, access: Access, memory: &[u8], address: Address) -> Fetched
-    ensures { λ r. ⌜ r ≡ places.fetchByteOf machine access (now (memory .entry)) (address .0) ⌝ }
+// A byte that an operand names.
+pub fn fetch_byte(machine: Machine, memory: &[u8], address: Address) -> Fetched
+    ensures { λ r. ⌜ r ≡ places.fetchByteOf machine Access.NamedRead (now (memory .entry)) (address .0) ⌝ }
 {
     let a = address.0 as usize;
-    match check_byte_place(machine, access, memory.len(), address) {
+    match check_byte(memory.len(), address) {
         Checked::Good => Fetched::Cell(memory[a] as u32),
         Checked::Bad(f) => Fetched::Failed(f),
     }

@@ -1,4 +1,4 @@
--- What the three entry points leave and answer. Document 02, (a): the areas join the registers, which are eight so.
+-- What the three entry points leave and answer. Document 02, (a): the areas join the registers, which are eight so. Document 02, (b): a table goes with each.
 use mathlib.Core.List.{List}
 use Prim.Native.Nat.{ℕ}
 use lib.ListN.{length}
@@ -7,14 +7,15 @@ use Rattle.cell.specs.declared.Judged.{Judged}
 use Rattle.cell.specs.declared.Judged.the-variants as judged
 use Rattle.machine.specs.Exceptions.{exceptionCode}
 use Rattle.machine.specs.Throws.{CycleState}
+use Rattle.machine.specs.declared.Table.{Table}
 use Rattle.machine.specs.declared.Machine.{Machine}
 use Rattle.machine.specs.declared.Registers.{Registers}
 use Rattle.machine.specs.declared.Exception.{Exception}
-use Rattle.machine.specs.declared.Exception.the-variants.{Range, Alignment, DataOverflow, DataUnderflow, ReturnOverflow, ReturnUnderflow, Divisor, Illegal, Library}
+use Rattle.machine.specs.declared.Exception.the-variants.{Range, Alignment, DataOverflow, DataUnderflow, ReturnOverflow, ReturnUnderflow, ReadOnly, Divisor, Illegal, Library}
 use Rattle.machine.specs.declared.Ended.{Ended}
 use Rattle.machine.specs.declared.Ended.the-variants.{Went, Threw, Stopped}
-use Rattle.areas.specs.Areas.{noAreas, judgeBounded, filed}
-use Rattle.areas.specs.Bounds.{machineOf, firstSp, firstRp}
+use Rattle.areas.specs.Areas.{noAreas, filed}
+use Rattle.areas.specs.Bounds.{judgeBounded, machineOf, firstSp, firstRp}
 use Rattle.areas.specs.declared.Areas.{Areas}
 use Rattle.areas.specs.declared.RegisterFile.{RegisterFile}
 use Rattle.cycles.specs.Cycles.{cycleOf, cyclesOf}
@@ -35,6 +36,7 @@ exceptionAddress DataOverflow = 0
 exceptionAddress DataUnderflow = 0
 exceptionAddress ReturnOverflow = 0
 exceptionAddress ReturnUnderflow = 0
+exceptionAddress ReadOnly = 0
 exceptionAddress Divisor = 0
 exceptionAddress Illegal = 0
 exceptionAddress Library = 0
@@ -75,14 +77,14 @@ startedAs areas r (Threw e) = started.Ready (filed areas r)
 startedAs areas r (Stopped x) = started.Stopped (filed areas r) x
 
 -- the stacks begin at the tops of their areas, and the areas go into the registers
-abbrev pub startIf : Judged → ℕ → Areas → List ℕ → ℕ → ℕ → StartAnswer
-startIf (judged.Refused n) order areas m ep handler = startedTo m (started.Refused n)
-startIf judged.Passed order areas m ep handler =
-    let t = startOf (machineOf order areas (length m)) m ep handler (firstSp (length m) areas) (firstRp (length m) areas) in
+abbrev pub startIf : Judged → ℕ → Areas → Table → List ℕ → ℕ → ℕ → StartAnswer
+startIf (judged.Refused n) order areas table m ep handler = startedTo m (started.Refused n)
+startIf judged.Passed order areas table m ep handler =
+    let t = startOf (machineOf order areas table (length m)) m ep handler (firstSp (length m) areas) (firstRp (length m) areas) in
     startedTo (t .memory) (startedAs areas (t .result .registers) (t .result .ended))
 
-unfoldable pub startAnswer : ℕ → Areas → List ℕ → ℕ → ℕ → StartAnswer
-startAnswer order areas m ep handler = startIf (judgeBounded (length m) order areas) order areas m ep handler
+unfoldable pub startAnswer : ℕ → Areas → Table → List ℕ → ℕ → ℕ → StartAnswer
+startAnswer order areas table m ep handler = startIf (judgeBounded (length m) order areas table) order areas table m ep handler
 
 -- cycle: the number (0 went on or threw, 1 stopped, or the refusal's), the reason of a stop, the registers (those given, r, on a refusal), and the
 -- code and the address of the exception that was thrown
@@ -142,14 +144,14 @@ cycledAs areas r Went = cycled.Went (filed areas r)
 cycledAs areas r (Threw e) = cycled.Threw (filed areas r) e
 cycledAs areas r (Stopped x) = cycled.Stopped (filed areas r) x
 
-abbrev pub cycleIf : Judged → ℕ → List ℕ → RegisterFile → CycleAnswer
-cycleIf (judged.Refused n) order m r = cycledTo r m (cycled.Refused n)
-cycleIf judged.Passed order m r =
-    let t = cycleOf (machineOf order (r .areas) (length m)) m (r .registers) in
+abbrev pub cycleIf : Judged → ℕ → Table → List ℕ → RegisterFile → CycleAnswer
+cycleIf (judged.Refused n) order table m r = cycledTo r m (cycled.Refused n)
+cycleIf judged.Passed order table m r =
+    let t = cycleOf (machineOf order (r .areas) table (length m)) m (r .registers) in
     cycledTo r (t .memory) (cycledAs (r .areas) (t .result .registers) (t .result .ended))
 
-unfoldable pub cycleAnswer : ℕ → List ℕ → RegisterFile → CycleAnswer
-cycleAnswer order m r = cycleIf (judgeBounded (length m) order (r .areas)) order m r
+unfoldable pub cycleAnswer : ℕ → Table → List ℕ → RegisterFile → CycleAnswer
+cycleAnswer order table m r = cycleIf (judgeBounded (length m) order (r .areas) table) order table m r
 
 -- run: the number (0 spent, 1 stopped, or the refusal's), the reason of a stop, the registers (those given on a refusal), and the cycles: none on a
 -- refusal, the budget where it is spent, those done where it stopped. Document 01, The processor, on run: the budget is spent exactly if so many
@@ -203,9 +205,10 @@ ranAs areas r n (Stopped x) = ran.Stopped (filed areas r) x n
 abbrev pub runFor : RegisterFile → ℕ → ℕ → CycleState → RunAnswer
 runFor given budget n t = ranTo given budget (t .memory) (ranAs (given .areas) (t .result .registers) n (t .result .ended))
 
--- what holds through a whole run, whatever its cycles do, and is no register: the machine's byte order
+-- what holds through a whole run, whatever its cycles do, and is no register: the machine's byte order, and the table
 pub record Setting : Type 0 where
   pub order : ℕ
+  pub table : Table
 
 -- all that a run is given: the setting, memory, registers and budget. R is the form in which the registers come: as read, or in a lent array. What is
 -- claimed over this record is claimed of whatever stands in the setting
@@ -215,15 +218,16 @@ pub record Given (R : Type 0) : Type 0 where
   pub registers : R
   pub budget : ℕ
 
-abbrev pub givenOf : {R : Type 0} → ℕ → List ℕ → R → ℕ → Given R
-givenOf order m r budget = record { setting = record { order = order }; memory = m; registers = r; budget = budget }
+abbrev pub givenOf : {R : Type 0} → ℕ → Table → List ℕ → R → ℕ → Given R
+givenOf order table m r budget =
+    record { setting = record { order = order; table = table }; memory = m; registers = r; budget = budget }
 
 abbrev pub machineIn : Given RegisterFile → Machine
-machineIn g = machineOf (g .setting .order) (g .registers .areas) (length (g .memory))
+machineIn g = machineOf (g .setting .order) (g .registers .areas) (g .setting .table) (length (g .memory))
 
--- what it is judged by: -4101, -4102 and -4111
+-- what it is judged by: -4101, -4102, -4111 and -4112
 abbrev pub judgeRun : Given RegisterFile → Judged
-judgeRun g = judgeBounded (length (g .memory)) (g .setting .order) (g .registers .areas)
+judgeRun g = judgeBounded (length (g .memory)) (g .setting .order) (g .registers .areas) (g .setting .table)
 
 abbrev pub runIf : Judged → Given RegisterFile → RunAnswer
 runIf (judged.Refused n) g = ranTo (g .registers) (g .budget) (g .memory) (ran.Refused n)

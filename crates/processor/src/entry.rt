@@ -1,4 +1,4 @@
-// The entry points. None requires anything: a bad memory length, a bad byte order and bad areas are refused, and then nothing is written.
+// The entry points. None requires anything: a bad memory length, a bad byte order, bad areas and a bad table are refused, and then nothing is written.
 ghost use mathlib.Core.Path.{_≡_};
 ghost use Prim.Native.Nat.{_≤_, _-_};
 ghost use lib.ListN.{length};
@@ -25,6 +25,7 @@ use machine::CycleResult;
 use machine::Ended;
 use machine::Machine;
 use machine::Registers;
+use machine::Table;
 use machine::ending::next;
 use machine::fixed::ADDRESS_CELL;
 use machine::fixed::BAD_CELL;
@@ -83,15 +84,22 @@ fn started_as(areas: Areas, t: CycleResult) -> Started
     }
 }
 
-pub fn start(order: u8, memory: &mut [u8], ep: Address, handler: Address, areas: Areas) -> Started
-    ensures { λ s. ⌜ answers.startedTo (now (memory .exit)) s ≡ answers.startAnswer order areas (now (memory .entry)) (ep .0) (handler .0) ⌝ }
+pub fn start(
+    order: u8,
+    memory: &mut [u8],
+    ep: Address,
+    handler: Address,
+    areas: Areas,
+    table: Table,
+) -> Started
+    ensures { λ s. ⌜ answers.startedTo (now (memory .exit)) s ≡ answers.startAnswer order areas table (now (memory .entry)) (ep .0) (handler .0) ⌝ }
 {
-    match judge_bounded(memory.len(), order, areas) {
+    match judge_bounded(memory.len(), order, areas, table) {
         Judged::Refused(n) => Started::Refused(n),
         Judged::Passed => {
             let sp = first_sp(memory.len(), areas);
             let rp = first_rp(memory.len(), areas);
-            let machine = machine_of(order, areas, memory.len());
+            let machine = machine_of(order, areas, table, memory.len());
             started_as(areas, begin(machine, memory, ep, handler, sp, rp))
         }
     }
@@ -109,15 +117,15 @@ fn cycled_as(areas: Areas, t: CycleResult) -> Cycled
     }
 }
 
-pub fn cycle(order: u8, memory: &mut [u8], r: RegisterFile) -> Cycled
-    ensures { λ c. ⌜ answers.cycledTo r (now (memory .exit)) c ≡ answers.cycleAnswer order (now (memory .entry)) r ⌝ }
+pub fn cycle(order: u8, memory: &mut [u8], table: Table, r: RegisterFile) -> Cycled
+    ensures { λ c. ⌜ answers.cycledTo r (now (memory .exit)) c ≡ answers.cycleAnswer order table (now (memory .entry)) r ⌝ }
 {
     let areas = r.areas;
-    match judge_bounded(memory.len(), order, areas) {
+    match judge_bounded(memory.len(), order, areas, table) {
         Judged::Refused(n) => Cycled::Refused(n),
         Judged::Passed => {
             let given = r.registers;
-            let machine = machine_of(order, areas, memory.len());
+            let machine = machine_of(order, areas, table, memory.len());
             let t = run_cycles(machine, memory, given, 1);
             let u = t.result;
             cycled_as(areas, u)
@@ -139,15 +147,15 @@ fn ran_as(areas: Areas, t: Progress, budget: u32) -> Ran
     }
 }
 
-pub fn run(order: u8, memory: &mut [u8], r: RegisterFile, budget: u32) -> Ran
-    ensures { λ a. ⌜ answers.ranTo r budget (now (memory .exit)) a ≡ answers.runAnswer (answers.givenOf order (now (memory .entry)) r budget) ⌝ }
+pub fn run(order: u8, memory: &mut [u8], table: Table, r: RegisterFile, budget: u32) -> Ran
+    ensures { λ a. ⌜ answers.ranTo r budget (now (memory .exit)) a ≡ answers.runAnswer (answers.givenOf order table (now (memory .entry)) r budget) ⌝ }
 {
     let areas = r.areas;
-    match judge_bounded(memory.len(), order, areas) {
+    match judge_bounded(memory.len(), order, areas, table) {
         Judged::Refused(n) => Ran::Refused(n),
         Judged::Passed => {
             let given = r.registers;
-            let machine = machine_of(order, areas, memory.len());
+            let machine = machine_of(order, areas, table, memory.len());
             ran_as(areas, run_cycles(machine, memory, given, budget), budget)
         }
     }

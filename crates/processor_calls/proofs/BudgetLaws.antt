@@ -56,7 +56,7 @@ told-alike registers out b c (ran.Refused n) h = refl
 told-alike registers out b c (ran.Spent r) h = absurd (h refl)
 told-alike registers out b c (ran.Stopped r x n) h = refl
 
-module _ (g : Given (List ℕ)) (out : List ℕ) (j : judgeWith (length (g .memory)) (g .setting .order) (g .registers) (length out) 2 ≡ Passed) where
+module _ (g : Given (List ℕ)) (out : List ℕ) (j : judgeWith (length (g .memory)) (g .setting .order) (g .setting .table) (g .registers) (length out) 2 ≡ Passed) where
   abbrev first : RunAnswer
   first = runAnswer (asRead g)
 
@@ -77,13 +77,13 @@ module _ (g : Given (List ℕ)) (out : List ℕ) (j : judgeWith (length (g .memo
   unfolding runCall
   next-call r c = rw (
     run-keeps-length (asRead g),
-    written-length (registerList (whole r)) (g .registers) (call-roomy _ _ _ _ _ _ j .0),
-    written-length (0 ∷ g .budget ∷ []) out (call-roomy _ _ _ _ _ _ j .1),
+    written-length (registerList (whole r)) (g .registers) (call-roomy _ _ _ _ _ _ _ j .0),
+    written-length (0 ∷ g .budget ∷ []) out (call-roomy _ _ _ _ _ _ _ j .1),
     j,
   )
 
   passed : judgeRun (asRead g) ≡ Passed
-  passed = with-passed (length (g .memory)) (g .setting .order) (g .registers) (length out) 2 j
+  passed = with-passed (length (g .memory)) (g .setting .order) (g .setting .table) (g .registers) (length out) 2 j
 
   one : Accepted (asRead g)
   one = accepted (asRead g) passed
@@ -118,7 +118,7 @@ module _ (g : Given (List ℕ)) (out : List ℕ) (j : judgeWith (length (g .memo
 
 -- by the judgement, which the calls share
 cut-by : (g : Given (List ℕ)) (out : List ℕ) (c : ℕ) (j : Judged)
-    → judgeWith (length (g .memory)) (g .setting .order) (g .registers) (length out) 2 ≡ j
+    → judgeWith (length (g .memory)) (g .setting .order) (g .setting .table) (g .registers) (length out) 2 ≡ j
     → runIf j g out .told .number ≡ 0
     → runIf j (withBudget (g .budget + c) g) out
     ≡ withCycles (g .budget) (runCall (carriedOn g (runIf j g out .memory) (runIf j g out .told .registers) c) (runIf j g out .told .out))
@@ -136,8 +136,8 @@ larger-by g out b Passed h w =
 
 pub cut-call : CutCall
 unfolding runCall
-cut-call g out c e = cut-by g out c (judgeWith (length (g .memory)) (g .setting .order) (g .registers) (length out) 2) refl e
+cut-call g out c e = cut-by g out c (judgeWith (length (g .memory)) (g .setting .order) (g .setting .table) (g .registers) (length out) 2) refl e
 
 pub larger-call : LargerCall
 unfolding runCall
-larger-call g out b h w = larger-by g out b (judgeWith (length (g .memory)) (g .setting .order) (g .registers) (length out) 2) h w
+larger-call g out b h w = larger-by g out b (judgeWith (length (g .memory)) (g .setting .order) (g .setting .table) (g .registers) (length out) 2) h w

@@ -6,7 +6,8 @@ use lib.ListN.{length}
 use Rattle.cell.specs.Refusals.{refusalNumber}
 use Rattle.cell.specs.declared.Judged.{Judged}
 use Rattle.cell.specs.declared.Judged.the-variants as judged
-use Rattle.areas.specs.Areas.{judgeBounded}
+use Rattle.machine.specs.declared.Table.{Table}
+use Rattle.areas.specs.Bounds.{judgeBounded}
 use Rattle.areas.specs.declared.Areas.{Areas}
 use Rattle.areas.specs.declared.RegisterFile.{RegisterFile}
 use Rattle.processor.specs.Answers.{startNumber, startReason, startRegisters, startAnswer, cycleNumber, cycleReason, cycleRegisters, cycleAnswer, runNumber, runReason, runRegisters, runCount, Given, runAnswer}
@@ -35,13 +36,13 @@ pub record Called : Type 0 where
 abbrev pub called : List ℕ → List ℕ → List ℕ → ℕ → Called
 called m registers out n = record { memory = m; told = told registers out n }
 
--- -4101, -4102, -4111 and -4105 in this order, the last for `registers` and `out`
-unfoldable pub judgeCall : ℕ → ℕ → Areas → ℕ → ℕ → ℕ → Judged
-judgeCall len order areas registers out needed = withRoom (withRoom (judgeBounded len order areas) registers 8) out needed
+-- -4101, -4102, -4111, -4112 and -4105 in this order, the last for `registers` and `out`
+unfoldable pub judgeCall : ℕ → ℕ → Areas → Table → ℕ → ℕ → ℕ → Judged
+judgeCall len order areas table registers out needed = withRoom (withRoom (judgeBounded len order areas table) registers 8) out needed
 
 -- where the areas come with the registers
-abbrev pub judgeWith : ℕ → ℕ → List ℕ → ℕ → ℕ → Judged
-judgeWith len order registers out needed = judgeCall len order (areasIn 4 registers) (length registers) out needed
+abbrev pub judgeWith : ℕ → ℕ → Table → List ℕ → ℕ → ℕ → Judged
+judgeWith len order table registers out needed = judgeCall len order (areasIn 4 registers) table (length registers) out needed
 
 -- what is told of an answer: its registers, its values and its number. A refusal tells its number alone, and leaves `registers` and `out` as they were
 module _ (registers out : List ℕ) where
@@ -73,25 +74,25 @@ module _ (registers out : List ℕ) where
   runTold budget (ran.Spent r) = runWrites budget (ran.Spent r)
   runTold budget (ran.Stopped r x n) = runWrites budget (ran.Stopped r x n)
 
-abbrev pub startIf : Judged → ℕ → Areas → List ℕ → ℕ → ℕ → List ℕ → List ℕ → Called
-startIf (judged.Refused n) order areas m ep handler registers out = called m registers out (refusalNumber n)
-startIf judged.Passed order areas m ep handler registers out =
-    let s = startAnswer order areas m ep handler in
+abbrev pub startIf : Judged → ℕ → Areas → Table → List ℕ → ℕ → ℕ → List ℕ → List ℕ → Called
+startIf (judged.Refused n) order areas table m ep handler registers out = called m registers out (refusalNumber n)
+startIf judged.Passed order areas table m ep handler registers out =
+    let s = startAnswer order areas table m ep handler in
     record { memory = s .memory; told = startTold registers out (s .answer) }
 
-unfoldable pub startCall : ℕ → Areas → List ℕ → ℕ → ℕ → List ℕ → List ℕ → Called
-startCall order areas m ep handler registers out =
-    startIf (judgeCall (length m) order areas (length registers) (length out) 1) order areas m ep handler registers out
+unfoldable pub startCall : ℕ → Areas → Table → List ℕ → ℕ → ℕ → List ℕ → List ℕ → Called
+startCall order areas table m ep handler registers out =
+    startIf (judgeCall (length m) order areas table (length registers) (length out) 1) order areas table m ep handler registers out
 
-abbrev pub cycleIf : Judged → ℕ → List ℕ → List ℕ → List ℕ → Called
-cycleIf (judged.Refused n) order m registers out = called m registers out (refusalNumber n)
-cycleIf judged.Passed order m registers out =
-    let s = cycleAnswer order m (registersOf registers) in
+abbrev pub cycleIf : Judged → ℕ → Table → List ℕ → List ℕ → List ℕ → Called
+cycleIf (judged.Refused n) order table m registers out = called m registers out (refusalNumber n)
+cycleIf judged.Passed order table m registers out =
+    let s = cycleAnswer order table m (registersOf registers) in
     record { memory = s .memory; told = cycleTold registers out (s .answer) }
 
-unfoldable pub cycleCall : ℕ → List ℕ → List ℕ → List ℕ → Called
-cycleCall order m registers out =
-    cycleIf (judgeWith (length m) order registers (length out) 1) order m registers out
+unfoldable pub cycleCall : ℕ → Table → List ℕ → List ℕ → List ℕ → Called
+cycleCall order table m registers out =
+    cycleIf (judgeWith (length m) order table registers (length out) 1) order table m registers out
 
 -- what a run is given, once its registers are read from the lent array
 abbrev pub asRead : Given (List ℕ) → Given RegisterFile
@@ -105,4 +106,4 @@ runIf judged.Passed g out =
 
 unfoldable pub runCall : Given (List ℕ) → List ℕ → Called
 runCall g out =
-    runIf (judgeWith (length (g .memory)) (g .setting .order) (g .registers) (length out) 2) g out
+    runIf (judgeWith (length (g .memory)) (g .setting .order) (g .setting .table) (g .registers) (length out) 2) g out

@@ -12,6 +12,7 @@ use calls::lending::write_registers;
 use calls::lending::write_two;
 use cell::Judged;
 use cell::judgement::refusal_number;
+use machine::Table;
 use processor::Cycled;
 use processor::Ran;
 use processor::Started;
@@ -20,25 +21,33 @@ pub fn judge_call(
     length: usize,
     order: u8,
     areas: Areas,
+    table: Table,
     registers: usize,
     out: usize,
     needed: usize,
 ) -> Judged
-    ensures { λ r. ⌜ r ≡ machines.judgeCall length order areas registers out needed ⌝ }
+    ensures { λ r. ⌜ r ≡ machines.judgeCall length order areas table registers out needed ⌝ }
 {
     with_room(
-        with_room(judge_bounded(length, order, areas), registers, 8),
+        with_room(judge_bounded(length, order, areas, table), registers, 8),
         out,
         needed,
     )
 }
 
 // Where the areas come with the registers.
-pub fn judge_with(length: usize, order: u8, registers: &[u32], out: usize, needed: usize) -> Judged
-    ensures { λ r. ⌜ r ≡ machines.judgeWith length order (now (registers .entry)) out needed ⌝ }
+pub fn judge_with(
+    length: usize,
+    order: u8,
+    table: Table,
+    registers: &[u32],
+    out: usize,
+    needed: usize,
+) -> Judged
+    ensures { λ r. ⌜ r ≡ machines.judgeWith length order table (now (registers .entry)) out needed ⌝ }
 {
     let areas = areas_in(registers, 4);
-    judge_call(length, order, areas, registers.len(), out, needed)
+    judge_call(length, order, areas, table, registers.len(), out, needed)
 }
 
 pub fn tell_started(answer: Started, registers: &mut [u32], out: &mut [u32]) -> u32

@@ -14,7 +14,7 @@ use Rattle.cell.specs.declared.Fetched.{Fetched}
 use Rattle.cell.specs.declared.Fetched.the-variants.{Cell, Failed}
 use Rattle.cell.proofs.MemoryLaws.{store-length}
 use Rattle.machine.specs.declared.Exception.{Exception}
-use Rattle.machine.specs.declared.Exception.the-variants.{Range, Alignment, DataOverflow, DataUnderflow, ReturnOverflow, ReturnUnderflow, Divisor, Illegal, Library}
+use Rattle.machine.specs.declared.Exception.the-variants.{Range, Alignment, DataOverflow, DataUnderflow, ReturnOverflow, ReturnUnderflow, ReadOnly, Divisor, Illegal, Library}
 use Rattle.machine.specs.Exceptions.{exceptionOf, exceptionCode}
 use Rattle.machine.specs.Places.{Width, oneByte, oneCell, placeOf, fetchOf}
 use Rattle.machine.specs.Effects.{Store, Action, Effect, act, raise}
@@ -65,6 +65,7 @@ module _ (machine : Machine) where
   noted-length m DataUnderflow = refl
   noted-length m ReturnOverflow = refl
   noted-length m ReturnUnderflow = refl
+  noted-length m ReadOnly = refl
   noted-length m Divisor = refl
   noted-length m Illegal = refl
   noted-length m Library = refl

@@ -13,7 +13,7 @@ use Rattle.cell.specs.declared.Fetched.{Fetched}
 use Rattle.cell.specs.declared.Fetched.the-variants.{Cell, Failed}
 use Rattle.cell.proofs.MemoryLaws.{set-bytewise, store-bytewise}
 use Rattle.machine.specs.declared.Exception.{Exception}
-use Rattle.machine.specs.declared.Exception.the-variants.{Range, Alignment, DataOverflow, DataUnderflow, ReturnOverflow, ReturnUnderflow, Divisor, Illegal, Library}
+use Rattle.machine.specs.declared.Exception.the-variants.{Range, Alignment, DataOverflow, DataUnderflow, ReturnOverflow, ReturnUnderflow, ReadOnly, Divisor, Illegal, Library}
 use Rattle.machine.specs.Exceptions.{exceptionOf, exceptionCode}
 use Rattle.machine.specs.Places.{Width, oneByte, oneCell, placeOf, fetchOf}
 use Rattle.machine.specs.Effects.{Store, Control, goOn, jump, halt, throwing, Action, Effect, act, raise}
@@ -81,6 +81,7 @@ module _ (machine : Machine) where
   noted-bytewise m DataUnderflow b = b
   noted-bytewise m ReturnOverflow b = b
   noted-bytewise m ReturnUnderflow b = b
+  noted-bytewise m ReadOnly b = b
   noted-bytewise m Divisor b = b
   noted-bytewise m Illegal b = b
   noted-bytewise m Library b = b

@@ -1,9 +1,10 @@
-// Starts a machine on the first rule of document 01 (literals 2 and 3, +, HALT at 10h), runs it, and says why it stopped and after how many cycles.
+// Starts a machine on the first rule of document 01 (literals 2 and 3, +, HALT at 10h), its three cells the table, runs it, and says why it stopped and after how many cycles.
 use areas::Area;
 use areas::Areas;
 use cell::Address;
 use cell::CellCount;
 use libc::STDOUT_FILENO;
+use machine::Table;
 use processor::Ran;
 use processor::Started;
 use processor::entry::run;
@@ -27,11 +28,15 @@ fn main() {
         stack: none,
         returns: none,
     };
-    let Started::Ready(r) = start(0, &mut memory, Address(16), Address(0), areas) else {
+    let table = Table {
+        first: Address(16),
+        end: Address(28),
+    };
+    let Started::Ready(r) = start(0, &mut memory, Address(16), Address(0), areas, table) else {
         io::write_all(STDOUT_FILENO, b"not ready\n");
         return;
     };
-    match run(0, &mut memory, r, 100) {
+    match run(0, &mut memory, table, r, 100) {
         Ran::Refused(_) => {
             io::write_all(STDOUT_FILENO, b"refused\n");
         }

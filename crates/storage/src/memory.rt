@@ -12,7 +12,6 @@ use instruction::Instruction;
 use instruction::shape::fail_byte;
 use instruction::shape::fail_one;
 use instruction::shape::replace;
-use machine::Access;
 use machine::ByteStore;
 use machine::Machine;
 use machine::OneStore;
@@ -74,12 +73,7 @@ pub fn c_fetch(machine: Machine, memory: &[u8], r: Registers) -> OneStore
     let Fetched::Cell(a) = got else {
         return fail_one(got);
     };
-    let got2 = fetch_byte(
-        machine,
-        Access::NamedRead,
-        memory,
-        Address(byte_address(machine.order, a)),
-    );
+    let got2 = fetch_byte(machine, memory, Address(byte_address(machine.order, a)));
     let Fetched::Cell(x) = got2 else {
         return fail_one(got2);
     };

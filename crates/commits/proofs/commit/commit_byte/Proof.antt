@@ -26,8 +26,8 @@ returns c =
     (a .memory)) (a .r) (a .e .sp) (a .e .rp) (effects.byteStores (a .e)) (a .e .then) _ (sym (c .before .before .before .fault-of .ensures) ∙
     c .before .enum-told2 .given .1)))
 
-check-byte-place-requires : tie.Need-check-byte-place-requires
-check-byte-place-requires c κs = search needs
+check-byte-write-requires : tie.Need-check-byte-write-requires
+check-byte-write-requires c κs = search needs
 
 enum-told-3 : tie.Need-enum-told-3
 enum-told-3 c = search needs
@@ -44,7 +44,7 @@ returns-2 c =
     let a = c .before .before .before .before .before .before .before .before .before .args in rw (c .raise2 .ensures, c .before .enum-told4 .given .1) (sym
     (commit-bad (a .machine) (now (a .memory)) (a .r) (a .e .sp) (a .e .rp) (effects.byteStores (a .e)) (a .e .then) _ (sym
     (c .before .before .before .before .before .before .before .fault-of .ensures) ∙ c .before .before .before .before .before .enum-told .given .1) (simp (sym
-    (c .before .before .before .check-byte-place .ensures) ∙ c .before .enum-told4 .given .1))))
+    (c .before .before .before .check-byte-write .ensures) ∙ c .before .enum-told4 .given .1))))
 
 cast-at : tie.Need-cast-at
 cast-at c = search needs
@@ -53,7 +53,7 @@ cast-memory : tie.Need-cast-memory
 cast-memory c = search needs
 
 slice-write-memory : tie.Need-slice-write-memory
-slice-write-memory c = room-byte _ _ _ _ (sym (c .before .before .before .before .check-byte-place .ensures) ∙ c .before .before .enum-told3 .given .1)
+slice-write-memory c = room-byte _ _ _ _ (sym (c .before .before .before .before .check-byte-write .ensures) ∙ c .before .before .enum-told3 .given .1)
 
 settle-requires : tie.Need-settle-requires
 settle-requires c κs = search needs
@@ -68,7 +68,7 @@ returns-3 c =
     (a .machine) (now (a .memory)) (a .r) (a .e .sp) (a .e .rp) (effects.byteStores (a .e)) (a .e .then) (sym
     (c .before .before .before .before .before .before .before .before .before .fault-of .ensures) ∙
     c .before .before .before .before .before .before .before .enum-told .given .1) (simp (sym
-    (c .before .before .before .before .before .check-byte-place .ensures) ∙ c .before .before .before .enum-told3 .given .1))))
+    (c .before .before .before .before .before .check-byte-write .ensures) ∙ c .before .before .before .enum-told3 .given .1))))
 
 pub commit-byte-spec : {M : Type 1} → statement M
 commit-byte-spec =
@@ -79,7 +79,7 @@ commit-byte-spec =
     enum-told-2
     raise-requires
     returns
-    check-byte-place-requires
+    check-byte-write-requires
     enum-told-3
     enum-told-4
     raise-requires-2

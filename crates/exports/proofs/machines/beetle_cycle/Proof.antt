@@ -1,10 +1,19 @@
--- `beetle_cycle` meets its contract: a refusal, or the processor's answer told.
-use mathlib.Core.Path.{sym, _∙_}
-use Rattle.processor_calls.proofs.CallLaws.{call-roomy}
-use Rattle.processor_calls.specs.Machines as machines
+-- `beetle_cycle` meets its contract: judged, then made and told.
 use borrow.Author.Needs.{needs}
 use Rattle.exports.proofs.machines.beetle_cycle.Statement.{statement}
 use Rattle.exports.proofs.machines.beetle_cycle.Tie as tie
+use Rattle.calls.proofs.lending.make_table.Reads as make-table-reads
+use Rattle.calls.proofs.lending.read_registers.Reads as read-registers-reads
+use Rattle.cell.proofs.judgement.refusal_number.Reads as refusal-number-reads
+use Rattle.processor.proofs.entry.cycle.Reads as cycle-reads
+use Rattle.processor_calls.proofs.machines.judge_with.Reads as judge-with-reads
+use Rattle.processor_calls.proofs.machines.tell_cycled.Reads as tell-cycled-reads
+use Rattle.processor_calls.specs.Machines as machines
+use Rattle.processor_calls.proofs.CallLaws.{call-roomy}
+use mathlib.Core.Path.{sym, _∙_}
+
+make-table-requires : tie.Need-make-table-requires
+make-table-requires c κs = search needs
 
 judge-with-requires : tie.Need-judge-with-requires
 judge-with-requires c κs = search needs
@@ -19,20 +28,20 @@ enum-told : tie.Need-enum-told
 enum-told c = search needs
 
 read-registers-requires : tie.Need-read-registers-requires
-read-registers-requires c κs = call-roomy _ _ _ _ _ _ (sym (c .before .before .before .judge-with .ensures) ∙ c .before .enum-told .given .1) .0
+read-registers-requires c κs = call-roomy _ _ _ _ _ _ _ (sym (c .before .before .before .judge-with .ensures) ∙ c .before .enum-told .given .1) .0
 
 cycle-requires : tie.Need-cycle-requires
 cycle-requires c κs = search needs
 
 tell-cycled-requires : tie.Need-tell-cycled-requires
-tell-cycled-requires c κs = call-roomy _ _ _ _ _ _ (sym (c .before .before .before .before .before .before .before .before .before .before .judge-with .ensures) ∙ c .before .before .before .before .before .before .before .before .enum-told .given .1)
+tell-cycled-requires c κs = call-roomy _ _ _ _ _ _ _ (sym (c .before .before .before .before .before .before .before .before .before .before .judge-with .ensures) ∙ c .before .before .before .before .before .before .before .before .enum-told .given .1)
 
 same-length : tie.Need-same-length
 same-length c = search needs
 
 returns : tie.Need-returns
 unfolding machines.cycleCall
-returns c = rw (sym (c .before .before .before .before .judge-with .ensures) ∙ c .before .before .n .given .1, c .refusal-number .ensures)
+returns c = rw (← c .before .before .before .before .before .before .make-table .ensures, sym (c .before .before .before .before .judge-with .ensures) ∙ c .before .before .n .given .1, c .refusal-number .ensures)
 
 same-length-2 : tie.Need-same-length-2
 same-length-2 c = search needs
@@ -45,12 +54,13 @@ same-length-4 c = search needs
 
 returns-2 : tie.Need-returns-2
 unfolding machines.cycleCall
-returns-2 c = rw (sym (c .before .before .before .before .before .before .before .before .before .before .before .before .before .before .before .judge-with .ensures) ∙ c .before .before .before .before .before .before .before .before .before .before .before .before .before .enum-told .given .1, ← c .before .before .before .before .before .before .before .before .before .before .before .read-registers .ensures, ← c .before .before .before .before .before .before .before .before .before .cycle .ensures, ← c .before .before .before .before .tell-cycled .ensures)
+returns-2 c = rw (← c .before .before .before .before .before .before .before .before .before .before .before .before .before .before .before .before .before .make-table .ensures, sym (c .before .before .before .before .before .before .before .before .before .before .before .before .before .before .before .judge-with .ensures) ∙ c .before .before .before .before .before .before .before .before .before .before .before .before .before .enum-told .given .1, ← c .before .before .before .before .before .before .before .before .before .before .before .read-registers .ensures, ← c .before .before .before .before .before .before .before .before .before .cycle .ensures, ← c .before .before .before .before .tell-cycled .ensures)
 
 pub beetle-cycle-spec : {M : Type 1} → statement M
 beetle-cycle-spec =
     tie.close
     (tie.spec
+    make-table-requires
     judge-with-requires
     enum-known-n
     refusal-number-requires

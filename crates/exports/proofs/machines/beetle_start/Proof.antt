@@ -1,13 +1,22 @@
--- `beetle_start` meets its contract: a refusal, or the processor's answer told.
-use mathlib.Core.Path.{sym, _∙_}
-use Rattle.processor_calls.proofs.CallLaws.{call-roomy}
-use Rattle.processor_calls.specs.Machines as machines
+-- `beetle_start` meets its contract: judged, then started and told.
 use borrow.Author.Needs.{needs}
 use Rattle.exports.proofs.machines.beetle_start.Statement.{statement}
 use Rattle.exports.proofs.machines.beetle_start.Tie as tie
+use Rattle.calls.proofs.lending.make_areas.Reads as make-areas-reads
+use Rattle.calls.proofs.lending.make_table.Reads as make-table-reads
+use Rattle.cell.proofs.judgement.refusal_number.Reads as refusal-number-reads
+use Rattle.processor.proofs.entry.start.Reads as start-reads
+use Rattle.processor_calls.proofs.machines.judge_call.Reads as judge-call-reads
+use Rattle.processor_calls.proofs.machines.tell_started.Reads as tell-started-reads
+use Rattle.processor_calls.specs.Machines as machines
+use Rattle.processor_calls.proofs.CallLaws.{call-roomy}
+use mathlib.Core.Path.{sym, _∙_}
 
 make-areas-requires : tie.Need-make-areas-requires
 make-areas-requires c κs = search needs
+
+make-table-requires : tie.Need-make-table-requires
+make-table-requires c κs = search needs
 
 judge-call-requires : tie.Need-judge-call-requires
 judge-call-requires c κs = search needs
@@ -25,11 +34,11 @@ start-requires : tie.Need-start-requires
 start-requires c κs = search needs
 
 tell-started-requires : tie.Need-tell-started-requires
-tell-started-requires c κs = call-roomy _ _ _ _ _ _ (sym (c .before .before .before .before .before .before .before .before .judge-call .ensures) ∙ c .before .before .before .before .before .before .enum-told .given .1)
+tell-started-requires c κs = call-roomy _ _ _ _ _ _ _ (sym (c .before .before .before .before .before .before .before .before .judge-call .ensures) ∙ c .before .before .before .before .before .before .enum-told .given .1)
 
 returns : tie.Need-returns
 unfolding machines.startCall
-returns c = rw (← c .before .before .before .before .before .make-areas .ensures, sym (c .before .before .before .before .judge-call .ensures) ∙ c .before .before .n .given .1, c .refusal-number .ensures)
+returns c = rw (← c .before .before .before .before .before .before .make-areas .ensures, ← c .before .before .before .before .before .make-table .ensures, sym (c .before .before .before .before .judge-call .ensures) ∙ c .before .before .n .given .1, c .refusal-number .ensures)
 
 same-length : tie.Need-same-length
 same-length c = search needs
@@ -42,13 +51,14 @@ same-length-3 c = search needs
 
 returns-2 : tie.Need-returns-2
 unfolding machines.startCall
-returns-2 c = rw (← c .before .before .before .before .before .before .before .before .before .before .before .before .before .before .make-areas .ensures, sym (c .before .before .before .before .before .before .before .before .before .before .before .before .before .judge-call .ensures) ∙ c .before .before .before .before .before .before .before .before .before .before .before .enum-told .given .1, ← c .before .before .before .before .before .before .before .before .before .start .ensures, ← c .before .before .before .before .tell-started .ensures)
+returns-2 c = rw (← c .before .before .before .before .before .before .before .before .before .before .before .before .before .before .before .make-areas .ensures, ← c .before .before .before .before .before .before .before .before .before .before .before .before .before .before .make-table .ensures, sym (c .before .before .before .before .before .before .before .before .before .before .before .before .before .judge-call .ensures) ∙ c .before .before .before .before .before .before .before .before .before .before .before .enum-told .given .1, ← c .before .before .before .before .before .before .before .before .before .start .ensures, ← c .before .before .before .before .tell-started .ensures)
 
 pub beetle-start-spec : {M : Type 1} → statement M
 beetle-start-spec =
     tie.close
     (tie.spec
     make-areas-requires
+    make-table-requires
     judge-call-requires
     enum-known-n
     refusal-number-requires

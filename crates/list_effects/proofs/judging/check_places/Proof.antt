@@ -59,8 +59,8 @@ first-bad-requires-3 c κs = search needs
 enum-known-shape-5 : tie.Need-enum-known-shape-5
 enum-known-shape-5 c = search needs
 
-check-byte-place-requires : tie.Need-check-byte-place-requires
-check-byte-place-requires c κs = search needs
+check-byte-write-requires : tie.Need-check-byte-write-requires
+check-byte-write-requires c κs = search needs
 
 enum-known-shape-6 : tie.Need-enum-known-shape-6
 enum-known-shape-6 c = search needs
@@ -94,7 +94,7 @@ returns-6 c =
 
 returns-7 : tie.Need-returns-7
 unfolding commits.placesOf
-returns-7 c = rw (c .before .before .before .shape5 .given .1) (c .check-byte-place .ensures ∙ sym (first-good _))
+returns-7 c = rw (c .before .before .before .shape5 .given .1) (c .check-byte-write .ensures ∙ sym (first-good _))
 
 returns-8 : tie.Need-returns-8
 returns-8 c = rw (c .before .before .before .before .shape6 .given .1) (c .check-roll .ensures)
@@ -137,7 +137,7 @@ check-places-spec =
     first-bad-requires-2
     first-bad-requires-3
     enum-known-shape-5
-    check-byte-place-requires
+    check-byte-write-requires
     enum-known-shape-6
     check-roll-requires
     enum-known-shape-7

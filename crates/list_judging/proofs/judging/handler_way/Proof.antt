@@ -5,10 +5,9 @@ use Rattle.list_judging.specs.Ways as ways
 use borrow.Author.Needs.{needs}
 use Rattle.list_judging.proofs.judging.handler_way.Statement.{statement}
 use Rattle.list_judging.proofs.judging.handler_way.Tie as tie
-use Rattle.machine.specs.Places as places
 
-check-cell-requires : tie.Need-check-cell-requires
-check-cell-requires c κs = search needs
+check-named-requires : tie.Need-check-named-requires
+check-named-requires c κs = search needs
 
 enum-told : tie.Need-enum-told
 enum-told c = search needs
@@ -17,8 +16,7 @@ enum-told-2 : tie.Need-enum-told-2
 enum-told-2 c = search needs
 
 returns : tie.Need-returns
-unfolding places.placeOf
-returns c = simp (sym (c .before .before .check-cell .ensures) ∙ c .enum-told2 .given .1)
+returns c = simp (sym (c .before .before .check-named .ensures .0) ∙ c .enum-told2 .given .1)
 
 entry-at-requires : tie.Need-entry-at-requires
 entry-at-requires c κs = search needs
@@ -27,16 +25,15 @@ to-entry-requires : tie.Need-to-entry-requires
 to-entry-requires c κs = search needs
 
 returns-2 : tie.Need-returns-2
-unfolding places.placeOf
 returns-2 c =
-    simp (sym (c .before .before .before .before .check-cell .ensures) ∙ c .before .before .enum-told .given .1) (c .to-entry .ensures ∙ ap (ways.toEntry
+    simp (sym (c .before .before .before .before .check-named .ensures .0) ∙ c .before .before .enum-told .given .1) (c .to-entry .ensures ∙ ap (ways.toEntry
     NoHandler) (c .before .entry-at .ensures))
 
 pub handler-way-spec : {M : Type 1} → statement M
 handler-way-spec =
     tie.close
     (tie.spec
-    check-cell-requires
+    check-named-requires
     enum-told
     enum-told-2
     returns

@@ -9,8 +9,8 @@ use Rattle.list_judging.proofs.judging.throw_way.Tie as tie
 subtract-requires : tie.Need-subtract-requires
 subtract-requires c κs = search needs
 
-check-data-requires : tie.Need-check-data-requires
-check-data-requires c κs = search needs
+check-push-requires : tie.Need-check-push-requires
+check-push-requires c κs = search needs
 
 enum-told : tie.Need-enum-told
 enum-told c = search needs
@@ -23,7 +23,7 @@ returns c =
     let args = c .before .before .before .before .before .before .before .before .args in
     let table = args .table .now in
     push-bad (args .machine) (now (args .memory)) (entryBelow table (args .image .base .0) (rows table)) (args .image .base .0) (args .image .cells .0) (args .sp) (args .e)
-    (c .before .before .before .subtract .result) (c .before .before .before .subtract .ensures) (c .before .before .check-data .result) (c .before .before .check-data .ensures .1)
+    (c .before .before .before .subtract .result) (c .before .before .before .subtract .ensures) (c .before .before .check-push .result) (c .before .before .check-push .ensures)
     _ (c .enum-told2 .given .1)
 
 address-at-requires : tie.Need-address-at-requires
@@ -38,7 +38,7 @@ returns-2 c =
     let table = args .table .now in
     push-meets (args .machine) (now (args .memory)) (entryBelow table (args .image .base .0) (rows table)) (args .image .base .0) (args .image .cells .0) (args .sp) (args .e)
     (c .before .before .before .before .before .before .subtract .result) (c .before .before .before .before .before .before .subtract .ensures)
-    (c .before .before .before .before .before .check-data .result) (c .before .before .before .before .before .check-data .ensures .1)
+    (c .before .before .before .before .before .check-push .result) (c .before .before .before .before .before .check-push .ensures)
     (c .before .before .before .enum-told .given .1) (c .before .before .address-at .result) (c .before .before .address-at .ensures) (c .before .meets .result)
     (c .before .meets .ensures) (c .if1 .taken)
 
@@ -55,8 +55,8 @@ returns-3 c =
     push-there (args .machine) (now (args .memory)) (entryBelow table (args .image .base .0) (rows table)) (args .image .base .0) (args .image .cells .0) (args .sp) (args .e)
     (c .before .before .before .before .before .before .before .before .before .before .before .subtract .result)
     (c .before .before .before .before .before .before .before .before .before .before .before .subtract .ensures)
-    (c .before .before .before .before .before .before .before .before .before .before .check-data .result)
-    (c .before .before .before .before .before .before .before .before .before .before .check-data .ensures .1)
+    (c .before .before .before .before .before .before .before .before .before .before .check-push .result)
+    (c .before .before .before .before .before .before .before .before .before .before .check-push .ensures)
     (c .before .before .before .before .before .before .before .before .enum-told .given .1)
     (c .before .before .before .before .before .before .before .address-at .result)
     (c .before .before .before .before .before .before .before .address-at .ensures) (c .before .before .before .before .before .before .meets .result)
@@ -77,8 +77,8 @@ returns-4 c =
     push-elsewhere (args .machine) (now (args .memory)) (entryBelow table (args .image .base .0) (rows table)) (args .image .base .0) (args .image .cells .0) (args .sp) (args .e)
     (c .before .before .before .before .before .before .before .before .before .before .before .subtract .result)
     (c .before .before .before .before .before .before .before .before .before .before .before .subtract .ensures)
-    (c .before .before .before .before .before .before .before .before .before .before .check-data .result)
-    (c .before .before .before .before .before .before .before .before .before .before .check-data .ensures .1)
+    (c .before .before .before .before .before .before .before .before .before .before .check-push .result)
+    (c .before .before .before .before .before .before .before .before .before .before .check-push .ensures)
     (c .before .before .before .before .before .before .before .before .enum-told .given .1)
     (c .before .before .before .before .before .before .before .address-at .result)
     (c .before .before .before .before .before .before .before .address-at .ensures) (c .before .before .before .before .before .before .meets .result)
@@ -90,7 +90,7 @@ throw-way-spec =
     tie.close
     (tie.spec
     subtract-requires
-    check-data-requires
+    check-push-requires
     enum-told
     enum-told-2
     returns

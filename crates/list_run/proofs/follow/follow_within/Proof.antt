@@ -23,30 +23,31 @@ mul-size c =
     let e = sym (c .before .before .judge-begin .ensures) ∙ c .enum-told .given .1 in omega (
       arith,
       items-most (args .kinds .now) (args .operands .now)
-          (begin-checked (length (args .memory .now)) (args .order) (args .areas) (args .kinds .now) (args .operands .now) e),
+          (begin-checked (length (args .memory .now)) (args .order) (args .areas) (args .table) (args .kinds .now) (args .operands .now) e),
     )
 
 machine-of-requires : tie.Need-machine-of-requires
 machine-of-requires c κs =
     let args = c .before .before .before .before .before .before .args in
-    let e = sym (c .before .before .judge-begin .ensures) ∙ c .enum-told .given .1 in (
-      begin-lent (length (args .memory .now)) (args .order) (args .areas) (args .kinds .now) (args .operands .now) e .most,
-      begin-areas (length (args .memory .now)) (args .order) (args .areas) (args .kinds .now) (args .operands .now) e,
+    let e = sym (c .before .before .judge-begin .ensures) ∙ c .enum-told .given .1 in
+    let l = begin-lent (length (args .memory .now)) (args .order) (args .areas) (args .table) (args .kinds .now) (args .operands .now) e in (
+      (omega (arith, l .least), l .most),
+      begin-areas (length (args .memory .now)) (args .order) (args .areas) (args .table) (args .kinds .now) (args .operands .now) e,
     )
 
 sub-follow-checked : tie.Need-sub-follow-checked
 sub-follow-checked c = search needs
 
-part-table-start : tie.Need-part-table-start
-part-table-start c = search needs
+part-layout-start : tie.Need-part-layout-start
+part-layout-start c = search needs
 
-part-table-end : tie.Need-part-table-end
-part-table-end c =
+part-layout-end : tie.Need-part-layout-end
+part-layout-end c =
     let args = c .before .before .before .before .before .before .before .before .args in
     let e = sym (c .before .before .before .before .judge-begin .ensures) ∙ c .before .before .enum-told .given .1 in omega (
       arith,
       items-most (args .kinds .now) (args .operands .now)
-          (begin-checked (length (args .memory .now)) (args .order) (args .areas) (args .kinds .now) (args .operands .now) e),
+          (begin-checked (length (args .memory .now)) (args .order) (args .areas) (args .table) (args .kinds .now) (args .operands .now) e),
     )
 
 follow-checked-requires : tie.Need-follow-checked-requires
@@ -54,17 +55,17 @@ follow-checked-requires c κs =
     let args = c .before .before .before .before .before .before .before .before .before .args in
     let e = sym (c .before .before .before .before .before .judge-begin .ensures) ∙ c .before .before .before .enum-told .given .1 in (
       (
-        begin-lent (length (args .memory .now)) (args .order) (args .areas) (args .kinds .now) (args .operands .now) e,
+        begin-lent (length (args .memory .now)) (args .order) (args .areas) (args .table) (args .kinds .now) (args .operands .now) e,
         rw (c .before .before .machine-of .ensures)
-            (begin-fits (length (args .memory .now)) (args .order) (args .areas) (args .kinds .now) (args .operands .now) e),
+            (begin-fits (length (args .memory .now)) (args .order) (args .areas) (args .table) (args .kinds .now) (args .operands .now) e),
       ),
-      (begin-checked (length (args .memory .now)) (args .order) (args .areas) (args .kinds .now) (args .operands .now) e, search needs),
+      (begin-checked (length (args .memory .now)) (args .order) (args .areas) (args .table) (args .kinds .now) (args .operands .now) e, search needs),
     )
 
 returns : tie.Need-returns
 returns c =
     let args = c .before .before .before .before .before .before .before .args in
-    begin-refused (args .room) (args .order) (args .areas) (args .kinds .now)
+    begin-refused (args .room) (args .order) (args .areas) (args .table) (args .kinds .now)
     (args .operands .now) (args .base .0) (args .memory .now) (args .start) (args .items) _
     (sym (c .before .before .before .judge-begin .ensures) ∙ c .before .r .given .1)
 
@@ -76,7 +77,7 @@ returns-2 c =
     let args = c .before .before .before .before .before .before .before .before .before .before .before .before .before .args in
     let machine = c .before .before .before .before .before .before .machine-of .ensures in
     begin-passed (args .room)
-    (args .order) (args .areas) (args .kinds .now) (args .operands .now) (args .base .0) (args .memory .now) (args .start) (args .items) _
+    (args .order) (args .areas) (args .table) (args .kinds .now) (args .operands .now) (args .base .0) (args .memory .now) (args .start) (args .items) _
     (sym (c .before .before .before .before .before .before .before .before .before .judge-begin .ensures)
     ∙ c .before .before .before .before .before .before .before .enum-told .given .1)
     (rw machine at (c .before .before .before .follow-checked .ensures))
@@ -91,8 +92,8 @@ follow-within-spec =
     mul-size
     machine-of-requires
     sub-follow-checked
-    part-table-start
-    part-table-end
+    part-layout-start
+    part-layout-end
     follow-checked-requires
     returns
     same-length

@@ -14,7 +14,7 @@ returns : tie.Need-returns
 returns c =
     let args = c .before .before .before .before .before .before .before .args in (
       c .before .before .list-resume .ensures,
-      as-packed (args .order) (args .areas)
+      as-packed (args .order) (args .areas) (args .table)
           (args .kinds .now) (args .operands .now) (args .base .0) (args .memory .now) (args .sp) (args .rp) (args .items) (λ i.
           c .before .before .before .before .before .shared-slice-known2 .given i .fits) _ (c .before .before .list-resume .result)
           (c .before .before .list-resume .ensures),

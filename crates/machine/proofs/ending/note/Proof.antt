@@ -1,6 +1,7 @@
 use borrow.Author.Needs.{needs}
 use Rattle.machine.proofs.ending.note.Statement.{statement}
 use Rattle.machine.proofs.ending.note.Tie as tie
+use Rattle.cell.proofs.memory.store.Reads as store-reads
 
 enum-known-e : tie.Need-enum-known-e
 enum-known-e c = search needs
@@ -35,6 +36,9 @@ enum-told-6 c = search needs
 enum-told-7 : tie.Need-enum-told-7
 enum-told-7 c = search needs
 
+enum-told-8 : tie.Need-enum-told-8
+enum-told-8 c = search needs
+
 same-length : tie.Need-same-length
 same-length c = search needs
 
@@ -48,25 +52,28 @@ returns-2 : tie.Need-returns-2
 returns-2 c = rw (c .before .before .before .before .before .e2 .given .1) (c .before .before .store2 .ensures)
 
 returns-3 : tie.Need-returns-3
-returns-3 c = search needs
+returns-3 c = rw (c .enum-told .given .1)
 
 returns-4 : tie.Need-returns-4
-returns-4 c = search needs
+returns-4 c = rw (c .enum-told2 .given .1)
 
 returns-5 : tie.Need-returns-5
-returns-5 c = search needs
+returns-5 c = rw (c .enum-told3 .given .1)
 
 returns-6 : tie.Need-returns-6
-returns-6 c = search needs
+returns-6 c = rw (c .enum-told4 .given .1)
 
 returns-7 : tie.Need-returns-7
-returns-7 c = search needs
+returns-7 c = rw (c .enum-told5 .given .1)
 
 returns-8 : tie.Need-returns-8
-returns-8 c = search needs
+returns-8 c = rw (c .enum-told6 .given .1)
 
 returns-9 : tie.Need-returns-9
-returns-9 c = search needs
+returns-9 c = rw (c .enum-told7 .given .1)
+
+returns-10 : tie.Need-returns-10
+returns-10 c = rw (c .enum-told8 .given .1)
 
 pub note-spec : {M : Type 1} → statement M
 note-spec =
@@ -83,6 +90,7 @@ note-spec =
     enum-told-5
     enum-told-6
     enum-told-7
+    enum-told-8
     same-length
     returns
     same-length-2
@@ -93,4 +101,5 @@ note-spec =
     returns-6
     returns-7
     returns-8
-    returns-9)
+    returns-9
+    returns-10)

@@ -2,6 +2,12 @@
 use borrow.Author.Needs.{needs}
 use Rattle.machine.proofs.ending.throw.Statement.{statement}
 use Rattle.machine.proofs.ending.throw.Tie as tie
+use Rattle.cell.proofs.memory.store.Reads as store-reads
+use Rattle.cell.proofs.number.subtract.Reads as subtract-reads
+use Rattle.machine.proofs.ending.handle.Reads as handle-reads
+use Rattle.machine.proofs.ending.note.Reads as note-reads
+use Rattle.machine.proofs.exceptions.code_of.Reads as code-of-reads
+use Rattle.machine.proofs.places.check_push.Reads as check-push-reads
 use Rattle.machine.proofs.CommitLaws.{room-place}
 use Rattle.machine.specs.declared.Access.the-variants.{Push}
 use Rattle.machine.specs.Throws as throws
@@ -13,8 +19,8 @@ use mathlib.Core.Path.{sym, _∙_}
 subtract-requires : tie.Need-subtract-requires
 subtract-requires c κs = search needs
 
-check-data-requires : tie.Need-check-data-requires
-check-data-requires c κs = search needs
+check-push-requires : tie.Need-check-push-requires
+check-push-requires c κs = search needs
 
 enum-told : tie.Need-enum-told
 enum-told c = search needs
@@ -24,7 +30,7 @@ enum-told-2 c = search needs
 
 returns : tie.Need-returns
 unfolding throws.throwOf
-returns c = rw (← c .before .before .before .subtract .ensures, sym (c .before .before .check-data .ensures .1) ∙ c .enum-told2 .given .1)
+returns c = rw (← c .before .before .before .subtract .ensures, sym (c .before .before .check-push .ensures) ∙ c .enum-told2 .given .1)
 
 note-requires : tie.Need-note-requires
 note-requires c κs = search needs
@@ -33,16 +39,11 @@ code-of-requires : tie.Need-code-of-requires
 code-of-requires c κs = search needs
 
 store-requires : tie.Need-store-requires
-store-requires c κs =
-    let a = c .before .before .before .before .before .before .before .before .before .before .before .args in omega (
-      arith,
-      c .before .before .before .before .note .kept .1 .0,
-      room-place (a .machine) Push (length (now (a .memory)))
-          (c .before .before .before .before .before .before .before .before .before .subtract .result)
-          (c .before .before .before .before .before .before .before .before .before .before .before .pre .0 .whole) (sym
-          (c .before .before .before .before .before .before .before .before .check-data .ensures .1) ∙
-          c .before .before .before .before .before .before .enum-told .given .1),
-    )
+store-requires c κs = let a = c .before .before .before .before .before .before .before .before .before .before .before .args in omega (
+  arith,
+  c .before .before .before .before .note .kept .1 .0,
+  room-place (a .machine) Push (length (now (a .memory))) (c .before .before .before .before .before .before .before .before .before .subtract .result) (c .before .before .before .before .before .before .before .before .before .before .before .pre .0 .whole) (sym (c .before .before .before .before .before .before .before .before .check-push .ensures) ∙ c .before .before .before .before .before .before .enum-told .given .1),
+)
 
 handle-requires : tie.Need-handle-requires
 handle-requires c κs = search needs
@@ -52,26 +53,15 @@ same-length c = search needs
 
 returns-2 : tie.Need-returns-2
 unfolding throws.throwOf
-returns-2 c =
-    rw (
-      ← c .before .before .before .before .before .before .before .before .before .before .before .before .before .before .before .before .subtract .ensures,
-      sym (c .before .before .before .before .before .before .before .before .before .before .before .before .before .before .before .check-data .ensures .1) ∙
-          c .before .before .before .before .before .before .before .before .before .before .before .before .before .enum-told .given .1,
-    ) (rw (
-      ←
-          c .before .before .before .before .before .before .before .before .before .before .before .note .ensures,
-      ←
-          c .before .before .before .before .before .before .before .code-of .ensures,
-      ← c .before .before .before .before .before .before .store .ensures,
-    )
-    (c .before .before .handle .ensures))
+returns-2 c = rw (← c .before .before .before .before .before .before .before .before .before .before .before .before .before .before .before .before .subtract .ensures, sym (c .before .before .before .before .before .before .before .before .before .before .before .before .before .before .before .check-push .ensures) ∙ c .before .before .before .before .before .before .before .before .before .before .before .before .before .enum-told .given .1)
+    (rw (← c .before .before .before .before .before .before .before .before .before .before .before .note .ensures, ← c .before .before .before .before .before .before .before .code-of .ensures, ← c .before .before .before .before .before .before .store .ensures) (c .before .before .handle .ensures))
 
 pub throw-spec : {M : Type 1} → statement M
 throw-spec =
     tie.close
     (tie.spec
     subtract-requires
-    check-data-requires
+    check-push-requires
     enum-told
     enum-told-2
     returns

@@ -1,6 +1,7 @@
 use borrow.Author.Needs.{needs}
 use Rattle.machine.proofs.exceptions.tell.Statement.{statement}
 use Rattle.machine.proofs.exceptions.tell.Tie as tie
+use Rattle.machine.proofs.exceptions.tell_end.Reads as tell-end-reads
 use Rattle.machine.specs.Exceptions as exceptions
 
 enum-known-f : tie.Need-enum-known-f
@@ -30,6 +31,9 @@ enum-told-2 c = search needs
 enum-told-3 : tie.Need-enum-told-3
 enum-told-3 c = search needs
 
+enum-told-4 : tie.Need-enum-told-4
+enum-told-4 c = search needs
+
 returns : tie.Need-returns
 unfolding exceptions.exceptionOf
 returns c = rw (c .before .f .given .1)
@@ -58,6 +62,10 @@ returns-7 : tie.Need-returns-7
 unfolding exceptions.exceptionOf
 returns-7 c = rw (c .enum-told3 .given .1)
 
+returns-8 : tie.Need-returns-8
+unfolding exceptions.exceptionOf
+returns-8 c = rw (c .enum-told4 .given .1)
+
 pub tell-spec : {M : Type 1} → statement M
 tell-spec =
     tie.close
@@ -71,10 +79,12 @@ tell-spec =
     enum-told
     enum-told-2
     enum-told-3
+    enum-told-4
     returns
     returns-2
     returns-3
     returns-4
     returns-5
     returns-6
-    returns-7)
+    returns-7
+    returns-8)

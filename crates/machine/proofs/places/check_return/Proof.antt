@@ -1,43 +1,28 @@
 use borrow.Author.Needs.{needs}
 use Rattle.machine.proofs.places.check_return.Statement.{statement}
 use Rattle.machine.proofs.places.check_return.Tie as tie
-use Rattle.machine.proofs.SpanLaws.{within-inside, place-good, place-off, place-outside}
-use Rattle.machine.specs.declared.Access.the-variants.{ReturnRead, ReturnWrite}
-use mathlib.Core.Path.{sym, _∙_}
+use Rattle.machine.proofs.places.is_within.Reads as is-within-reads
+use Rattle.machine.proofs.SpanLaws.{found, place-good, place-off, place-outside}
+use Rattle.machine.specs.declared.Access.the-variants.{ReturnRead}
+use Rattle.machine.specs.Places.{oneCell}
+use mathlib.Core.Path.{refl, sym, _∙_}
 
 is-within-requires : tie.Need-is-within-requires
 is-within-requires c κs = search needs
 
 returns : tie.Need-returns
-returns c =
-    let a = c .before .before .args in
-    let w = c .before .is-within in (
-      sym (place-good (a .machine) ReturnRead (a .length) (a .address .0)
-          (within-inside (a .machine .returns) (a .length) (a .address .0) (w .result) (c .before .before .pre .returns-end) (w .ensures) (c .if1 .taken))
-          (sym (w .ensures) ∙ c .if1 .taken)),
-      sym (place-good (a .machine) ReturnWrite (a .length) (a .address .0)
-          (within-inside (a .machine .returns) (a .length) (a .address .0) (w .result) (c .before .before .pre .returns-end) (w .ensures) (c .if1 .taken))
-          (sym (w .ensures) ∙ c .if1 .taken)),
-    )
+returns c = let a = c .before .before .args in
+    let f = found (a .machine .returns) (a .length) (a .address .0) (c .before .is-within .result) (c .before .before .pre .returns .ends) (c .before .is-within .ensures) (c .if1 .taken) in
+    sym (place-good (a .machine) oneCell ReturnRead (a .length) (a .address .0) (f .inside) (f .both) (refl))
 
 cast-if2 : tie.Need-cast-if2
 cast-if2 c = search needs
 
 returns-2 : tie.Need-returns-2
-returns-2 c =
-    let a = c .before .before .before .before .args in (
-      sym (place-off (a .machine) ReturnRead (a .length) (a .address .0) (c .if2 .taken)
-          (sym (c .before .before .before .is-within .ensures) ∙ c .before .before .if1 .left)),
-      sym (place-off (a .machine) ReturnWrite (a .length) (a .address .0) (c .if2 .taken)
-          (sym (c .before .before .before .is-within .ensures) ∙ c .before .before .if1 .left)),
-    )
+returns-2 c = let a = c .before .before .before .before .args in sym (place-off (a .machine) oneCell ReturnRead (a .length) (a .address .0) (c .if2 .taken) (sym (c .before .before .before .is-within .ensures) ∙ c .before .before .if1 .left))
 
 returns-3 : tie.Need-returns-3
-returns-3 c =
-    let a = c .before .before .before .before .args in (
-      sym (place-outside (a .machine) ReturnRead (a .length) (a .address .0) (c .if2 .left)),
-      sym (place-outside (a .machine) ReturnWrite (a .length) (a .address .0) (c .if2 .left)),
-    )
+returns-3 c = let a = c .before .before .before .before .args in sym (place-outside (a .machine) oneCell ReturnRead (a .length) (a .address .0) (c .if2 .left))
 
 pub check-return-spec : {M : Type 1} → statement M
 check-return-spec = tie.close (tie.spec is-within-requires returns cast-if2 returns-2 returns-3)

@@ -9,11 +9,11 @@ check-data-requires : tie.Need-check-data-requires
 check-data-requires c κs = search needs
 
 fetch-at-requires : tie.Need-fetch-at-requires
-fetch-at-requires c κs = λ g. room-place _ _ _ _ (c .before .before .pre .whole) (sym (c .check-data .ensures .0) ∙ g)
+fetch-at-requires c κs = λ g. room-place _ _ _ _ (c .before .before .pre .whole) (sym (c .check-data .ensures) ∙ g)
 
 returns : tie.Need-returns
 unfolding places.fetchOf
-returns c = rw (← c .before .check-data .ensures .0) (c .fetch-at .ensures)
+returns c = rw (← c .before .check-data .ensures) (c .fetch-at .ensures)
 
 pub fetch-data-spec : {M : Type 1} → statement M
 fetch-data-spec = tie.close (tie.spec check-data-requires fetch-at-requires returns)

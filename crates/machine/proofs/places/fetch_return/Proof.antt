@@ -9,11 +9,11 @@ check-return-requires : tie.Need-check-return-requires
 check-return-requires c κs = search needs
 
 fetch-at-requires : tie.Need-fetch-at-requires
-fetch-at-requires c κs = λ g. room-place _ _ _ _ (c .before .before .pre .whole) (sym (c .check-return .ensures .0) ∙ g)
+fetch-at-requires c κs = λ g. room-place _ _ _ _ (c .before .before .pre .whole) (sym (c .check-return .ensures) ∙ g)
 
 returns : tie.Need-returns
 unfolding places.fetchOf
-returns c = rw (← c .before .check-return .ensures .0) (c .fetch-at .ensures)
+returns c = rw (← c .before .check-return .ensures) (c .fetch-at .ensures)
 
 pub fetch-return-spec : {M : Type 1} → statement M
 fetch-return-spec = tie.close (tie.spec check-return-requires fetch-at-requires returns)

@@ -1,6 +1,7 @@
 use borrow.Author.Needs.{needs}
 use Rattle.machine.proofs.places.is_within.Statement.{statement}
 use Rattle.machine.proofs.places.is_within.Tie as tie
+use Rattle.cell.proofs.number.subtract.Reads as subtract-reads
 use Rattle.machine.proofs.SpanLaws.{rotated-within}
 
 subtract-requires : tie.Need-subtract-requires
@@ -19,11 +20,7 @@ cast-result : tie.Need-cast-result
 cast-result c = search needs
 
 returns : tie.Need-returns
-returns c =
-    let a = c .before .before .before .before .args in
-    rw (c .before .subtract .ensures)
-    (rotated-within (a .span .floor .0) (a .span .cells .0) (a .address .0) (c .before .before .before .before .pre .0)
-    (c .before .before .before .before .pre .1) (search needs))
+returns c = let a = c .before .before .args in rw (c .before .subtract .ensures) (rotated-within (a .last .0) (a .cells .0) (a .address .0) (c .before .before .pre .0) (c .before .before .pre .1) (search needs) (search needs))
 
 pub is-within-spec : {M : Type 1} → statement M
 is-within-spec =

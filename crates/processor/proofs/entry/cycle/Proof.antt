@@ -20,10 +20,10 @@ enum-told : tie.Need-enum-told
 enum-told c = search needs
 
 machine-of-requires : tie.Need-machine-of-requires
-machine-of-requires c κs = let a = c .before .before .before .before .before .before .args in let e = sym (c .before .before .before .judge-bounded .ensures) ∙ c .before .enum-told .given .1 in (lent (length (now (a .memory))) (a .order) (a .r .areas) e .most, areas-pass (length (now (a .memory))) (a .order) (a .r .areas) e)
+machine-of-requires c κs = let a = c .before .before .before .before .before .before .args in let e = sym (c .before .before .before .judge-bounded .ensures) ∙ c .before .enum-told .given .1 in let l = lent (length (now (a .memory))) (a .order) (a .r .areas) (a .table) e in ((omega (arith, l .least), l .most), areas-pass (length (now (a .memory))) (a .order) (a .r .areas) (a .table) e)
 
 run-cycles-requires : tie.Need-run-cycles-requires
-run-cycles-requires c κs = let a = c .before .before .before .before .before .before .before .before .args in let e = sym (c .before .before .before .before .before .judge-bounded .ensures) ∙ c .before .before .before .enum-told .given .1 in (rw (c .before .machine-of .ensures) (passed-fits (a .order) (length (now (a .memory))) (a .r .areas) e), omega (arith, lent (length (now (a .memory))) (a .order) (a .r .areas) e .least))
+run-cycles-requires c κs = let a = c .before .before .before .before .before .before .before .before .args in let e = sym (c .before .before .before .before .before .judge-bounded .ensures) ∙ c .before .before .before .enum-told .given .1 in (rw (c .before .machine-of .ensures) (passed-fits (length (now (a .memory))) (a .order) (a .r .areas) (a .table) e), omega (arith, lent (length (now (a .memory))) (a .order) (a .r .areas) (a .table) e .least))
 
 cycled-as-requires : tie.Need-cycled-as-requires
 cycled-as-requires c κs = search needs

@@ -1,5 +1,6 @@
 -- `start` meets its contract: a refusal, or the four cells and NEXT.
 use mathlib.Core.Path.{sym, _∙_}
+use native.Mathlib.Omega.{arith}
 use denote.Ref.{now}
 use lib.ListN.{length}
 use Rattle.areas.proofs.AreaLaws.{lent, areas-pass, passed-fits}
@@ -18,16 +19,16 @@ enum-told : tie.Need-enum-told
 enum-told c = search needs
 
 first-sp-requires : tie.Need-first-sp-requires
-first-sp-requires c κs = let a = c .before .before .before .before .args in let p = lent (length (now (a .memory))) (a .order) (a .areas) (sym (c .before .before .judge-bounded .ensures) ∙ c .enum-told .given .1) in (p .least, p .most)
+first-sp-requires c κs = let a = c .before .before .before .before .args in let p = lent (length (now (a .memory))) (a .order) (a .areas) (a .table) (sym (c .before .before .judge-bounded .ensures) ∙ c .enum-told .given .1) in (p .least, p .most)
 
 first-rp-requires : tie.Need-first-rp-requires
-first-rp-requires c κs = let a = c .before .before .before .before .before .args in lent (length (now (a .memory))) (a .order) (a .areas) (sym (c .before .before .before .judge-bounded .ensures) ∙ c .before .enum-told .given .1) .most
+first-rp-requires c κs = let a = c .before .before .before .before .before .args in lent (length (now (a .memory))) (a .order) (a .areas) (a .table) (sym (c .before .before .before .judge-bounded .ensures) ∙ c .before .enum-told .given .1) .most
 
 machine-of-requires : tie.Need-machine-of-requires
-machine-of-requires c κs = let a = c .before .before .before .before .before .before .args in let e = sym (c .before .before .before .before .judge-bounded .ensures) ∙ c .before .before .enum-told .given .1 in (lent (length (now (a .memory))) (a .order) (a .areas) e .most, areas-pass (length (now (a .memory))) (a .order) (a .areas) e)
+machine-of-requires c κs = let a = c .before .before .before .before .before .before .args in let e = sym (c .before .before .before .before .judge-bounded .ensures) ∙ c .before .before .enum-told .given .1 in let l = lent (length (now (a .memory))) (a .order) (a .areas) (a .table) e in ((omega (arith, l .least), l .most), areas-pass (length (now (a .memory))) (a .order) (a .areas) (a .table) e)
 
 begin-requires : tie.Need-begin-requires
-begin-requires c κs = let a = c .before .before .before .before .before .before .before .before .args in let e = sym (c .before .before .before .before .before .before .judge-bounded .ensures) ∙ c .before .before .before .before .enum-told .given .1 in (rw (c .before .machine-of .ensures) (passed-fits (a .order) (length (now (a .memory))) (a .areas) e), lent (length (now (a .memory))) (a .order) (a .areas) e .least)
+begin-requires c κs = let a = c .before .before .before .before .before .before .before .before .args in let e = sym (c .before .before .before .before .before .before .judge-bounded .ensures) ∙ c .before .before .before .before .enum-told .given .1 in (rw (c .before .machine-of .ensures) (passed-fits (length (now (a .memory))) (a .order) (a .areas) (a .table) e), lent (length (now (a .memory))) (a .order) (a .areas) (a .table) e .least)
 
 started-as-requires : tie.Need-started-as-requires
 started-as-requires c κs = search needs
