@@ -1,3 +1,4 @@
 -- The laws.
+pub mod Untouched
 pub mod Places
 pub mod Cycles

@@ -1,67 +1,75 @@
 -- Good places of a stack lie in its area.
-use mathlib.Core.Path.{_≡_, refl, sym}
-use mathlib.Core.Bool.{Bool, true, false, not, _&&_, true≢false}
+use mathlib.Core.Path.{_≡_}
+use mathlib.Core.Bool.{true}
 use Prim.{tt}
-use Prim.Native.Nat.{ℕ, _+_, _-_, _*_, _%_}
+use Prim.Native.Nat.{ℕ, _+_, _-_, _*_, _%_, _≤_}
 use native.Mathlib.Omega.{arith}
-use lib.Dec.{ltb, leb, eqb}
-use borrow.Author.Tests.{ltb-true, leb-true, eqb-false}
+use lib.Dec.{ltb, leb}
+use borrow.Author.Tests.{ltb-true, leb-true, eqb-true}
 use Rattle.cell.specs.declared.Checked.the-variants.{Good}
 use Rattle.cell.proofs.BooleanLaws.{both-true}
-use Rattle.machine.specs.Places.{oneCell, within, placeOf}
+use Rattle.machine.specs.Places.{oneCell, spanAt, within, writable, allowed, placeOf}
+use Rattle.machine.specs.declared.Table.{Table}
+use Rattle.machine.specs.declared.Machine.{Machine}
 use Rattle.machine.specs.declared.Access.{Access}
 use Rattle.machine.specs.declared.Access.the-variants.{DataRead, DataWrite, ReturnRead, ReturnWrite, NamedRead, NamedWrite, Stream, Push}
 use Rattle.machine.proofs.CommitLaws.{good-placed}
-use Rattle.machine.specs.declared.Table.{Table}
-use Rattle.areas.specs.Areas.{heldUnderData, heldUnderReturn, bytesWith, Placed}
+use Rattle.areas.specs.Areas.{heldUnderData, heldUnderReturn, Placed}
 use Rattle.areas.specs.Bounds.{spanOf, machineOf}
 use Rattle.areas.specs.declared.Area.{Area}
 use Rattle.areas.specs.declared.Areas.{Areas}
 use Rattle.areas.proofs.AreaLaws.{Taken, taken, areas-pass}
 use Rattle.area_laws.specs.Staying.{Given, CellOf, CellFor, PlacesStay}
 
-untrue : (t : Bool) → not t ≡ true → t ≡ false
-untrue true e = absurd (true≢false (sym e))
-untrue false e = refl
+-- an aligned address within so many cells that end at top is that of one of them
+cell-in : (top cells a : ℕ) → top % 4 ≡ 0 → 4 ≤ top → a % 4 ≡ 0 → within (spanAt (top - 4) cells) a ≡ true → (top ≤ a + 4 * cells) × (a + 4 ≤ top)
+cell-in top cells a t h w e =
+    let p = both-true (leb (top - 4 + 4) (a + 4 * cells)) (ltb a (top - 4 + 4)) e in
+    let lo = leb-true (top - 4 + 4) (a + 4 * cells) (p .0) in
+    let hi = ltb-true a (top - 4 + 4) (p .1) in
+    (omega (arith, h, lo), omega (arith, h, t, w, hi))
 
--- an aligned address within the span of an area is that of one of its cells
+-- so of the cells of an area and those held under it
 cell-of : (len held : ℕ) (area : Area) (a : ℕ) → Placed len held area → a % 4 ≡ 0 → within (spanOf held area) a ≡ true → CellOf held area a
 cell-of len held area a p w e =
-    let t = both-true (leb (area .top .0 - bytesWith held area) a) (ltb a (area .top .0 - bytesWith held area + 4 * (area .cells .0 + held))) e in
-    let lo = leb-true (area .top .0 - bytesWith held area) a (t .0) in
-    let hi = ltb-true a (area .top .0 - bytesWith held area + 4 * (area .cells .0 + held)) (t .1) in
-    record { from = omega (arith, p .begins, lo); up = omega (arith, p .begins, p .aligned, w, hi) }
+    let c = cell-in (area .top .0) (area .cells .0 + held) a (p .aligned) (omega (arith, p .begins, p .some)) w e in
+    record { from = c .0; up = c .1 }
 
-module _ (len order : ℕ) (areas : Areas) (table : Table) (g : Given len order areas) where
+module _ (len order : ℕ) (areas : Areas) (table : Table) (g : Given len order areas table) where
+  abbrev machine : Machine
+  machine = machineOf order areas table len
+
   facts : Taken len areas
-  facts = taken len areas (g .some) (areas-pass len order areas (g .passed))
+  facts = taken len areas (g .some) (areas-pass len order areas table (g .passed))
 
-  stack-cell : (a : ℕ) → a % 4 ≡ 0 → within (machineOf order areas table len .stack) a ≡ true → CellOf heldUnderData (areas .stack) a
+  stack-cell : (a : ℕ) → a % 4 ≡ 0 → within (machine .stack) a ≡ true → CellOf heldUnderData (areas .stack) a
   stack-cell a w e = cell-of len heldUnderData (areas .stack) a (facts .stack) w (rw (g .some) at e)
 
-  return-cell : (a : ℕ) → a % 4 ≡ 0 → within (machineOf order areas table len .returns) a ≡ true → CellOf heldUnderReturn (areas .returns) a
+  return-cell : (a : ℕ) → a % 4 ≡ 0 → within (machine .returns) a ≡ true → CellOf heldUnderReturn (areas .returns) a
   return-cell a w e = cell-of len heldUnderReturn (areas .returns) a (facts .returns) w (rw (g .some) at e)
 
   -- a data write is above the held cell
-  data-cell : (a : ℕ) → a % 4 ≡ 0 → (within (machineOf order areas table len .stack) a && not (eqb a (machineOf order areas table len .held .0))) ≡ true
-      → CellOf 0 (areas .stack) a
+  data-cell : (a : ℕ) → a % 4 ≡ 0 → within (writable machine) a ≡ true → CellOf 0 (areas .stack) a
   data-cell a w e =
-      let t = both-true (within (machineOf order areas table len .stack) a) (not (eqb a (machineOf order areas table len .held .0))) e in
-      let s = stack-cell a w (t .0) in
-      let n = eqb-false a (areas .stack .top .0 - bytesWith heldUnderData (areas .stack)) (rw (g .some) at (untrue (eqb a (machineOf order areas table len .held .0)) (t .1))) in
       let p = facts .stack in
-      record { from = omega (arith, s .from, s .up, p .begins, p .aligned, w, n); up = s .up }
+      let c = cell-in (areas .stack .top .0) (areas .stack .cells .0) a (p .aligned) (omega (arith, p .begins, p .some)) w (rw (g .some) at e) in
+      record { from = omega (arith, c .0); up = c .1 }
+
+  -- what is asked of a good place beside the table: that it is aligned, and where its stack may have it
+  placed-in : (access : Access) (a : ℕ) → a % 4 ≡ 0 → allowed machine access a ≡ true → CellFor areas access a
+  placed-in DataRead a w e = stack-cell a w e
+  placed-in DataWrite a w e = data-cell a w e
+  placed-in ReturnRead a w e = return-cell a w e
+  placed-in ReturnWrite a w e = return-cell a w e
+  placed-in NamedRead a w e = tt
+  placed-in NamedWrite a w e = tt
+  placed-in Stream a w e = tt
+  placed-in Push a w e = stack-cell a w e
 
   -- whatever the length of the memory
-  pub places-in : (long : ℕ) (access : Access) (a : ℕ) → placeOf (machineOf order areas table len) oneCell access long a ≡ Good → CellFor areas access a
-  places-in long DataRead a e = let p = good-placed (machineOf order areas table len) DataRead long a e in stack-cell a (p .aligned) (p .allows)
-  places-in long DataWrite a e = let p = good-placed (machineOf order areas table len) DataWrite long a e in data-cell a (p .aligned) (p .allows)
-  places-in long ReturnRead a e = let p = good-placed (machineOf order areas table len) ReturnRead long a e in return-cell a (p .aligned) (p .allows)
-  places-in long ReturnWrite a e = let p = good-placed (machineOf order areas table len) ReturnWrite long a e in return-cell a (p .aligned) (p .allows)
-  places-in long NamedRead a e = tt
-  places-in long NamedWrite a e = tt
-  places-in long Stream a e = tt
-  places-in long Push a e = let p = good-placed (machineOf order areas table len) Push long a e in stack-cell a (p .aligned) (p .allows)
+  pub places-in : (long : ℕ) (access : Access) (a : ℕ) → placeOf machine oneCell access long a ≡ Good → CellFor areas access a
+  places-in long access a e =
+      let p = good-placed machine oneCell access long a e in placed-in access a (eqb-true (a % 4) 0 (p .aligned)) (p .allows)
 
 pub places-stay : PlacesStay
-places-stay len order areas g access a e = places-in len order areas g len access a e
+places-stay len order areas table g access a e = places-in len order areas table g len access a e

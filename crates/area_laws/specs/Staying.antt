@@ -15,6 +15,7 @@ use Rattle.machine.specs.Places.{Width, oneByte, oneCell, placeOf}
 use Rattle.machine.specs.Effects.{Store, Effect, act, raise}
 use Rattle.machine.specs.Commits.{touches}
 use Rattle.machine.specs.Throws.{CycleState}
+use Rattle.machine.specs.declared.Table.{Table}
 use Rattle.machine.specs.declared.Machine.{Machine}
 use Rattle.machine.specs.declared.Registers.{Registers}
 use Rattle.machine.specs.declared.Access.{Access}
@@ -25,13 +26,12 @@ use Rattle.instruction.specs.Dispatch.{OperandClass, next, plain, taking, opera
 use Rattle.instruction.specs.declared.Instruction.{Instruction}
 use Rattle.cycles.specs.Cycles.{shifted, cycleOf, cyclesOf}
 use Rattle.cycles.specs.Counts.{begun}
-use Rattle.machine.specs.declared.Table.{Table}
 use Rattle.areas.specs.Areas.{heldUnderData, heldUnderReturn, bytesWith, none}
 use Rattle.areas.specs.Bounds.{judgeBounded, machineOf}
 use Rattle.areas.specs.declared.Area.{Area}
 use Rattle.areas.specs.declared.Areas.{Areas}
 
--- areas that were taken, for a memory's length and a byte order
+-- areas that were taken, and a table with them, for a memory's length and a byte order
 pub record Given (len order : ℕ) (areas : Areas) (table : Table) : Type 0 where
   pub passed : judgeBounded len order areas table ≡ Passed
   pub some : none areas ≡ false
@@ -55,7 +55,7 @@ CellFor areas Push a = CellOf heldUnderData (areas .stack) a
 -- a place that is found good lies there
 abbrev pub PlacesStay : Type 0
 PlacesStay =
-    (len order : ℕ) (areas : Areas) (table : Table) → Given len order areas → (access : Access) (a : ℕ)
+    (len order : ℕ) (areas : Areas) (table : Table) → Given len order areas table → (access : Access) (a : ℕ)
     → placeOf (machineOf order areas table len) oneCell access len a ≡ Good
     → CellFor areas access a
 
@@ -106,7 +106,7 @@ pub record Off (areas : Areas) (a : ℕ) : Type 0 where
 abbrev pub StackWritesStay : Type 0
 StackWritesStay =
     (order : ℕ) (areas : Areas) (table : Table) (m : List ℕ) (r : Registers) (a : ℕ)
-    → Given (length m) order areas
+    → Given (length m) order areas table
     → Off areas a
     → names (machineOf order areas table (length m)) m r a ≡ false
     → getD (cycleOf (machineOf order areas table (length m)) m r .memory) a 0 ≡ getD m a 0
@@ -119,7 +119,7 @@ after machine m r k = cyclesOf machine k (begun m r)
 abbrev pub RunWritesStay : Type 0
 RunWritesStay =
     (order : ℕ) (areas : Areas) (table : Table) (m : List ℕ) (r : Registers) (a n : ℕ)
-    → Given (length m) order areas
+    → Given (length m) order areas table
     → Off areas a
     → ((k : ℕ) → k < n
     → names (machineOf order areas table (length m)) (after (machineOf order areas table (length m)) m r k .memory)
