@@ -6,9 +6,12 @@ use Rattle.cell.specs.Number.{sum, difference, negated}
 use Rattle.cell.specs.Division.{symmetricOf, flooredOf}
 use Rattle.cell.specs.Shift.{asr8}
 use Rattle.cell.specs.Refusals.{judgeMachine}
-use Rattle.areas.specs.Areas.{judgeAreas, judgeBounded}
-use Rattle.machine.specs.Places.{placeOf, fetchOf}
+use Rattle.areas.specs.Areas.{judgeAreas}
+use Rattle.areas.specs.Tables.{judgeTable}
+use Rattle.areas.specs.Bounds.{judgeBounded}
+use Rattle.machine.specs.Places.{placeOf, fetchOf, fetchByteOf}
 use Rattle.machine.specs.Exceptions.{exceptionOf}
+use Rattle.machine.specs.Effects.{rollStores}
 use Rattle.machine.specs.Commits.{placesOf, storedOf, commitOf}
 use Rattle.machine.specs.Throws.{handlerOf, throwOf, throwingOf, nextOf, finishOf}
 use Rattle.instruction.specs.Plain.{plainOf}
@@ -34,7 +37,7 @@ use Rattle.worked.specs.Rows.{tableHolds}
 use Rattle.worked.specs.Table.{table}
 
 pub worked-on-paper : tableHolds table ≡ true
-unfolding tableHolds cellAt storeCell sum difference negated symmetricOf flooredOf asr8 placeOf fetchOf exceptionOf placesOf storedOf commitOf handlerOf throwOf throwingOf
-    nextOf finishOf plainOf plusEnds takingOf decodeOf executeOf cycleOf advance cyclesOf startOf judgeMachine judgeAreas judgeBounded startAnswer cycleAnswer doneOf runAnswer classOf
+unfolding tableHolds cellAt storeCell sum difference negated symmetricOf flooredOf asr8 placeOf fetchOf fetchByteOf exceptionOf rollStores placesOf storedOf commitOf handlerOf throwOf throwingOf
+    nextOf finishOf plainOf plusEnds takingOf decodeOf executeOf cycleOf advance cyclesOf startOf judgeMachine judgeAreas judgeTable judgeBounded startAnswer cycleAnswer doneOf runAnswer classOf
     fits pack any entry judgedFrom judgedListing judgedArrays cur word cells rounds settle settled marks image countOf judgeLoad copied loadOf loadFirstOf
 worked-on-paper = refl

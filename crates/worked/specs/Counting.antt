@@ -3,6 +3,7 @@
 use mathlib.Core.List.{List, [], _∷_}
 use Prim.Native.Nat.{ℕ, _-_, _^_}
 use Rattle.cell.specs.Memory.{storeCell}
+use Rattle.machine.specs.Places.{noTable}
 use Rattle.areas.specs.Areas.{noAreas, filed}
 use Rattle.processor.specs.Answers.{CycleAnswer, cycleAnswer}
 use Rattle.worked.specs.Rows.{Row, numbers, lists}
@@ -13,7 +14,7 @@ counting order index limit step = storeCell order (storeCell order (storeCell or
 
 abbrev pub stepped : ℕ → ℕ → ℕ → ℕ → CycleAnswer
 stepped order index limit step =
-    cycleAnswer order (counting order index limit step) (filed noAreas (record { ep = 0x24; a = 0xFFFFFE4F; sp = 0x200; rp = 0x300 }))
+    cycleAnswer order noTable (counting order index limit step) (filed noAreas (record { ep = 0x24; a = 0xFFFFFE4F; sp = 0x200; rp = 0x300 }))
 
 -- the loop ends: index and limit are dropped, nothing is written, and the next cell follows
 abbrev pub ends : ℕ → ℕ → ℕ → ℕ → Row

@@ -2,7 +2,9 @@
 pub mod Rows
 pub mod Processor
 pub mod Counting
+pub mod Cycling
 pub mod Areas
+pub mod Tables
 pub mod Packing
 pub mod Modules
 pub mod Table

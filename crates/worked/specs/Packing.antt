@@ -2,6 +2,7 @@
 use mathlib.Core.List.{List, [], _∷_, map}
 use Prim.Native.Nat.{ℕ, _+_}
 use Rattle.cell.specs.Memory.{storeCell}
+use Rattle.machine.specs.Places.{noTable}
 use Rattle.areas.specs.Areas.{noAreas}
 use Rattle.processor.specs.Answers.{StartAnswer, startAnswer, RunAnswer, givenOf, runAnswer}
 use Rattle.pack_layout.specs.Worked as packed
@@ -24,18 +25,18 @@ firstImage (r ∷ rs) = packed.rowImage r
 
 -- the first row's image at 10h, started there
 abbrev pub ready : ℕ → StartAnswer
-ready order = startAnswer order noAreas (laid order blank 0x10 (firstImage packed.worked)) 0x10 0
+ready order = startAnswer order noAreas noTable (laid order blank 0x10 (firstImage packed.worked)) 0x10 0
 
 -- and run: reason 5, four cycles
 abbrev pub ranFirst : ℕ → RunAnswer
-ranFirst order = runAnswer (givenOf order (ready order .memory) (ready order .registers) 100)
+ranFirst order = runAnswer (givenOf order noTable (ready order .memory) (ready order .registers) 100)
 
 -- the same run cut after three cycles: spent, and carried on it stops in the first. Document 02, (m)
 abbrev pub cutFirst : ℕ → RunAnswer
-cutFirst order = runAnswer (givenOf order (ready order .memory) (ready order .registers) 3)
+cutFirst order = runAnswer (givenOf order noTable (ready order .memory) (ready order .registers) 3)
 
 abbrev pub cutThen : ℕ → RunAnswer
-cutThen order = runAnswer (givenOf order (cutFirst order .memory) (cutFirst order .registers) 97)
+cutThen order = runAnswer (givenOf order noTable (cutFirst order .memory) (cutFirst order .registers) 97)
 
 abbrev pub runRows : ℕ → List Row
 runRows order =

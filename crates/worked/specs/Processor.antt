@@ -3,6 +3,7 @@ use mathlib.Core.List.{List, [], _∷_}
 use Prim.Native.Nat.{ℕ, _-_, _^_}
 use lib.ListN.{replicate}
 use Rattle.cell.specs.Memory.{cellAt, storeCell}
+use Rattle.machine.specs.Places.{noTable}
 use Rattle.areas.specs.Areas.{noAreas, filed}
 use Rattle.processor.specs.Answers.{StartAnswer, startAnswer, CycleAnswer, cycleAnswer}
 use Rattle.worked.specs.Rows.{Row, numbers, lists}
@@ -17,7 +18,7 @@ operands order = storeCell order (storeCell order blank 0x304 (2 ^ 32 - 7)) 0x30
 
 -- one cycle
 abbrev pub after : ℕ → List ℕ → ℕ → ℕ → CycleAnswer
-after order m opcode sp = cycleAnswer order m (filed noAreas (record { ep = 0x10; a = opcode; sp = sp; rp = 0x400 }))
+after order m opcode sp = cycleAnswer order noTable m (filed noAreas (record { ep = 0x10; a = opcode; sp = sp; rp = 0x400 }))
 
 -- what stands below the top of the data stack at 300h, and on top
 abbrev pub pair : ℕ → List ℕ → ℕ → ℕ → Row
@@ -25,10 +26,10 @@ pair order m x y = numbers (cellAt order m 0x304) x ∷ numbers (cellAt order m 
 
 -- R> at 10h, started there, and its first cycle
 abbrev pub started : ℕ → StartAnswer
-started order = startAnswer order noAreas (storeCell order blank 0x10 0x0D) 0x10 0x20
+started order = startAnswer order noAreas noTable (storeCell order blank 0x10 0x0D) 0x10 0x20
 
 abbrev pub popped : ℕ → CycleAnswer
-popped order = cycleAnswer order (started order .memory) (started order .registers)
+popped order = cycleAnswer order noTable (started order .memory) (started order .registers)
 
 abbrev pub processorRows : ℕ → List Row
 processorRows order =
