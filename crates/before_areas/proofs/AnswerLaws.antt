@@ -1,18 +1,20 @@
--- With four zeros for areas, start, cycle, run and the list machine's calls answer what they answered before.
+-- With four zeros for areas and two for a table, start, cycle, run and the list machine's calls answer what they answered before.
 use mathlib.Core.Path.{_≡_, refl}
 use mathlib.Core.List.{List}
 use Prim.Native.Nat.{ℕ}
 use lib.ListN.{length}
-use Rattle.cell.specs.Refusals.{after, judgeMachine, Lent}
+use Rattle.cell.specs.Refusals.{judgeMachine, Lent}
 use Rattle.cell.specs.declared.Judged.{Judged}
 use Rattle.cell.specs.declared.Judged.the-variants.{Passed, Refused}
 use Rattle.cell.proofs.JudgementLaws.{both-pass, machine-good}
+use Rattle.machine.specs.Places.{noTable}
 use Rattle.machine.specs.Throws.{CycleState}
 use Rattle.machine.specs.declared.Registers.{Registers}
 use Rattle.machine.specs.declared.Ended.{Ended}
 use Rattle.machine.specs.declared.Ended.the-variants.{Went, Threw, Stopped}
-use Rattle.areas.specs.Areas.{noAreas, judgeAreas, judgeBounded}
-use Rattle.areas.specs.Bounds.{machineOf}
+use Rattle.areas.specs.Areas.{noAreas, judgeAreas}
+use Rattle.areas.specs.Tables.{judgeTable}
+use Rattle.areas.specs.Bounds.{judgeBounded, machineOf}
 use Rattle.cycles.specs.Counts.{begun}
 use Rattle.processor.specs.Answers.{startedAs, startIf, startAnswer, cycledAs, cycleIf, cycleAnswer, ranAs, givenOf, runIf, runAnswer}
 use Rattle.pack_layout.specs.Listing.{Listing, listed}
@@ -20,19 +22,16 @@ use Rattle.list_machine.specs.Runs.{resuming}
 use Rattle.list_proposing.specs.Stands.{positionOf}
 use Rattle.list_proposing.specs.declared.Stand.{Stand}
 use Rattle.list_run.specs.Follow.{judgeBegin, judgeImage, judgeFollow, followIf, resumeIn}
+use Rattle.before_tables.proofs.AnswerLaws.{after-passed}
 use Rattle.before_areas.specs.Cycles.{startBefore, cycleBefore, cyclesBefore, doneBefore}
 use Rattle.before_areas.specs.Answers.{withZeros, startedBefore, startIfBefore, startAnswerBefore, cycledBefore, cycleIfBefore, cycleAnswerBefore, ranBefore, runIfBefore, runAnswerBefore, judgeBefore, resumeIfBefore, resumeBefore}
 use Rattle.before_areas.specs.Claims.{SameStartAnswer, SameCycleAnswer, SameRunAnswer, SameResume}
 use Rattle.before_areas.proofs.CycleLaws.{same-start, same-cycle, same-cycles, same-done}
 use Rattle.before_areas.proofs.ListLaws.{same-run}
 
--- four zeros are never refused
-after-passed : (j : Judged) → after j Passed ≡ j
-after-passed Passed = refl
-after-passed (Refused n) = refl
-
-pub no-areas : (len order : ℕ) → judgeBounded len order noAreas ≡ judgeMachine len order
-unfolding judgeBounded judgeAreas
+-- four zeros and two are never refused
+pub no-areas : (len order : ℕ) → judgeBounded len order noAreas noTable ≡ judgeMachine len order
+unfolding judgeBounded judgeAreas judgeTable
 no-areas len order = after-passed (judgeMachine len order)
 
 starts : (r : Registers) (e : Ended) → startedAs noAreas r e ≡ startedBefore r e
@@ -56,21 +55,21 @@ module _ (order : ℕ) (m : List ℕ) where
   lent-of e = machine-good (length m) order e .lent
 
   start-if : (ep handler : ℕ) (j : Judged) → judgeMachine (length m) order ≡ j
-      → startIf j order noAreas m ep handler ≡ startIfBefore j order m ep handler
+      → startIf j order noAreas noTable m ep handler ≡ startIfBefore j order m ep handler
   start-if ep handler (Refused n) e = refl
   start-if ep handler Passed e =
       let t : CycleState = startBefore order m ep handler in
       rw (same-start order m ep handler (lent-of e), starts (t .result .registers) (t .result .ended))
 
   cycle-if : (r : Registers) (j : Judged) → judgeMachine (length m) order ≡ j
-      → cycleIf j order m (withZeros r) ≡ cycleIfBefore j order m r
+      → cycleIf j order noTable m (withZeros r) ≡ cycleIfBefore j order m r
   cycle-if r (Refused n) e = refl
   cycle-if r Passed e =
       let t : CycleState = cycleBefore order m r in
       rw (same-cycle order m r (lent-of e), cycled (t .result .registers) (t .result .ended))
 
   run-if : (r : Registers) (budget : ℕ) (j : Judged) → judgeMachine (length m) order ≡ j
-      → runIf j (givenOf order m (withZeros r) budget) ≡ runIfBefore j order m r budget
+      → runIf j (givenOf order noTable m (withZeros r) budget) ≡ runIfBefore j order m r budget
   run-if r budget (Refused n) e = refl
   run-if r budget Passed e =
       let n : ℕ = doneBefore order budget (begun m r) in
@@ -91,7 +90,7 @@ same-run-answer order m r budget = rw (no-areas (length m) order) (run-if order 
 
 -- the list machine
 judged : (len order : ℕ) (kinds operands : List ℕ) (base : ℕ) (room : Judged)
-    → judgeFollow len order noAreas kinds operands base room ≡ judgeBefore len order kinds operands base room
+    → judgeFollow len order noAreas noTable kinds operands base room ≡ judgeBefore len order kinds operands base room
 unfolding judgeFollow judgeBegin judgeImage judgeBefore
 judged len order kinds operands base room = rw (no-areas len order)
 
@@ -101,7 +100,7 @@ module _ (order : ℕ) (kinds operands : List ℕ) (base : ℕ) (m : List ℕ) (
   passed-lent e = lent-of order m (both-pass _ _ (both-pass _ _ e .0) .0)
 
   resume-if : (start : Stand) (items : ℕ) (j : Judged) → judgeBefore (length m) order kinds operands base room ≡ j
-      → followIf j (machineOf order noAreas (length m)) base (listed kinds operands) m start items
+      → followIf j (machineOf order noAreas noTable (length m)) base (listed kinds operands) m start items
       ≡ resumeIfBefore j order kinds operands base m start items
   resume-if start items (Refused r) e = refl
   resume-if start items Passed e =

@@ -1,4 +1,4 @@
--- The exported calls, where the four numbers of the areas are zeros, leave and answer what they did.
+-- The exported calls, where the four numbers of the areas and the two of the table are zeros, leave and answer what they did.
 use mathlib.Core.Path.{_≡_, refl}
 use mathlib.Core.List.{List}
 use Prim.Native.Nat.{ℕ, _≤_}
@@ -7,6 +7,7 @@ use lib.ListN.{length}
 use borrow.Author.Tests.{le-ltb}
 use Rattle.cell.specs.declared.Judged.{Judged}
 use Rattle.cell.specs.declared.Judged.the-variants.{Passed, Refused}
+use Rattle.machine.specs.Places.{noTable}
 use Rattle.machine.specs.Throws.{CycleState}
 use Rattle.machine.specs.declared.Registers.{Registers}
 use Rattle.machine.specs.declared.Ended.{Ended}
@@ -28,7 +29,7 @@ use Rattle.before_areas.specs.Claims.{eight, six, SameStartCall, SameCyc
 use Rattle.before_areas.proofs.AnswerLaws.{no-areas, same-start-answer, same-cycle-answer, same-run-answer, same-resume}
 
 -- an array that has room for the areas had room before
-judges : (len order size out needed : ℕ) → 8 ≤ size → judgeCall len order noAreas size out needed ≡ judgeCallBefore len order size out needed
+judges : (len order size out needed : ℕ) → 8 ≤ size → judgeCall len order noAreas noTable size out needed ≡ judgeCallBefore len order size out needed
 unfolding judgeCall judgeCallBefore
 judges len order size out needed h = rw (no-areas len order, le-ltb size 8 h, le-ltb size 4 (omega (arith, h)))
 
@@ -42,7 +43,7 @@ module _ (order : ℕ) (m out : List ℕ) (e a s r : ℕ) (rest : List ℕ) wher
   abbrev judgement : ℕ → Judged
   judgement needed = judgeCallBefore (length m) order (length (eight e a s r rest)) (length out) needed
 
-  judged : (needed : ℕ) → judgeCall (length m) order noAreas (length (eight e a s r rest)) (length out) needed ≡ judgement needed
+  judged : (needed : ℕ) → judgeCall (length m) order noAreas noTable (length (eight e a s r rest)) (length out) needed ≡ judgement needed
   judged needed = judges (length m) order (length (eight e a s r rest)) (length out) needed room
 
   -- start
@@ -61,7 +62,7 @@ module _ (order : ℕ) (m out : List ℕ) (e a s r : ℕ) (rest : List ℕ) wher
       start-told (t .result .registers) (t .result .ended)
 
   start-if : (ep handler : ℕ) (j : Judged)
-      → startIf j order noAreas m ep handler (eight e a s r rest) out ≡ startCallIf order m (eight e a s r rest) out j ep handler
+      → startIf j order noAreas noTable m ep handler (eight e a s r rest) out ≡ startCallIf order m (eight e a s r rest) out j ep handler
   unfolding startAnswerBefore
   start-if ep handler (Refused n) = refl
   start-if ep handler Passed =
@@ -82,7 +83,7 @@ module _ (order : ℕ) (m out : List ℕ) (e a s r : ℕ) (rest : List ℕ) wher
       let t : CycleState = cycleBefore order m q in
       cycle-told (t .result .registers) (t .result .ended)
 
-  cycle-if : (j : Judged) → cycleIf j order m (eight e a s r rest) out ≡ cycleCallIf order m (eight e a s r rest) out j
+  cycle-if : (j : Judged) → cycleIf j order noTable m (eight e a s r rest) out ≡ cycleCallIf order m (eight e a s r rest) out j
   unfolding cycleAnswerBefore
   cycle-if (Refused n) = refl
   cycle-if Passed =
@@ -106,7 +107,7 @@ module _ (order : ℕ) (m out : List ℕ) (e a s r : ℕ) (rest : List ℕ) wher
       run-told budget (t .result .registers) n (t .result .ended)
 
   run-if : (budget : ℕ) (j : Judged)
-      → runIf j (givenOf order m (eight e a s r rest) budget) out ≡ runCallIf order m (eight e a s r rest) out j budget
+      → runIf j (givenOf order noTable m (eight e a s r rest) budget) out ≡ runCallIf order m (eight e a s r rest) out j budget
   unfolding runAnswerBefore
   run-if budget (Refused n) = refl
   run-if budget Passed =

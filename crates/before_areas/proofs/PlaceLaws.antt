@@ -1,62 +1,38 @@
--- Places: where the stacks may have every cell of memory, a place is good just where it was, and a bad one throws what it threw.
+-- Places: where the stacks may have every cell of memory and there is no table, a place is good just where it was, and a bad one throws what it threw.
 use mathlib.Core.Path.{_≡_, refl, sym}
 use mathlib.Core.Bool.{Bool, true, false, _&&_, true≢false}
 use mathlib.Core.List.{List}
-use Prim.Native.Nat.{ℕ, _+_, _*_, _/_, _%_, _^_, _<_}
+use Prim.Native.Nat.{ℕ, _+_, _-_, _*_, _/_, _%_, _<_}
 use native.Mathlib.Omega.{arith}
 use lib.Dec.{ltb, eqb}
 use lib.ListN.{length}
-use borrow.Author.Tests.{ltb-true, le-leb, lt-ltb, ne-eqb}
+use borrow.Author.Tests.{ltb-true, le-leb, lt-ltb}
 use Rattle.cell.specs.Choice.{if}
-use Rattle.cell.specs.Place.{address, read}
+use Rattle.cell.specs.Place.{address}
 use Rattle.cell.specs.Refusals.{Lent}
-use Rattle.cell.specs.declared.Address.{Address}
-use Rattle.cell.specs.declared.Fault.{Fault}
-use Rattle.cell.specs.declared.Fault.the-variants.{Range, Alignment, Divisor, Illegal, Library}
-use Rattle.cell.specs.declared.Checked.{Checked}
+use Rattle.cell.specs.declared.Fault.the-variants.{Range, Alignment}
 use Rattle.cell.specs.declared.Checked.the-variants.{Good, Bad}
-use Rattle.cell.specs.declared.Fetched.{Fetched}
-use Rattle.cell.specs.declared.Fetched.the-variants.{Cell, Failed}
-use Rattle.machine.specs.Places.{Width, oneByte, oneCell, wholeMemory, unbounded, within, allowed, faultAt, placeOf, fetchOf, fetchByteOf}
+use Rattle.machine.specs.Places.{Width, oneByte, oneCell, wholeMemory, noTable, unbounded, within, allowed, faultAt, openTo, placeOf, fetchOf, fetchByteOf}
 use Rattle.machine.specs.Exceptions.{exceptionOf}
-use Rattle.machine.specs.declared.Machine.{Machine}
 use Rattle.machine.specs.declared.Access.{Access}
 use Rattle.machine.specs.declared.Access.the-variants.{DataRead, DataWrite, ReturnRead, ReturnWrite, NamedRead, NamedWrite, Stream, Push}
-use Rattle.machine.specs.declared.Exception.the-variants as thrown
-use Rattle.instruction.specs.Plain.{fetchDeep}
-use Rattle.before_areas.specs.Plain.{fetchDeepBefore}
-use Rattle.before_areas.specs.Places.{placeBefore, fetchBefore, fetchByteBefore}
-
--- a fault of the machine and the fault of before: the same is thrown for both
-pub data Told (machine : Machine) : Fault → Fault → Type 0 where
-  range : {a : Address} → Told machine (Range a) (Range a)
-  unaligned : {f : Fault} {a : Address} → exceptionOf machine f ≡ thrown.Alignment a → Told machine f (Alignment a)
-  divisor : Told machine Divisor Divisor
-  illegal : Told machine Illegal Illegal
-  library : Told machine Library Library
-
--- two judgements of a place
-pub data Judges (machine : Machine) : Checked → Checked → Type 0 where
-  good : Judges machine Good Good
-  bad : {f g : Fault} → Told machine f g → Judges machine (Bad f) (Bad g)
-
--- two fetches
-pub data Fetches (machine : Machine) : Fetched → Fetched → Type 0 where
-  cell : {x : ℕ} → Fetches machine (Cell x) (Cell x)
-  fails : {f g : Fault} → Told machine f g → Fetches machine (Failed f) (Failed g)
-
-reads : {machine : Machine} {c d : Checked} (x : ℕ) → Judges machine c d → Fetches machine (read c x) (read d x)
-reads x good = cell
-reads x (bad t) = fails t
+use Rattle.before_tables.proofs.EffectLaws.{Told, Judges, good, bad, Alike, reads}
+use Rattle.before_tables.proofs.MachineLaws.{spared}
+use Rattle.before_areas.specs.Places.{placeBefore, fetchBefore, fetchByteBefore, readingBefore}
+use Rattle.before_areas.specs.Throws.{thrownBefore}
 
 module _ (order len : ℕ) (lent : Lent len) where
   -- every place in memory is allowed
   within-all : (a : ℕ) → a < len → within (wholeMemory len) a ≡ true
-  within-all a h = simp (le-leb 0 a (omega arith), lt-ltb a (0 + 4 * (len / 4)) (omega (arith, lent .whole)))
+  within-all a h =
+      simp (
+        le-leb (len - 4 + 4) (a + 4 * (len / 4)) (omega (arith, lent .whole, lent .least)),
+        lt-ltb a (len - 4 + 4) (omega (arith, lent .least)),
+      )
 
-  allowed-all : (access : Access) (a : ℕ) → a < len → allowed (unbounded order len) access a ≡ true
+  allowed-all : (access : Access) (a : ℕ) → a < len → allowed (unbounded order noTable len) access a ≡ true
   allowed-all DataRead a h = within-all a h
-  allowed-all DataWrite a h = simp (within-all a h, ne-eqb a 0xFFFFFFFF (omega (arith, lent .most)))
+  allowed-all DataWrite a h = within-all a h
   allowed-all ReturnRead a h = within-all a h
   allowed-all ReturnWrite a h = within-all a h
   allowed-all NamedRead a h = refl
@@ -65,48 +41,59 @@ module _ (order len : ℕ) (lent : Lent len) where
   allowed-all Push a h = within-all a h
 
   -- an unaligned one throws -23
-  tells : (access : Access) (a : ℕ) → eqb (a % 4) 0 ≡ false → exceptionOf (unbounded order len) (faultAt access a) ≡ thrown.Alignment (address a)
+  odd : (access : Access) (a : ℕ) → eqb (a % 4) 0 ≡ false
+      → Told (unbounded order noTable len) thrownBefore (faultAt access a) (Alignment (address a))
   unfolding exceptionOf
-  tells DataRead a e = rw e
-  tells DataWrite a e = rw e
-  tells ReturnRead a e = rw e
-  tells ReturnWrite a e = rw e
-  tells NamedRead a e = refl
-  tells NamedWrite a e = refl
-  tells Stream a e = refl
-  tells Push a e = rw e
+  odd DataRead a e = rw e
+  odd DataWrite a e = rw e
+  odd ReturnRead a e = rw e
+  odd ReturnWrite a e = rw e
+  odd NamedRead a e = refl
+  odd NamedWrite a e = refl
+  odd Stream a e = refl
+  odd Push a e = rw e
 
-  pub same-place : (w : Width) (access : Access) (a : ℕ) → Judges (unbounded order len) (placeOf (unbounded order len) w access len a) (placeBefore w len a)
+  far : (a : ℕ) → Told (unbounded order noTable len) thrownBefore (Range (address a)) (Range (address a))
+  unfolding exceptionOf
+  far a = refl
+
+  pub same-place : (w : Width) (access : Access) (a : ℕ)
+      → Judges (unbounded order noTable len) thrownBefore (placeOf (unbounded order noTable len) w access len a) (placeBefore w len a)
   unfolding placeOf placeBefore
-  same-place oneByte access a = go (ltb a len)
+  same-place oneByte access a =
+      rw (spared (unbounded order noTable len) refl access a)
+      (go (ltb a len) (allowed (unbounded order noTable len) access a) (λ h. allowed-all access a (ltb-true a len h)))
     where
-      go : (t : Bool) → Judges (unbounded order len) (if t Good (Bad (Range (address a)))) (if t Good (Bad (Range (address a))))
-      go true = good
-      go false = bad range
-  same-place oneCell access a = go (ltb a len) (allowed (unbounded order len) access a) (eqb (a % 4) 0) (λ h. allowed-all access a (ltb-true a len h)) refl refl
+      go : (s t : Bool) → (s ≡ true → t ≡ true)
+          → Judges (unbounded order noTable len) thrownBefore
+          (openTo (if s (if (t && true) Good (Bad (faultAt access a))) (Bad (Range (address a)))) true)
+          (if s Good (Bad (Range (address a))))
+      go true true all = good
+      go true false all = absurd (true≢false (sym (all refl)))
+      go false t all = bad (far a)
+  same-place oneCell access a =
+      rw (spared (unbounded order noTable len) refl access a)
+      (go (ltb a len) (allowed (unbounded order noTable len) access a) (eqb (a % 4) 0) (λ h. allowed-all access a (ltb-true a len h)) refl)
     where
-      go : (s t u : Bool) → (s ≡ true → t ≡ true) → allowed (unbounded order len) access a ≡ t → eqb (a % 4) 0 ≡ u
-          → Judges (unbounded order len) (if s (if (t && u) Good (Bad (faultAt access a))) (Bad (Range (address a))))
+      go : (s t u : Bool) → (s ≡ true → t ≡ true) → eqb (a % 4) 0 ≡ u
+          → Judges (unbounded order noTable len) thrownBefore
+          (openTo (if s (if (t && u) Good (Bad (faultAt access a))) (Bad (Range (address a)))) true)
           (if s (if u Good (Bad (Alignment (address a)))) (Bad (Range (address a))))
-      go true true true all p q = good
-      go true true false all p q = bad (unaligned (tells access a q))
-      go true false u all p q = absurd (true≢false (sym (all refl)))
-      go false t u all p q = bad range
+      go true true true all q = good
+      go true true false all q = bad (odd access a q)
+      go true false u all q = absurd (true≢false (sym (all refl)))
+      go false t u all q = bad (far a)
 
-  module _ (m : List ℕ) (long : length m ≡ len) where
-    pub same-fetch : (access : Access) (a : ℕ) → Fetches (unbounded order len) (fetchOf (unbounded order len) access m a) (fetchBefore order m a)
-    unfolding fetchOf fetchBefore
-    same-fetch access a = rw long (reads _ (same-place oneCell access a))
-
-    pub same-byte : (access : Access) (a : ℕ) → Fetches (unbounded order len) (fetchByteOf (unbounded order len) access m a) (fetchByteBefore m a)
-    unfolding fetchByteOf fetchByteBefore
-    same-byte access a = rw long (reads _ (same-place oneByte access a))
-
-    pub same-deep : (a : ℕ) → Fetches (unbounded order len) (fetchDeep (unbounded order len) m a) (fetchDeepBefore order m a)
-    same-deep a = go (ltb a (2 ^ 32))
-      where
-        go : (t : Bool)
-            → Fetches (unbounded order len) (if t (fetchOf (unbounded order len) DataRead m a) (Failed (Range (address (a % 2 ^ 32)))))
-            (if t (fetchBefore order m a) (Failed (Range (address (a % 2 ^ 32)))))
-        go true = same-fetch DataRead a
-        go false = fails range
+  -- so a memory is read as it was
+  pub alike : (m : List ℕ) → length m ≡ len → Alike (unbounded order noTable len) thrownBefore m (readingBefore order m)
+  unfolding fetchOf fetchByteOf fetchBefore fetchByteBefore exceptionOf
+  alike m long =
+      record {
+        cells = λ access a. rw long (reads _ (same-place oneCell access a));
+        bytes = λ a. rw long (reads _ (same-place oneByte NamedRead a));
+        range = λ a. refl;
+        unaligned = λ a. refl;
+        divisor = refl;
+        illegal = refl;
+        library = refl;
+      }

@@ -13,16 +13,17 @@ use Rattle.instruction.specs.Dispatch.{OperandClass, next, plain, taking, opera
 use Rattle.instruction.specs.declared.Instruction.{Instruction}
 use Rattle.cycles.specs.Cycles.{shifted}
 use Rattle.cycles.specs.Counts.{counted}
-use Rattle.before_areas.specs.Plain.{plainBefore}
-use Rattle.before_areas.specs.Taking.{takingAtBefore}
+use Rattle.before_tables.specs.Plain.{plainBefore}
+use Rattle.before_tables.specs.Taking.{takingAtBefore}
+use Rattle.before_areas.specs.Places.{readingBefore}
 use Rattle.before_areas.specs.Commits.{commitBefore}
 use Rattle.before_areas.specs.Throws.{nextBefore, finishBefore}
 
 module _ (order : ℕ) where
   abbrev pub executedBefore : List ℕ → Registers → Instruction → OperandClass → Stepped
   executedBefore m r i next = stepped m (record { registers = r; outcome = outcome.Next })
-  executedBefore m r i plain = commitBefore order m r (plainBefore order m (r .ep) (r .sp) (r .rp) i)
-  executedBefore m r i (taking form t) = taken form (commitBefore order m r (takingAtBefore order m form t r))
+  executedBefore m r i plain = commitBefore order m r (plainBefore order m (readingBefore order m) (r .ep) (r .sp) (r .rp) i)
+  executedBefore m r i (taking form t) = taken form (commitBefore order m r (takingAtBefore (readingBefore order m) form t r))
 
   unfoldable pub cycleBefore : List ℕ → Registers → CycleState
   cycleBefore m r =

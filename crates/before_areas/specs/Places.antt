@@ -11,6 +11,7 @@ use Rattle.cell.specs.declared.Checked.{Checked}
 use Rattle.cell.specs.declared.Checked.the-variants.{Good, Bad}
 use Rattle.cell.specs.declared.Fetched.{Fetched}
 use Rattle.machine.specs.Places.{Width, oneByte, oneCell}
+use Rattle.before_tables.specs.Places.{Reading}
 
 unfoldable pub placeBefore : Width → ℕ → ℕ → Checked
 placeBefore oneByte len a = if (ltb a len) Good (Bad (Range (address a)))
@@ -22,3 +23,7 @@ fetchBefore order m a = read (placeBefore oneCell (length m) a) (cellAt order m 
 
 unfoldable pub fetchByteBefore : List ℕ → ℕ → Fetched
 fetchByteBefore m a = read (placeBefore oneByte (length m) a) (getD m a 0)
+
+-- no access was told from another
+abbrev pub readingBefore : ℕ → List ℕ → Reading
+readingBefore order m = record { cell = λ access a. fetchBefore order m a; byte = λ a. fetchByteBefore m a }

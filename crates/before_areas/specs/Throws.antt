@@ -11,6 +11,7 @@ use Rattle.cell.specs.declared.Checked.{Checked}
 use Rattle.cell.specs.declared.Checked.the-variants.{Good, Bad}
 use Rattle.cell.specs.declared.Fault.{Fault}
 use Rattle.cell.specs.declared.Fault.the-variants.{Range, Alignment, Data, Return, Divisor, Illegal, Library}
+use Rattle.cell.specs.declared.Fault.the-variants as fault
 use Rattle.cell.specs.declared.Fetched.{Fetched}
 use Rattle.cell.specs.declared.Fetched.the-variants.{Cell, Failed}
 use Rattle.machine.specs.Places.{oneCell}
@@ -25,12 +26,14 @@ use Rattle.machine.specs.declared.Ended.{Ended}
 use Rattle.machine.specs.declared.Ended.the-variants.{Went, Threw, Stopped}
 use Rattle.before_areas.specs.Places.{placeBefore, fetchBefore}
 
--- what was thrown, its code, and -ADDRESS. A stack had no fault of its own: Data and Return were not there, and stand as an unaligned address
+-- what was thrown, its code, and -ADDRESS. A stack had no fault of its own: Data and Return were not there, and stand as an unaligned address;
+-- nor was there a table, and Table stands as it is today
 abbrev pub thrownBefore : Fault → Exception
 thrownBefore (Range a) = thrown.Range a
 thrownBefore (Alignment a) = thrown.Alignment a
 thrownBefore (Data a) = thrown.Alignment a
 thrownBefore (Return a) = thrown.Alignment a
+thrownBefore fault.Table = thrown.ReadOnly
 thrownBefore Divisor = thrown.Divisor
 thrownBefore Illegal = thrown.Illegal
 thrownBefore Library = thrown.Library
@@ -40,6 +43,7 @@ codeBefore (Range a) = 2 ^ 32 - 9
 codeBefore (Alignment a) = 2 ^ 32 - 23
 codeBefore (Data a) = 2 ^ 32 - 23
 codeBefore (Return a) = 2 ^ 32 - 23
+codeBefore fault.Table = 2 ^ 32 - 20
 codeBefore Divisor = 2 ^ 32 - 10
 codeBefore Illegal = 2 ^ 32 - 256
 codeBefore Library = 2 ^ 32 - 257
@@ -49,6 +53,7 @@ notedBefore order m (Range a) = storeCell order m addressCell (a .0)
 notedBefore order m (Alignment a) = storeCell order m addressCell (a .0)
 notedBefore order m (Data a) = storeCell order m addressCell (a .0)
 notedBefore order m (Return a) = storeCell order m addressCell (a .0)
+notedBefore order m fault.Table = m
 notedBefore order m Divisor = m
 notedBefore order m Illegal = m
 notedBefore order m Library = m
