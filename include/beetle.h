@@ -13,6 +13,13 @@
  * raises -3 (data, below) or -4 (data, at the top or above), -5 or -6 (return, likewise). A throw that
  * finds neither area nor held cell for its code stops with -258, and so does HALT where SP is off both.
  *
+ * The table is the bytes from `table` up to `table_end`, which is not in it: rules can read them, but
+ * not write them. Two zeros are no table, two other equal numbers one of no byte. Any store of an
+ * instruction into it raises -20: by address, on either stack, or of a return address. What else is
+ * wrong with that place is told first, and the cell -ADDRESS stays as it is. A throw whose code would
+ * be pushed into the table stops with -258, so a start can stop with it too. What a start puts into 0h
+ * to Fh and what is loaded is no store of a rule. The table is no register: each call takes its own.
+ *
  * A listing is its kinds, its operands and a base; as a file it is n, base, the kinds, the operands,
  * least significant byte first. `pointers` holds six numbers: SP, RP and the same areas.
  *
@@ -20,7 +27,7 @@
  * refusal, below 0. On a refusal nothing that was lent is written. A `registers`, `pointers`, `out`
  * or `output` shorter than what a success writes is refused with BEETLE_SHORT_OUTPUT, the last of
  * the refusals to be judged. What is longer keeps its rest. Areas that come in `registers` or
- * `pointers` are not judged where the array is too short to hold them.
+ * `pointers` are not judged where the array is too short to hold them; a table always is.
  */
 #ifndef BEETLE_H
 #define BEETLE_H
@@ -60,6 +67,8 @@ extern "C" {
 #define BEETLE_BAD_AREAS (-4111)      /* a stack area of no cell, with an unaligned top, not in memory
                                          or over the other, the held cell part of the data area;
                                          judged after BEETLE_BAD_ORDER */
+#define BEETLE_BAD_TABLE (-4112)      /* a table with an unaligned end, its ends exchanged, below 10h or
+                                         past memory; judged after BEETLE_BAD_AREAS */
 
 /* Starts the machine: registers are written. SP and RP start at the areas' tops; without areas at
  * MEMORY - 100h and MEMORY. out: [reason, or 0]. */
@@ -72,6 +81,8 @@ int32_t beetle_start(
     uint32_t data_cells,
     uint32_t return_top,
     uint32_t return_cells,
+    uint32_t table,
+    uint32_t table_end,
     uint32_t *registers, size_t registers_length,
     uint32_t *out, size_t out_length);
 
@@ -79,16 +90,20 @@ int32_t beetle_start(
 int32_t beetle_cycle(
     uint8_t order,
     uint8_t *memory, size_t memory_length,
+    uint32_t table,
+    uint32_t table_end,
     uint32_t *registers, size_t registers_length,
     uint32_t *out, size_t out_length);
 
 /* Cycles until a stop, at most `budget` of them. out: [reason, or 0; cycles done]. A spent run (the
- * answer is 0) goes on if it is called again with the arrays as it left them: runs of b and of c
- * cycles do what one of b + c would have done, their cycles added. A run that stops does and answers
- * the same under every larger budget. */
+ * answer is 0) goes on if it is called again with the arrays as it left them and the same table: runs
+ * of b and of c cycles do what one of b + c would have done, their cycles added. A run that stops does
+ * and answers the same under every larger budget. */
 int32_t beetle_run(
     uint8_t order,
     uint8_t *memory, size_t memory_length,
+    uint32_t table,
+    uint32_t table_end,
     uint32_t *registers, size_t registers_length,
     uint32_t budget,
     uint32_t *out, size_t out_length);
@@ -139,15 +154,18 @@ int32_t beetle_pack_file(
     uint32_t *out, size_t out_length);
 
 /* Runs the list machine from item 0, at most `items` items. No image is asked for in memory, nor
- * that it fits there. out: [reason of a stop, number of why it stands outside, or 0; item reached;
- * items done; cycles counted, low half; high half]. The item reached is the next one, the one that
- * stopped the machine, or the one in front of which it stands outside. */
+ * that it fits there. A write into the table raises -20 where the image lies there too. out: [reason of
+ * a stop, number of why it stands outside, or 0; item reached; items done; cycles counted, low half;
+ * high half]. The item reached is the next one, the one that stopped the machine, or the one in front
+ * of which it stands outside. */
 int32_t beetle_list_run(
     uint8_t order,
     const uint8_t *kinds, size_t kinds_length,
     const uint32_t *operands, size_t operands_length,
     uint32_t base,
     uint8_t *memory, size_t memory_length,
+    uint32_t table,
+    uint32_t table_end,
     uint32_t *pointers, size_t pointers_length,
     uint32_t items,
     uint32_t *out, size_t out_length);
@@ -162,6 +180,8 @@ int32_t beetle_list_resume(
     const uint32_t *operands, size_t operands_length,
     uint32_t base,
     uint8_t *memory, size_t memory_length,
+    uint32_t table,
+    uint32_t table_end,
     uint32_t item,
     uint8_t ran,
     uint32_t *pointers, size_t pointers_length,

@@ -14,6 +14,8 @@ pub fn start(
     data_cells: u32,
     return_top: u32,
     return_cells: u32,
+    table: u32,
+    table_end: u32,
     registers: &mut [u32],
     out: &mut [u32],
 ) -> u32 {
@@ -32,6 +34,8 @@ pub fn start(
             data_cells,
             return_top,
             return_cells,
+            table,
+            table_end,
             r,
             r_length,
             o,
@@ -40,17 +44,30 @@ pub fn start(
     }
 }
 
-pub fn cycle(order: u8, memory: &mut [u8], registers: &mut [u32], out: &mut [u32]) -> u32 {
+pub fn cycle(
+    order: u8,
+    memory: &mut [u8],
+    table: u32,
+    table_end: u32,
+    registers: &mut [u32],
+    out: &mut [u32],
+) -> u32 {
     let (m, m_length) = (memory.as_mut_ptr(), memory.len());
     let (r, r_length) = (registers.as_mut_ptr(), registers.len());
     let (o, o_length) = (out.as_mut_ptr(), out.len());
     // SAFETY: as above.
-    unsafe { c::beetle_cycle(order, m, m_length, r, r_length, o, o_length) }
+    unsafe {
+        c::beetle_cycle(
+            order, m, m_length, table, table_end, r, r_length, o, o_length,
+        )
+    }
 }
 
 pub fn run(
     order: u8,
     memory: &mut [u8],
+    table: u32,
+    table_end: u32,
     registers: &mut [u32],
     budget: u32,
     out: &mut [u32],
@@ -59,7 +76,11 @@ pub fn run(
     let (r, r_length) = (registers.as_mut_ptr(), registers.len());
     let (o, o_length) = (out.as_mut_ptr(), out.len());
     // SAFETY: as above.
-    unsafe { c::beetle_run(order, m, m_length, r, r_length, budget, o, o_length) }
+    unsafe {
+        c::beetle_run(
+            order, m, m_length, table, table_end, r, r_length, budget, o, o_length,
+        )
+    }
 }
 
 pub fn load(order: u8, memory: &mut [u8], file: &[u8], address: u32, out: &mut [u32]) -> u32 {
@@ -135,6 +156,8 @@ pub fn list_run(
     operands: &[u32],
     base: u32,
     memory: &mut [u8],
+    table: u32,
+    table_end: u32,
     pointers: &mut [u32],
     items: u32,
     out: &mut [u32],
@@ -147,7 +170,8 @@ pub fn list_run(
     // SAFETY: as above.
     unsafe {
         c::beetle_list_run(
-            order, k, k_length, v, v_length, base, m, m_length, p, p_length, items, o, o_length,
+            order, k, k_length, v, v_length, base, m, m_length, table, table_end, p, p_length,
+            items, o, o_length,
         )
     }
 }
@@ -159,6 +183,8 @@ pub fn list_resume(
     operands: &[u32],
     base: u32,
     memory: &mut [u8],
+    table: u32,
+    table_end: u32,
     item: u32,
     ran: u8,
     pointers: &mut [u32],
@@ -173,8 +199,8 @@ pub fn list_resume(
     // SAFETY: as above.
     unsafe {
         c::beetle_list_resume(
-            order, k, k_length, v, v_length, base, m, m_length, item, ran, p, p_length, items, o,
-            o_length,
+            order, k, k_length, v, v_length, base, m, m_length, table, table_end, item, ran, p,
+            p_length, items, o, o_length,
         )
     }
 }
