@@ -3,7 +3,7 @@
 use std::ops::Range;
 
 use crate::arguments::Arguments;
-use crate::failure::{Failure, BAD_AREAS};
+use crate::failure::Failure;
 
 /// An area: so many cells, all below its top.
 #[derive(Clone, Copy, PartialEq, Eq, Debug, Default)]
@@ -58,8 +58,8 @@ impl Areas {
             let text = format!("{given} is given and {missing} is not: a machine has both areas");
             Err(Failure::Usage(text))
         };
-        let data = arguments.two_cells("--data-area")?;
-        let back = arguments.two_cells("--return-area")?;
+        let data = arguments.two_cells("--data-area", "TOP,CELLS")?;
+        let back = arguments.two_cells("--return-area", "TOP,CELLS")?;
         match (data, back) {
             (None, None) => Ok(Areas::default()),
             (Some(data), Some(back)) => Ok(Areas::of([data[0], data[1], back[0], back[1]])),
@@ -104,16 +104,8 @@ impl Areas {
         self.given().unwrap_or(all)
     }
 
-    /// A refusal with -4111 says which areas are bad; any other failure stays.
-    pub fn explain(&self, failure: Failure, memory: usize) -> Failure {
-        match failure {
-            Failure::Refused(BAD_AREAS) => Failure::BadAreas(self.faults(memory)),
-            other => other,
-        }
-    }
-
     /// What of -4111 holds of these areas.
-    fn faults(&self, memory: usize) -> Vec<String> {
+    pub fn faults(&self, memory: usize) -> Vec<String> {
         let [data, back] = self.bytes();
         let mut faults = self.data.faults("data area", HELD, memory);
         faults.extend(self.back.faults("return area", 0, memory));

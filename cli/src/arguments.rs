@@ -105,8 +105,8 @@ impl Arguments {
         Ok(value.map(|value| value as u32))
     }
 
-    /// The two cells that an option gives, a comma between them.
-    pub fn two_cells(&self, name: &str) -> Result<Option<[u32; 2]>, Failure> {
+    /// The two cells that an option gives, a comma between them, or what it wants.
+    pub fn two_cells(&self, name: &str, wants: &str) -> Result<Option<[u32; 2]>, Failure> {
         let Some(word) = self.option(name) else {
             return Ok(None);
         };
@@ -115,7 +115,7 @@ impl Arguments {
         match both.and_then(|(left, right)| Some([cell(left)?, cell(right)?])) {
             Some(both) => Ok(Some(both)),
             None => Err(usage(format!(
-                "{name} wants TOP,CELLS, each 0 to {}, not '{word}'",
+                "{name} wants {wants}, each 0 to {}, not '{word}'",
                 u32::MAX
             ))),
         }

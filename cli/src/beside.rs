@@ -3,22 +3,26 @@
 
 use crate::failure::Failure;
 use crate::library::{self, End, Listed, Registers};
+use crate::limits::Limits;
+use crate::table::Table;
 use crate::{memory, reasons, report};
 
 /// A processor that follows the list machine.
 pub struct Processor {
     order: u8,
     memory: Vec<u8>,
+    table: Table,
     registers: Registers,
     cycles: u64,
     reason: Option<u32>,
 }
 
 impl Processor {
-    pub fn new(order: u8, memory: Vec<u8>, registers: Registers) -> Self {
+    pub fn new(order: u8, memory: Vec<u8>, table: Table, registers: Registers) -> Self {
         Processor {
             order,
             memory,
+            table,
             registers,
             cycles: 0,
             reason: None,
@@ -28,7 +32,8 @@ impl Processor {
     /// Runs on to the cycles that the list machine counted.
     pub fn catch_up(&mut self, listed: &Listed) -> Result<(), Failure> {
         let budget = listed.cycles.saturating_sub(self.cycles) as u32;
-        let ran = library::run(self.order, &mut self.memory, &mut self.registers, budget)?;
+        let (memory, registers) = (&mut self.memory, &mut self.registers);
+        let ran = library::run(self.order, memory, self.table, registers, budget)?;
         self.cycles += u64::from(ran.cycles);
         self.reason = ran.reason;
         Ok(())
@@ -56,10 +61,12 @@ impl Processor {
             End::WentOn | End::Outside(_) => None,
         };
         let Registers { sp, rp, areas, .. } = self.registers;
+        let table = self.table;
+        let limits = Limits { areas, table };
         let mut differ = Vec::new();
         if reason != self.reason {
             let told = |reason: Option<u32>| match reason {
-                Some(reason) => reasons::why(reason, sp, &areas),
+                Some(reason) => reasons::why(reason, sp, &limits),
                 None => "none".to_string(),
             };
             differ.push(format!("reason {} / {}", told(reason), told(self.reason)));

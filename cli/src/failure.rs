@@ -9,8 +9,8 @@ pub enum Failure {
     Usage(String),
     /// The library refused, with this number.
     Refused(i32),
-    /// It refused the stack areas, for these reasons.
-    BadAreas(Vec<String>),
+    /// It refused so, and these are the reasons.
+    Bad(i32, Vec<String>),
     /// Mistakes in a rule's text, a line for each.
     Mistakes(Vec<String>),
     /// Anything else, as a file that cannot be read.
@@ -47,9 +47,8 @@ impl Failure {
             Failure::Refused(number) => {
                 eprintln!("beetle: refused with {number}: {}", meaning(*number));
             }
-            Failure::BadAreas(reasons) => {
-                let general = meaning(BAD_AREAS);
-                eprintln!("beetle: refused with {BAD_AREAS}: {general}");
+            Failure::Bad(number, reasons) => {
+                eprintln!("beetle: refused with {number}: {}", meaning(*number));
                 reasons.iter().for_each(|reason| eprintln!("  {reason}"));
             }
             Failure::Mistakes(lines) => lines.iter().for_each(|line| eprintln!("{line}")),
@@ -59,8 +58,9 @@ impl Failure {
     }
 }
 
-/// The refusal of stack areas.
+/// The refusals of stack areas and of a table.
 pub const BAD_AREAS: i32 = -4111;
+pub const BAD_TABLE: i32 = -4112;
 
 /// What a refusal's number means (document 01, the two lists of refusals; document 02).
 pub fn meaning(refusal: i32) -> &'static str {
@@ -81,6 +81,7 @@ pub fn meaning(refusal: i32) -> &'static str {
             "the stack areas, with the cell held under that of the data stack, are unaligned, \
              empty, outside memory or overlapping"
         }
+        BAD_TABLE => "the table is unaligned, ends before it begins, lies below 10h or past memory",
         _ => "a number that the documents do not list",
     }
 }

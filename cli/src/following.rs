@@ -2,15 +2,18 @@
 
 use crate::failure::Failure;
 use crate::library::{self, End, Listed, Registers, Stand};
+use crate::limits::Limits;
 use crate::listing::Packed;
 use crate::memory;
 use crate::names::{HALT, THROW};
-use crate::reasons::{over_the_end, BAD_HANDLER};
+use crate::reasons::BAD_HANDLER;
+use crate::table::Table;
 
-/// Its memory, where it stands, the items done and cycles counted.
+/// Its memory and table, where it stands, the items done and cycles counted.
 pub struct Following<'l> {
     pub packed: &'l Packed,
     pub memory: Vec<u8>,
+    table: Table,
     pub stand: Stand,
     items_done: u32,
     cycles: u64,
@@ -18,11 +21,12 @@ pub struct Following<'l> {
 
 impl<'l> Following<'l> {
     /// At item 0, with the registers of a machine just started.
-    pub fn new(packed: &'l Packed, memory: &[u8], registers: Registers) -> Self {
+    pub fn new(packed: &'l Packed, memory: &[u8], table: Table, registers: Registers) -> Self {
         let Registers { sp, rp, areas, .. } = registers;
         Following {
             packed,
             memory: memory.to_vec(),
+            table,
             stand: Stand {
                 item: 0,
                 ran: false,
@@ -38,7 +42,15 @@ impl<'l> Following<'l> {
     /// So many items from here on.
     fn resume(&self, memory: &mut [u8], items: u32) -> Result<Listed, Failure> {
         let Packed { listing, order, .. } = self.packed;
-        library::list_resume(*order, listing, memory, self.stand, items)
+        library::list_resume(*order, listing, memory, self.table, self.stand, items)
+    }
+
+    /// What it keeps to.
+    pub fn limits(&self) -> Limits {
+        Limits {
+            areas: self.stand.areas,
+            table: self.table,
+        }
     }
 
     /// No item: what the library says before the first.
@@ -72,13 +84,14 @@ impl<'l> Following<'l> {
         })
     }
 
-    /// The line of a throw, where the next item takes a stack over an end of its area. With no
-    /// address in 'THROW, an item that throws stops the machine, its code on the data stack.
-    pub fn next_goes_over(&self) -> Result<Option<String>, Failure> {
-        let Stand { item, areas, .. } = self.stand;
-        let kind = self.packed.listing.kinds.get(item as usize);
+    /// The line of a throw, where the next item goes over an end of its stack's area or would write
+    /// the table. With no address in 'THROW, an item that throws stops the machine, its code on the
+    /// data stack.
+    pub fn next_is_kept_off(&self) -> Result<Option<String>, Failure> {
+        let limits = self.limits();
+        let kind = self.packed.listing.kinds.get(self.stand.item as usize);
         let own_code = matches!(kind, Some(&THROW | &HALT));
-        if own_code || areas.given().is_none() {
+        if own_code || limits == Limits::default() {
             return Ok(None);
         }
         let mut memory = self.memory.clone();
@@ -89,8 +102,8 @@ impl<'l> Following<'l> {
         }
         let code = memory::cell_at(self.packed.order, &memory, listed.sp).map(|code| code as i32);
         Ok(code.and_then(|code| {
-            let over = over_the_end(code, &areas)?;
-            Some(format!("threw {code}: {over}"))
+            let what = limits.kept_off(code)?;
+            Some(format!("threw {code}: {what}"))
         }))
     }
 }

@@ -2,6 +2,8 @@
 
 use crate::areas::Areas;
 use crate::failure::Failure;
+use crate::limits::Limits;
+use crate::table::Table;
 
 /// EP, A, SP, RP and the areas of the stacks.
 #[derive(Clone, Copy, PartialEq, Eq, Debug)]
@@ -111,14 +113,16 @@ pub fn start(
     memory: &mut [u8],
     ep: u32,
     handler: u32,
-    areas: Areas,
+    limits: Limits,
 ) -> Result<(Registers, Option<u32>), Failure> {
     let (mut r, mut out) = ([0; 8], [0]);
-    let [data, data_cells, back, back_cells] = areas.numbers();
+    let [data, data_cells, back, back_cells] = limits.areas.numbers();
+    let Table { first, end } = limits.table;
     let answer = beetle_bindings::start(
-        order, memory, ep, handler, data, data_cells, back, back_cells, &mut r, &mut out,
+        order, memory, ep, handler, data, data_cells, back, back_cells, first, end, &mut r,
+        &mut out,
     );
-    let explained = |failure| areas.explain(failure, memory.len());
+    let explained = |failure| limits.explain(failure, memory.len());
     let stopped = accepted(answer).map_err(explained)? == STOPPED;
     Ok((Registers::from_array(r), stopped.then_some(out[0])))
 }
@@ -127,11 +131,13 @@ pub fn start(
 pub fn run(
     order: u8,
     memory: &mut [u8],
+    table: Table,
     registers: &mut Registers,
     budget: u32,
 ) -> Result<Ran, Failure> {
     let (mut r, mut out) = (registers.to_array(), [0; 2]);
-    let answer = beetle_bindings::run(order, memory, &mut r, budget, &mut out);
+    let Table { first, end } = table;
+    let answer = beetle_bindings::run(order, memory, first, end, &mut r, budget, &mut out);
     let stopped = accepted(answer)? == STOPPED;
     *registers = Registers::from_array(r);
     Ok(Ran {
@@ -185,6 +191,7 @@ pub fn list_resume(
     order: u8,
     listing: &Listing,
     memory: &mut [u8],
+    table: Table,
     stand: Stand,
     items: u32,
 ) -> Result<Listed, Failure> {
@@ -197,6 +204,8 @@ pub fn list_resume(
         operands,
         base,
         memory,
+        table.first,
+        table.end,
         item,
         u8::from(ran),
         &mut p,

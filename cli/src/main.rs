@@ -9,6 +9,7 @@ mod failure;
 mod files;
 mod following;
 mod library;
+mod limits;
 mod listing;
 mod memory;
 mod names;
@@ -16,6 +17,7 @@ mod number;
 mod reading;
 mod reasons;
 mod report;
+mod table;
 mod text;
 
 use std::env;

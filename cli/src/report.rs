@@ -5,9 +5,11 @@ use std::ops::Range;
 
 use crate::areas::Areas;
 use crate::library::Registers;
+use crate::limits::Limits;
 use crate::memory;
 use crate::number::shown;
-use crate::reasons::{code_meaning, over_the_end};
+use crate::reasons::code_meaning;
+use crate::table::Table;
 
 /// The cells that hold 'THROW, 'BAD and -ADDRESS.
 const THROW: u32 = 0x0;
@@ -25,6 +27,17 @@ pub struct State<'m> {
     pub order: u8,
     pub memory: &'m [u8],
     pub registers: Registers,
+    pub table: Table,
+}
+
+impl State<'_> {
+    /// What it keeps to.
+    pub fn limits(&self) -> Limits {
+        Limits {
+            areas: self.registers.areas,
+            table: self.table,
+        }
+    }
 }
 
 /// The registers and both stacks.
@@ -73,7 +86,7 @@ pub fn thrown(out: &mut dyn Write, state: &State<'_>) -> io::Result<()> {
     }
     if let Some(code) = cell(state.registers.sp) {
         let code = code as i32;
-        let meaning = code_meaning(code, &state.registers.areas);
+        let meaning = code_meaning(code, &state.limits());
         writeln!(out, "thrown: {code}, {meaning}")?;
     }
     writeln!(
@@ -82,11 +95,11 @@ pub fn thrown(out: &mut dyn Write, state: &State<'_>) -> io::Result<()> {
     )
 }
 
-/// What HALT's reason says, where it is the code of a stack that went over an end of its area.
+/// What HALT's reason says, where it is a code by which the machine keeps to its limits.
 pub fn handled(out: &mut dyn Write, reason: u32, state: &State<'_>) -> io::Result<()> {
     let code = reason as i32;
-    match over_the_end(code, &state.registers.areas) {
-        Some(over) => writeln!(out, "code {code}: {over}"),
+    match state.limits().kept_off(code) {
+        Some(what) => writeln!(out, "code {code}: {what}"),
         None => Ok(()),
     }
 }

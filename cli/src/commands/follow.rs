@@ -9,14 +9,17 @@ use crate::beside::Processor;
 use crate::failure::Failure;
 use crate::following::Following;
 use crate::library::{self, End, Listed, Listing, Registers};
+use crate::limits::Limits;
 use crate::listing::{self, Packed};
 use crate::names::{kind_of, name_of, Kind};
+use crate::table::{Asked, Table};
 use crate::{files, memory, reasons, report};
 
 pub const HELP: &str = "\
 beetle follow RULE.lst [--items N] [--memory BYTES] [--order 0|1]
               [--handler ADDRESS] [--beside]
               [--data-area TOP,CELLS --return-area TOP,CELLS]
+              [--table code | --table FIRST,END]
 
 Carries out a listing item by item on the proved list machine, from item 0 of a machine
 just started with the image at its base. After each item a line gives the items done,
@@ -38,6 +41,11 @@ decimal and the return stack in hexadecimal.
                      data area is held for an exception's code. An access outside its
                      area throws -3 (data, below), -4 (data, above), -5 or -6 (return),
                      and a line says so
+  --table code, --table FIRST,END
+                     cells that the rule can read but not write: with 'code' those of the
+                     image, else those from FIRST up to END, END not one of them. A store
+                     there throws -20, and a line says so. A throw whose own code would
+                     go there stops the machine with -258
 
 The exit status is 0 however the list machine ends: by a stop, outside (in front of an
 item that would leave what the listing says; the last line says why), or after N items.
@@ -52,6 +60,7 @@ const TAKES: Takes = Takes {
         "--handler",
         "--data-area",
         "--return-area",
+        "--table",
     ],
     switches: &["--beside"],
 };
@@ -63,32 +72,38 @@ const USUAL_ITEMS: u32 = 1000;
 struct Begun {
     packed: Packed,
     memory: Vec<u8>,
+    table: Table,
     registers: Registers,
 }
 
 pub fn carry_out(words: &[String], out: &mut dyn Write) -> Result<u8, Failure> {
     let arguments = Arguments::read(words, &TAKES)?;
     let items = arguments.cell("--items")?.unwrap_or(USUAL_ITEMS);
-    let begun = begin(&arguments)?;
+    let Begun {
+        packed,
+        memory,
+        table,
+        registers,
+    } = begin(&arguments)?;
     let mut beside = arguments
         .switch("--beside")
-        .then(|| Processor::new(begun.packed.order, begun.memory.clone(), begun.registers));
+        .then(|| Processor::new(packed.order, memory.clone(), table, registers));
     writeln!(
         out,
         " done item instruction            SP       RP         cycles  data | return, top first"
     )?;
-    let mut following = Following::new(&begun.packed, &begun.memory, begun.registers);
+    let mut following = Following::new(&packed, &memory, table, registers);
     let mut last = following.judged()?;
     while last.end == End::WentOn && last.items_done < items {
         let item = last.item;
-        let over = following.next_goes_over()?;
+        let kept_off = following.next_is_kept_off()?;
         last = following.step()?;
         if matches!(last.end, End::Outside(_)) {
             break;
         }
         writeln!(out, "{}", line(&following, item, &last))?;
-        if let Some(over) = over {
-            writeln!(out, "{over}")?;
+        if let Some(kept_off) = kept_off {
+            writeln!(out, "{kept_off}")?;
         }
         if let Some(processor) = &mut beside {
             processor.catch_up(&last)?;
@@ -103,6 +118,8 @@ pub fn carry_out(words: &[String], out: &mut dyn Write) -> Result<u8, Failure> {
 /// Packs the listing, puts the image into memory and starts the machine there.
 fn begin(arguments: &Arguments) -> Result<Begun, Failure> {
     let handler = arguments.cell("--handler")?.unwrap_or(NO_HANDLER);
+    let areas = Areas::asked_for(arguments)?;
+    let table = Asked::read(arguments)?;
     let file = files::read(arguments.file(0))?;
     let packed = listing::packed(arguments.order()?, &file)?;
     let mut memory = memory::lent(arguments)?;
@@ -113,11 +130,13 @@ fn begin(arguments: &Arguments) -> Result<Begun, Failure> {
         return Err(Failure::Other(text));
     };
     place.copy_from_slice(&packed.image);
-    let areas = Areas::asked_for(arguments)?;
-    let (registers, _) = library::start(packed.order, &mut memory, base, handler, areas)?;
+    let table = table.table(base..packed.end());
+    let limits = Limits { areas, table };
+    let (registers, _) = library::start(packed.order, &mut memory, base, handler, limits)?;
     Ok(Begun {
         packed,
         memory,
+        table,
         registers,
     })
 }
@@ -150,7 +169,7 @@ fn end(following: &Following, last: &Listed) -> String {
     match last.end {
         End::WentOn => format!("not stopped {done}"),
         End::Stopped(reason) => {
-            let why = reasons::why(reason, last.sp, &following.stand.areas);
+            let why = reasons::why(reason, last.sp, &following.limits());
             format!("stopped {why} {done}")
         }
         End::Outside(number) => {

@@ -8,14 +8,17 @@ use crate::areas::Areas;
 use crate::arguments::{Arguments, Takes};
 use crate::failure::Failure;
 use crate::library::{self, Registers};
+use crate::limits::Limits;
 use crate::reasons::{self, BAD_HANDLER, BAD_STACK};
 use crate::report::{self, State};
+use crate::table::{Asked, Table};
 use crate::{files, memory};
 
 pub const HELP: &str = "\
 beetle run MODULE [--memory BYTES] [--order 0|1] [--address ADDRESS]
            [--entry ADDRESS] [--handler ADDRESS] [--budget CYCLES]
            [--data-area TOP,CELLS --return-area TOP,CELLS]
+           [--table code | --table FIRST,END]
 
 Loads an object module, starts the machine and runs it, all by the proved library, then
 prints why it stopped, the cycles done, the registers and the tops of both stacks.
@@ -33,6 +36,11 @@ prints why it stopped, the cycles done, the registers and the tops of both stack
                      last one just below TOP, where SP and RP start. The cell under the
                      data area is held for an exception's code. An access outside its
                      area throws -3 (data, below), -4 (data, above), -5 or -6 (return)
+  --table code, --table FIRST,END
+                     cells that the rule can read but not write: with 'code' those of the
+                     module as it was loaded, else those from FIRST up to END, END not one
+                     of them. A store there throws -20. A throw whose own code would go
+                     there stops the machine with -258
 
 Numbers are decimal, or hexadecimal with an h. The exit status is 0 if HALT stopped the
 machine, and 1 for a refusal, a stop with -258 or -259, or a budget that was spent. (A
@@ -50,6 +58,7 @@ const TAKES: Takes = Takes {
         "--budget",
         "--data-area",
         "--return-area",
+        "--table",
     ],
     switches: &[],
 };
@@ -74,22 +83,26 @@ pub fn carry_out(words: &[String], out: &mut dyn Write) -> Result<u8, Failure> {
     let handler = arguments.cell("--handler")?.unwrap_or(NO_HANDLER);
     let budget = arguments.number("--budget", u64::MAX)?;
     let areas = Areas::asked_for(&arguments)?;
+    let table = Asked::read(&arguments)?;
     let mut lent = memory::lent(&arguments)?;
     let file = files::read(arguments.file(0))?;
     let count = library::load(order, &mut lent, &file, address)?;
     writeln!(out, "loaded {count} cells at {address:X}h")?;
-    let (mut registers, stopped) = library::start(order, &mut lent, entry, handler, areas)?;
+    let table = table.table(address..address + 4 * count);
+    let limits = Limits { areas, table };
+    let (mut registers, stopped) = library::start(order, &mut lent, entry, handler, limits)?;
     let ended = match stopped {
         Some(_) => Ended {
             reason: stopped,
             cycles: 0,
         },
-        None => run_on(order, &mut lent, &mut registers, budget)?,
+        None => run_on(order, &mut lent, table, &mut registers, budget)?,
     };
     let state = State {
         order,
         memory: &lent,
         registers,
+        table,
     };
     tell(out, &ended, &state)
 }
@@ -99,6 +112,7 @@ pub fn carry_out(words: &[String], out: &mut dyn Write) -> Result<u8, Failure> {
 fn run_on(
     order: u8,
     memory: &mut [u8],
+    table: Table,
     registers: &mut Registers,
     budget: Option<u64>,
 ) -> Result<Ended, Failure> {
@@ -109,7 +123,7 @@ fn run_on(
     let mut told = Instant::now();
     loop {
         let left = budget.map_or(SLICE, |budget| budget - ended.cycles);
-        let ran = library::run(order, memory, registers, left.min(SLICE) as u32)?;
+        let ran = library::run(order, memory, table, registers, left.min(SLICE) as u32)?;
         ended.cycles += u64::from(ran.cycles);
         ended.reason = ran.reason;
         if ran.reason.is_some() || budget == Some(ended.cycles) {
@@ -126,8 +140,8 @@ fn run_on(
 fn tell(out: &mut dyn Write, ended: &Ended, state: &State<'_>) -> Result<u8, Failure> {
     match ended.reason {
         Some(reason) => {
-            let Registers { sp, areas, .. } = state.registers;
-            writeln!(out, "stopped {}", reasons::why(reason, sp, &areas))?;
+            let why = reasons::why(reason, state.registers.sp, &state.limits());
+            writeln!(out, "stopped {why}")?;
         }
         None => writeln!(out, "spent its budget, not stopped")?,
     }

@@ -6,4 +6,5 @@ mod folder;
 mod listings;
 mod machines;
 mod refused;
+mod tables;
 mod worked;
