@@ -10,7 +10,7 @@ run: library
 	$(beetle) assemble examples/child.txt -o $(work)/child.lst
 	$(beetle) show $(work)/child.lst
 	$(beetle) save $(work)/child.lst -o $(work)/child.mod
-	$(beetle) run $(work)/child.mod
+	$(beetle) run $(work)/child.mod --table code
 
 compare: library
 	cd tests && cargo run --quiet --offline --release --features library --bin compare

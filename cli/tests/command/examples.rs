@@ -1,4 +1,5 @@
-//! The rules of `examples/` run as their stored output says, in both byte orders.
+//! The rules of `examples/` run as their stored output says, in both byte orders, with their own
+//! cells protected and without.
 
 use crate::folder::Folder;
 use std::fs;
@@ -15,18 +16,26 @@ fn with_rule(test: &str, name: &str) -> Folder {
     folder
 }
 
+/// No table, and the rule's own cells.
+const TABLES: [&str; 2] = ["--table 0,0", "--table code"];
+
 fn runs_as_stored(name: &str) {
     let folder = with_rule(name, name);
     let expected = example(&format!("{name}.expected"));
     assert_eq!(folder.done("run rule.mod"), expected);
-    assert_eq!(folder.done("run rule.mod --order 1"), expected);
     folder.done("save rule.lst -o reversed.mod --order 1");
-    assert_eq!(folder.done("run reversed.mod"), expected);
     let stop = expected.lines().nth(1).expect("a second line");
-    for order in ["0", "1"] {
-        let followed = folder.done(&format!("follow rule.lst --beside --order {order}"));
-        let last = followed.lines().last().expect("a last line");
-        assert!(last.starts_with(stop), "{last}");
+    for table in TABLES {
+        assert_eq!(folder.done(&format!("run rule.mod {table}")), expected);
+        let turned = folder.done(&format!("run rule.mod --order 1 {table}"));
+        assert_eq!(turned, expected);
+        assert_eq!(folder.done(&format!("run reversed.mod {table}")), expected);
+        for order in ["0", "1"] {
+            let words = format!("follow rule.lst --beside --order {order} {table}");
+            let followed = folder.done(&words);
+            let last = followed.lines().last().expect("a last line");
+            assert!(last.starts_with(stop), "{last}");
+        }
     }
 }
 
@@ -65,11 +74,11 @@ const WIDE: &str = "--data-area FF00h,60 --return-area 10000h,64";
 fn deep_with_areas() {
     let folder = with_rule("deep_with_areas", "deep");
     let expected = example("deep.areas.expected");
-    for order in ["0", "1"] {
-        let said = folder.beetle(&format!("run rule.mod --order {order} {AREAS}"));
+    for (order, table) in [("0", TABLES[0]), ("0", TABLES[1]), ("1", TABLES[1])] {
+        let options = format!("--order {order} {AREAS} {table}");
+        let said = folder.beetle(&format!("run rule.mod {options}"));
         assert_eq!((said.status, said.output.as_str()), (1, expected.as_str()));
-        let words = format!("follow rule.lst --beside --order {order} {AREAS}");
-        let followed = folder.done(&words);
+        let followed = folder.done(&format!("follow rule.lst --beside {options}"));
         let threw = "\nthrew -3: the data stack went below its area (overflow)\n";
         assert_eq!(followed.matches("\nthrew ").count(), 1);
         assert!(followed.contains(threw), "{followed}");
@@ -91,5 +100,34 @@ fn deep_with_areas_and_a_handler() {
         let followed = folder.done(&format!("follow rule.lst --beside {words}"));
         let end = format!("{stop} after 136 items and 137 cycles\n");
         assert!(followed.ends_with(&end), "{followed}");
+    }
+}
+
+/// Without a table it writes its own last cell, before which the list machine stands outside.
+#[test]
+fn school() {
+    let folder = with_rule("school", "school");
+    let expected = example("school.expected");
+    for order in ["0", "1"] {
+        let ran = folder.done(&format!("run rule.mod --order {order}"));
+        assert_eq!(ran, expected);
+        let followed = folder.done(&format!("follow rule.lst --beside --order {order}"));
+        let outside = "(+!): it would write a byte of the image, after 92 items and 100 cycles\n";
+        assert!(followed.ends_with(outside), "{followed}");
+    }
+}
+
+#[test]
+fn school_with_a_table() {
+    let folder = with_rule("school_with_a_table", "school");
+    let expected = example("school.table.expected");
+    for (order, table) in [("0", "code"), ("1", "code"), ("0", "10h,ACh")] {
+        let options = format!("--order {order} --table {table}");
+        let said = folder.beetle(&format!("run rule.mod {options}"));
+        assert_eq!((said.status, said.output.as_str()), (1, expected.as_str()));
+        let followed = folder.done(&format!("follow rule.lst --beside {options}"));
+        let threw = "\nthrew -20: a store into the table from 10h up to ACh\n";
+        assert_eq!(followed.matches("\nthrew ").count(), 1);
+        assert!(followed.contains(threw), "{followed}");
     }
 }
