@@ -40,11 +40,12 @@ fn timed(case: &Case) -> [Option<f64>; 3] {
     })
 }
 
-/// A line for each loop, without areas and with them.
+/// A line for each loop and machine.
 pub fn table() {
     let columns = [
         "loop",
         "areas",
+        "table",
         "instructions a cycle, proved",
         "independent",
         "C",
@@ -60,9 +61,9 @@ pub fn table() {
     for (at, case) in loops::cases().iter().enumerate() {
         let counts = Side::ALL.map(|side| counted(side, at, case));
         let times = timed(case);
-        let (name, areas) = (case.looping.name, case.areas());
         println!(
-            "| {name} | {areas} | {} | {} |",
+            "| {} | {} | {} |",
+            case.columns(),
             beside(&counts),
             beside(&times)
         );

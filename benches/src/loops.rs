@@ -1,4 +1,4 @@
-//! The loops whose cycles are measured, and the machine that runs them.
+//! The loops whose cycles are measured, and the machines that run them.
 
 use beetle_tests::call::reference;
 
@@ -6,7 +6,7 @@ use crate::sides::{Run, Side};
 
 /// A loop: its cells stand at 10h and run for ever.
 pub struct Loop {
-    pub name: &'static str,
+    name: &'static str,
     cells: &'static [u32],
     /// 'THROW.
     handler: u32,
@@ -68,8 +68,16 @@ static OVERFLOW: Loop = Loop {
     handler: 0x18,
 };
 
+/// Stores into its own first cell. The handler at 18h drops the code and the address and begins
+/// again: with its cells in the table a throw in every five cycles.
+static REFUSED: Loop = Loop {
+    name: "refused store again and again",
+    cells: &[0x0000_1053, 0x0000_003A, 0xFD43_0202],
+    handler: 0x18,
+};
+
 const MEMORY: usize = 65_536;
-const BASE: usize = 0x10;
+const BASE: u32 = 0x10;
 
 /// Items that lie on the data stack when a loop begins.
 const ITEMS: [u32; 4] = [3, 5, 7, 11];
@@ -81,6 +89,28 @@ const NO_AREAS: Areas = [0; 4];
 const WIDE: Areas = [0xFF00, 1024, 0x10000, 64];
 const NARROW: Areas = [0xFF00, 4, 0x10000, 64];
 
+/// What rules cannot write.
+#[derive(Clone, Copy, PartialEq, Eq)]
+enum Table {
+    None,
+    /// The loop's own cells, as offices will have it.
+    Own,
+    /// From the loop's end up to 100h, where the second loop stores.
+    Behind,
+}
+
+/// The machines that each loop runs in.
+const MACHINES: [(Areas, Table); 5] = [
+    (NO_AREAS, Table::None),
+    (NO_AREAS, Table::Own),
+    (WIDE, Table::None),
+    (WIDE, Table::Own),
+    (WIDE, Table::Behind),
+];
+
+/// How many they are.
+pub const EACH: usize = MACHINES.len();
+
 /// A machine after a run.
 #[derive(PartialEq, Eq)]
 pub struct Left {
@@ -88,30 +118,50 @@ pub struct Left {
     registers: [u32; 8],
 }
 
-/// A loop in a machine with or without areas.
+/// A loop in a machine.
 pub struct Case {
-    pub looping: &'static Loop,
+    looping: &'static Loop,
     areas: Areas,
+    table: Table,
 }
 
-/// Every loop without areas and then with wide ones, and last the one that overflows.
+/// Every loop in `EACH` machines, then the two that throw.
 pub fn cases() -> Vec<Case> {
-    let pairs = LOOPS
-        .iter()
-        .flat_map(|looping| [NO_AREAS, WIDE].map(|areas| Case { looping, areas }));
-    let overflow = Case {
-        looping: &OVERFLOW,
-        areas: NARROW,
+    let case = |looping, (areas, table)| Case {
+        looping,
+        areas,
+        table,
     };
-    pairs.chain([overflow]).collect()
+    let each = LOOPS
+        .iter()
+        .flat_map(|looping| MACHINES.map(|machine| case(looping, machine)));
+    let overflow = case(&OVERFLOW, (NARROW, Table::None));
+    let refused = case(&REFUSED, (NO_AREAS, Table::Own));
+    each.chain([overflow, refused]).collect()
 }
 
 impl Case {
-    /// The cells of the areas, as a table tells them.
-    pub fn areas(&self) -> String {
-        match self.areas {
+    /// The loop's name, the cells of the areas and what is in the table, as columns.
+    pub fn columns(&self) -> String {
+        let areas = match self.areas {
             NO_AREAS => "none".to_string(),
             [_, data, _, back] => format!("{data} and {back} cells"),
+        };
+        let table = match self.table {
+            Table::None => "none",
+            Table::Own => "the loop",
+            Table::Behind => "behind the loop",
+        };
+        format!("{} | {areas} | {table}", self.looping.name)
+    }
+
+    /// The table's first byte and its end.
+    fn table(&self) -> [u32; 2] {
+        let end = BASE + 4 * self.looping.cells.len() as u32;
+        match self.table {
+            Table::None => [0; 2],
+            Table::Own => [BASE, end],
+            Table::Behind => [end, 0x100],
         }
     }
 
@@ -127,14 +177,14 @@ impl Case {
         store(&mut memory, BASE, self.looping.cells);
         let (mut r, mut out) = ([0; 8], [0; 2]);
         let ([data, data_cells, back, back_cells], handler) = (self.areas, self.looping.handler);
-        let (m, ep) = (&mut memory, BASE as u32);
+        let (m, [first, end]) = (&mut memory, self.table());
         let answer = (reference().start)(
-            0, m, ep, handler, data, data_cells, back, back_cells, &mut r, &mut out,
+            0, m, BASE, handler, data, data_cells, back, back_cells, first, end, &mut r, &mut out,
         );
         assert_eq!(answer, 0, "the machine is ready");
         r[2] -= 4 * ITEMS.len() as u32;
-        store(&mut memory, r[2] as usize, &ITEMS);
-        let answer = run(0, &mut memory, &mut r, cycles, &mut out);
+        store(&mut memory, r[2], &ITEMS);
+        let answer = run(0, &mut memory, first, end, &mut r, cycles, &mut out);
         assert_eq!((answer, out[1]), (0, cycles), "the loop does not stop");
         Left {
             memory,
@@ -144,9 +194,24 @@ impl Case {
 }
 
 /// Puts cells into memory, least byte first.
-fn store(memory: &mut [u8], address: usize, cells: &[u32]) {
+fn store(memory: &mut [u8], address: u32, cells: &[u32]) {
     let bytes = cells.iter().flat_map(|cell| cell.to_le_bytes());
-    for (place, byte) in memory[address..].iter_mut().zip(bytes) {
+    for (place, byte) in memory[address as usize..].iter_mut().zip(bytes) {
         *place = byte;
+    }
+}
+
+#[cfg(test)]
+mod tests {
+    use super::*;
+
+    #[test]
+    fn all_sides_leave_one_machine() {
+        for case in cases() {
+            let runs = Side::ALL.into_iter().filter_map(|side| case.run_of(side));
+            let left: Vec<Left> = runs.map(|run| case.run(run, 9_999)).collect();
+            let same = left.iter().all(|other| *other == left[0]);
+            assert!(same, "{}", case.columns());
+        }
     }
 }

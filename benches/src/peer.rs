@@ -1,4 +1,4 @@
-//! The processor in C of `peer/`, which has no stack areas.
+//! The processor in C of `peer/`, which has the table but no stack areas.
 
 use crate::sides::Run;
 
@@ -20,6 +20,8 @@ mod c {
             order: u8,
             memory: *mut u8,
             memory_length: usize,
+            table: u32,
+            table_end: u32,
             registers: *mut u32,
             registers_length: usize,
             budget: u32,
@@ -28,20 +30,22 @@ mod c {
         ) -> u32;
     }
 
-    pub fn run(order: u8, memory: &mut [u8], r: &mut [u32], budget: u32, out: &mut [u32]) -> u32 {
+    pub fn run(
+        order: u8,
+        memory: &mut [u8],
+        table: u32,
+        table_end: u32,
+        registers: &mut [u32],
+        budget: u32,
+        out: &mut [u32],
+    ) -> u32 {
         let (m, m_length) = (memory.as_mut_ptr(), memory.len());
+        let (r, r_length) = (registers.as_mut_ptr(), registers.len());
         let (o, o_length) = (out.as_mut_ptr(), out.len());
         // SAFETY: each pointer goes with the length of its slice; the slices do not overlap.
         unsafe {
             peer_run(
-                order,
-                m,
-                m_length,
-                r.as_mut_ptr(),
-                r.len(),
-                budget,
-                o,
-                o_length,
+                order, m, m_length, table, table_end, r, r_length, budget, o, o_length,
             )
         }
     }
@@ -62,6 +66,7 @@ mod tests {
     struct Machine {
         order: u8,
         memory: Vec<u8>,
+        table: [u32; 2],
         registers: [u32; 8],
         out: [u32; 2],
         answer: u32,
@@ -87,6 +92,23 @@ mod tests {
         }
     }
 
+    /// None, the most that there is, any two numbers, some cells, or one or two near a stack's top.
+    fn table(random: &mut Random, sp: u32, rp: u32) -> [u32; 2] {
+        let (first, cells) = match random.below(8) {
+            0 | 1 => return [0; 2],
+            2 => return [0x10, MEMORY],
+            3 => return [pointer(random), pointer(random)],
+            4 => (4 * random.below(MEMORY / 4), random.below(64)),
+            _ => {
+                let top = [sp, rp][random.below(2) as usize];
+                let off = random.below(6).wrapping_sub(2).wrapping_mul(4);
+                (top.wrapping_add(off) % MEMORY, 1 + random.below(2))
+            }
+        };
+        let end = first.saturating_add(4 * cells).min(MEMORY);
+        [first, end]
+    }
+
     fn machine(random: &mut Random) -> Machine {
         let cells = (0..MEMORY / 4).flat_map(|_| cell(random).to_le_bytes());
         let memory = cells.collect();
@@ -100,6 +122,7 @@ mod tests {
         Machine {
             order: random.below(2) as u8,
             memory,
+            table: table(random, registers[2], registers[3]),
             registers,
             out: [7; 2],
             answer: 0,
@@ -110,11 +133,12 @@ mod tests {
         let Machine {
             order,
             memory,
+            table: [first, end],
             registers,
             out,
             ..
         } = &mut machine;
-        machine.answer = run(*order, memory, registers, budget, out);
+        machine.answer = run(*order, memory, *first, *end, registers, budget, out);
         machine
     }
 
@@ -127,7 +151,10 @@ mod tests {
             let machine = machine(&mut random);
             let budget = random.below(4);
             let [left, right] = [peer, independent].map(|run| after(run, machine.clone(), budget));
-            assert!(left == right, "{:X?} {budget}", machine.registers);
+            let Machine {
+                table, registers, ..
+            } = machine;
+            assert!(left == right, "{registers:X?} {table:X?} {budget}");
         }
     }
 }

@@ -5,7 +5,7 @@ use beetle_tests::call::{library, reference, Implementation};
 use crate::peer;
 
 /// A run of cycles, as `beetle_run`.
-pub type Run = fn(u8, &mut [u8], &mut [u32], u32, &mut [u32]) -> u32;
+pub type Run = fn(u8, &mut [u8], u32, u32, &mut [u32], u32, &mut [u32]) -> u32;
 
 #[derive(Clone, Copy, PartialEq, Eq, Debug)]
 pub enum Side {
