@@ -5,17 +5,19 @@
 
 use std::hint::black_box;
 
-pub type Start = fn(u8, &mut [u8], u32, u32, u32, u32, u32, u32, &mut [u32], &mut [u32]) -> u32;
-pub type ListRun = fn(u8, &[u8], &[u32], u32, &mut [u8], &mut [u32], u32, &mut [u32]) -> u32;
+pub type Start =
+    fn(u8, &mut [u8], u32, u32, u32, u32, u32, u32, u32, u32, &mut [u32], &mut [u32]) -> u32;
+pub type ListRun =
+    fn(u8, &[u8], &[u32], u32, &mut [u8], u32, u32, &mut [u32], u32, &mut [u32]) -> u32;
 pub type ListResume =
-    fn(u8, &[u8], &[u32], u32, &mut [u8], u32, u8, &mut [u32], u32, &mut [u32]) -> u32;
+    fn(u8, &[u8], &[u32], u32, &mut [u8], u32, u32, u32, u8, &mut [u32], u32, &mut [u32]) -> u32;
 
 /// The ten calls of the interface.
 #[derive(Clone, Copy)]
 pub struct Implementation {
     pub start: Start,
-    pub cycle: fn(u8, &mut [u8], &mut [u32], &mut [u32]) -> u32,
-    pub run: fn(u8, &mut [u8], &mut [u32], u32, &mut [u32]) -> u32,
+    pub cycle: fn(u8, &mut [u8], u32, u32, &mut [u32], &mut [u32]) -> u32,
+    pub run: fn(u8, &mut [u8], u32, u32, &mut [u32], u32, &mut [u32]) -> u32,
     pub load: fn(u8, &mut [u8], &[u8], u32, &mut [u32]) -> u32,
     pub load_first: fn(u8, &mut [u8], &[u8], u32, u32, &mut [u32]) -> u32,
     pub save: fn(u8, &[u8], u32, u32, &mut [u8], &mut [u32]) -> u32,
@@ -79,6 +81,8 @@ pub struct Call {
     pub numbers: [u32; 4],
     /// start: the four numbers of the areas.
     pub areas: [u32; 4],
+    /// start, cycle, run, list_run, list_resume: the table's first byte and its end.
+    pub table: [u32; 2],
     pub memory: Vec<u8>,
     pub file: Vec<u8>,
     pub kinds: Vec<u8>,
@@ -96,6 +100,7 @@ impl Call {
             order: 0,
             numbers: [0; 4],
             areas: [0; 4],
+            table: [0; 2],
             memory: Vec::new(),
             file: Vec::new(),
             kinds: Vec::new(),
@@ -190,20 +195,25 @@ impl Arrays {
     fn lend(&mut self, to: &Implementation, call: &Call) -> u32 {
         let (order, [x, y, item, ran]) = (call.order, call.numbers);
         let [data_top, data, return_top, back] = call.areas;
+        let [t, end] = call.table;
         let (m, f) = (self.memory.lent(), self.file.lent());
         let (k, v, w) = (self.kinds.lent(), self.operands.lent(), self.output.lent());
         let (r, o) = (self.registers.lent(), self.out.lent());
         match call.entry {
-            Entry::Start => (to.start)(order, m, x, y, data_top, data, return_top, back, r, o),
-            Entry::Cycle => (to.cycle)(order, m, r, o),
-            Entry::Run => (to.run)(order, m, r, x, o),
+            Entry::Start => (to.start)(
+                order, m, x, y, data_top, data, return_top, back, t, end, r, o,
+            ),
+            Entry::Cycle => (to.cycle)(order, m, t, end, r, o),
+            Entry::Run => (to.run)(order, m, t, end, r, x, o),
             Entry::Load => (to.load)(order, m, f, x, o),
             Entry::LoadFirst => (to.load_first)(order, m, f, x, y, o),
             Entry::Save => (to.save)(order, m, x, y, w, o),
             Entry::Pack => (to.pack)(order, k, v, x, w, o),
             Entry::PackFile => (to.pack_file)(order, f, w, o),
-            Entry::ListRun => (to.list_run)(order, k, v, x, m, r, y, o),
-            Entry::ListResume => (to.list_resume)(order, k, v, x, m, item, ran as u8, r, y, o),
+            Entry::ListRun => (to.list_run)(order, k, v, x, m, t, end, r, y, o),
+            Entry::ListResume => {
+                (to.list_resume)(order, k, v, x, m, t, end, item, ran as u8, r, y, o)
+            }
         }
     }
 }
@@ -218,6 +228,7 @@ pub fn perform(implementation: &Implementation, call: &Call) -> Returned {
         order: call.order,
         numbers: call.numbers,
         areas: call.areas,
+        table: call.table,
         memory: arrays.memory.taken_back(&mut kept),
         file: arrays.file.taken_back(&mut kept),
         kinds: arrays.kinds.taken_back(&mut kept),

@@ -32,6 +32,7 @@ fn processor_at_base(rule: &Call) -> Call {
     let a = order_of(rule.order).cell_of([cell[0], cell[1], cell[2], cell[3]]);
     let mut call = Call::new(Entry::Run);
     call.order = rule.order;
+    call.table = rule.table;
     call.memory = rule.memory.clone();
     call.registers = vec![base + 4, a];
     call.registers.extend(&rule.registers);

@@ -71,6 +71,8 @@ fn started(calls: &Implementation, cells: &[u32]) -> (Vec<u8>, [u32; 8]) {
         0,
         0,
         0,
+        0,
+        0,
         &mut registers,
         &mut out,
     );
@@ -84,7 +86,10 @@ fn divided(calls: &Implementation, opcode: u32) -> (i32, i32) {
     put(&mut memory, 0x204, -7_i32 as u32);
     put(&mut memory, 0x200, 2);
     registers[2] = 0x200;
-    assert_eq!((calls.cycle)(0, &mut memory, &mut registers, &mut [0]), 0);
+    assert_eq!(
+        (calls.cycle)(0, &mut memory, 0, 0, &mut registers, &mut [0]),
+        0
+    );
     (cell(&memory, 0x204) as i32, cell(&memory, 0x200) as i32)
 }
 
@@ -92,21 +97,24 @@ pub fn running(calls: &Implementation) {
     let sum = [0x0000_0253, 0x0000_0353, 0x0000_551E];
     let (mut memory, mut registers) = started(calls, &sum);
     let mut out = [0; 2];
-    let answer = (calls.run)(0, &mut memory, &mut registers, 100, &mut out);
+    let answer = (calls.run)(0, &mut memory, 0, 0, &mut registers, 100, &mut out);
     assert_eq!((answer, out), (1, [5, 4]), "reason 5, four cycles");
 
     assert_eq!(divided(calls, 0x28), (1, -4), "/MOD");
     assert_eq!(divided(calls, 0x2A), (-1, -3), "S/REM");
 
     let (mut memory, mut registers) = started(calls, &[0x0D]);
-    assert_eq!((calls.cycle)(0, &mut memory, &mut registers, &mut [0]), 0);
+    assert_eq!(
+        (calls.cycle)(0, &mut memory, 0, 0, &mut registers, &mut [0]),
+        0
+    );
     assert_eq!(cell(&memory, 0x2FC) as i32, -9, "R> at start");
     assert_eq!(cell(&memory, 0xC), 0x400, "R> at start");
 
     let (mut memory, mut registers) = started(calls, &[0x01]);
     registers[2] = 0;
     let (before, mut out) = (memory.clone(), [0]);
-    let answer = (calls.cycle)(0, &mut memory, &mut registers, &mut out);
+    let answer = (calls.cycle)(0, &mut memory, 0, 0, &mut registers, &mut out);
     assert_eq!((answer, out[0] as i32), (1, -258), "DUP with SP 0");
     assert_eq!(memory, before, "DUP with SP 0");
 }
@@ -118,7 +126,10 @@ fn counted(calls: &Implementation, index: u32, limit: u32, step: i32) -> Option<
     put(&mut memory, 0x300, index);
     put(&mut memory, 0x304, limit);
     (registers[2], registers[3]) = (0x200, 0x300);
-    assert_eq!((calls.cycle)(0, &mut memory, &mut registers, &mut [0]), 0);
+    assert_eq!(
+        (calls.cycle)(0, &mut memory, 0, 0, &mut registers, &mut [0]),
+        0
+    );
     assert_eq!(registers[2], 0x204, "the step is dropped");
     match registers[3] {
         0x300 => Some(cell(&memory, 0x300)),

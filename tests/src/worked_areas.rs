@@ -45,6 +45,8 @@ impl<'c> Machine<'c> {
             data,
             return_top,
             back,
+            0,
+            0,
             r,
             &mut [0],
         );
@@ -67,7 +69,7 @@ impl<'c> Machine<'c> {
     fn cycle(&mut self) -> Option<i32> {
         let mut out = [0];
         let (m, r) = (&mut self.memory, &mut self.registers);
-        let answer = (self.calls.cycle)(self.order, m, r, &mut out);
+        let answer = (self.calls.cycle)(self.order, m, 0, 0, r, &mut out);
         assert_eq!(self.registers[4..], AREAS, "the areas come back");
         match answer {
             0 => None,
@@ -155,7 +157,7 @@ fn returning(calls: &Implementation, order: u8) {
 /// What a start answers to areas in 1,024 bytes.
 fn judged(calls: &Implementation, order: u8, [a, b, c, d]: [u32; 4]) -> i32 {
     let (m, r) = (&mut [0; 0x400], &mut [0; 8]);
-    (calls.start)(order, m, 0x10, 0x10, a, b, c, d, r, &mut [0]) as i32
+    (calls.start)(order, m, 0x10, 0x10, a, b, c, d, 0, 0, r, &mut [0]) as i32
 }
 
 fn judging(calls: &Implementation, order: u8) {

@@ -1,13 +1,13 @@
 //! Checks the reference, and the library where it is linked, against vectors: those of the folder
 //! `vectors`, or a file that is named after its kind: `vectors cycles FILE`.
 //!
-//! A cycle is a line of order, EP, A, SP, RP, the four numbers of the areas (or nothing for none) and
-//! memory, `=`, the answer (`on`, or `stop` and the reason in decimal, or `refused` and the number), EP,
-//! A, SP, RP afterwards, and each changed byte as `address:byte`. A start is a line of order, EP,
-//! handler, the areas and memory, `=`, and the same. A listing is a line of a file's bytes (`-` for
-//! none), `=`, and the cells or the refusal's number. A load that halts is a line of order, length of a
-//! memory of 5Ah, file, address and cells, `=`, and `refused` with the number, or the cells loaded and
-//! each changed byte.
+//! A cycle is a line of order, EP, A, SP, RP and memory, or with the table's two numbers before EP and
+//! the four of the areas after RP; `=`, the answer (`on`, or `stop` and the reason in decimal, or
+//! `refused` and the number), EP, A, SP, RP afterwards, and each changed byte as `address:byte`. A start
+//! is a line of order, table, EP, handler, areas and memory, `=`, and the same. A listing is a line of a
+//! file's bytes (`-` for none), `=`, and the cells or the refusal's number. A load that halts is a line
+//! of order, length of a memory of 5Ah, file, address and cells, `=`, and `refused` with the number, or
+//! the cells loaded and each changed byte.
 
 #[cfg(feature = "library")]
 use beetle_tests::call::library;
@@ -104,11 +104,17 @@ fn register_words(registers: &[u32]) -> Vec<String> {
 
 fn cycle_agrees(calls: &Implementation, line: &str) -> bool {
     let (given, expected) = sides(line);
-    let (order, mut registers, mut memory) = state(&given);
+    let (order, numbers, mut memory) = state(&given);
+    let (table, moving) = match numbers.len() {
+        4 => (&[0; 2][..], &numbers[..]),
+        _ => numbers.split_at(2),
+    };
+    let mut registers = moving.to_vec();
     registers.resize(8, 0);
     let (areas, before) = (registers[4..].to_vec(), memory.clone());
     let mut out = [0];
-    let answer = (calls.cycle)(order, &mut memory, &mut registers, &mut out);
+    let (m, r) = (&mut memory, &mut registers);
+    let answer = (calls.cycle)(order, m, table[0], table[1], r, &mut out);
     let mut told = answer_words(answer, out[0]);
     told.extend(register_words(&registers));
     told.extend(changes(&before, &memory));
@@ -118,17 +124,17 @@ fn cycle_agrees(calls: &Implementation, line: &str) -> bool {
 fn start_agrees(calls: &Implementation, line: &str) -> bool {
     let (given, expected) = sides(line);
     let (order, numbers, mut memory) = state(&given);
-    let [ep, handler, data_top, data, return_top, back] = numbers[..] else {
-        panic!("six numbers");
+    let [table, end, ep, handler, data_top, data, return_top, back] = numbers[..] else {
+        panic!("eight numbers");
     };
     let (mut registers, before) = ([0; 8], memory.clone());
     let mut out = [0];
     let (m, r) = (&mut memory, &mut registers);
     let answer = (calls.start)(
-        order, m, ep, handler, data_top, data, return_top, back, r, &mut out,
+        order, m, ep, handler, data_top, data, return_top, back, table, end, r, &mut out,
     );
     let refused = answer > 1;
-    let areas = if refused { &[0; 4] } else { &numbers[2..] };
+    let areas = if refused { &[0; 4] } else { &numbers[4..] };
     let mut told = answer_words(answer, out[0]);
     told.extend(register_words(&registers));
     told.extend(changes(&before, &memory));

@@ -1,5 +1,5 @@
-//! The ten calls of the C interface: refusals in document 01's order, with -4111 after -4102, and
-//! -4105 last; what is lent is written on success only.
+//! The ten calls of the C interface: refusals in document 01's order, with -4111 and -4112 after
+//! -4102, and -4105 last; what is lent is written on success only.
 
 use super::instructions::Registers;
 use super::list_machine::{ListMachine, Position, Step};
@@ -10,6 +10,7 @@ use super::packer;
 use super::processor::{self, Outcome};
 use super::refusal::{demand, Refusal};
 use super::stacks::{Areas, Numbers};
+use super::tables::{Range, Table};
 
 const WENT_ON: u32 = 0;
 const STOPPED: u32 = 1;
@@ -41,15 +42,23 @@ fn areas_behind(moving: usize, lent: &[u32]) -> Option<Numbers> {
     lent.get(moving..moving + 4)?.try_into().ok()
 }
 
-/// What is judged first wherever areas are given: -4101, -4102, -4111. Areas that an array is too
-/// short to hold are not judged; -4105 follows for it.
-fn machine(order: u8, memory: &mut [u8], areas: Option<Numbers>) -> Result<Lent<'_>, Refusal> {
+/// What is judged first wherever areas and a table are given: -4101, -4102, -4111, -4112. Areas that
+/// an array is too short to hold are not judged; -4105 follows for it.
+fn machine(
+    order: u8,
+    memory: &mut [u8],
+    areas: Option<Numbers>,
+    table: Range,
+) -> Result<Lent<'_>, Refusal> {
     memory_length(memory)?;
     let order = byte_order(order)?;
-    let areas = Areas::accept(areas.unwrap_or_default(), memory.len() as u32)?;
+    let length = memory.len() as u32;
+    let areas = Areas::accept(areas.unwrap_or_default(), length)?;
+    let table = Table::accept(table, length)?;
     Ok(Lent {
         order,
         areas,
+        table,
         bytes: memory,
     })
 }
@@ -86,12 +95,14 @@ pub fn start(
     data_cells: u32,
     return_top: u32,
     return_cells: u32,
+    table: u32,
+    table_end: u32,
     registers: &mut [u32],
     out: &mut [u32],
 ) -> u32 {
     let areas = [data_top, data_cells, return_top, return_cells];
     number((|| {
-        let mut lent = machine(order, memory, Some(areas))?;
+        let mut lent = machine(order, memory, Some(areas), [table, table_end])?;
         room(registers, 8)?;
         room(out, 1)?;
         let (r, outcome) = processor::start(&mut lent, ep, handler, areas);
@@ -103,9 +114,17 @@ pub fn start(
     })())
 }
 
-pub fn cycle(order: u8, memory: &mut [u8], registers: &mut [u32], out: &mut [u32]) -> u32 {
+pub fn cycle(
+    order: u8,
+    memory: &mut [u8],
+    table: u32,
+    table_end: u32,
+    registers: &mut [u32],
+    out: &mut [u32],
+) -> u32 {
     number((|| {
-        let mut lent = machine(order, memory, areas_behind(4, registers))?;
+        let areas = areas_behind(4, registers);
+        let mut lent = machine(order, memory, areas, [table, table_end])?;
         room(registers, 8)?;
         room(out, 1)?;
         let mut r = read_registers(registers);
@@ -119,12 +138,15 @@ pub fn cycle(order: u8, memory: &mut [u8], registers: &mut [u32], out: &mut [u32
 pub fn run(
     order: u8,
     memory: &mut [u8],
+    table: u32,
+    table_end: u32,
     registers: &mut [u32],
     budget: u32,
     out: &mut [u32],
 ) -> u32 {
     number((|| {
-        let mut lent = machine(order, memory, areas_behind(4, registers))?;
+        let areas = areas_behind(4, registers);
+        let mut lent = machine(order, memory, areas, [table, table_end])?;
         room(registers, 8)?;
         room(out, 2)?;
         let mut r = read_registers(registers);
@@ -232,12 +254,14 @@ pub fn list_run(
     operands: &[u32],
     base: u32,
     memory: &mut [u8],
+    table: u32,
+    table_end: u32,
     pointers: &mut [u32],
     items: u32,
     out: &mut [u32],
 ) -> u32 {
     list_resume(
-        order, kinds, operands, base, memory, 0, 0, pointers, items, out,
+        order, kinds, operands, base, memory, table, table_end, 0, 0, pointers, items, out,
     )
 }
 
@@ -249,6 +273,8 @@ pub fn list_resume(
     operands: &[u32],
     base: u32,
     memory: &mut [u8],
+    table: u32,
+    table_end: u32,
     item: u32,
     ran: u8,
     pointers: &mut [u32],
@@ -256,7 +282,8 @@ pub fn list_resume(
     out: &mut [u32],
 ) -> u32 {
     number((|| {
-        let lent = machine(order, memory, areas_behind(2, pointers))?;
+        let areas = areas_behind(2, pointers);
+        let lent = machine(order, memory, areas, [table, table_end])?;
         let listing = listing::accept(kinds, operands)?;
         let layout = packer::layout(&listing);
         packer::accept_base(base, &layout)?;

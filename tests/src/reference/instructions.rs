@@ -6,6 +6,7 @@
 use super::arithmetic::{floored, Division};
 use super::memory::{Fault, Memory, Order};
 use super::stacks::Stacks;
+use super::tables::Stores;
 
 /// EP, A, SP, RP: they travel with each call.
 #[derive(Clone, Copy, PartialEq, Eq, Debug, Default)]
@@ -305,7 +306,7 @@ pub fn fetch(m: &mut impl Memory, r: &mut Registers) -> Act {
 pub fn store(m: &mut impl Memory, r: &mut Registers) -> Act {
     let address = m.data_item(r.sp)?;
     let x = m.data_item(above(r.sp, 1))?;
-    m.check_cell(address)?;
+    m.check_store(address)?;
     m.set_cell(address, x);
     r.sp = above(r.sp, 2);
     Ok(Control::Continue)
@@ -327,7 +328,7 @@ pub fn c_fetch(m: &mut impl Memory, r: &mut Registers) -> Act {
 pub fn c_store(m: &mut impl Memory, r: &mut Registers) -> Act {
     let address = byte_address(m, m.data_item(r.sp)?);
     let char = m.data_item(above(r.sp, 1))?;
-    m.check_byte(address)?;
+    m.check_store_byte(address)?;
     m.set_byte(address, char as u8);
     r.sp = above(r.sp, 2);
     Ok(Control::Continue)
@@ -339,6 +340,7 @@ pub fn plus_store(m: &mut impl Memory, r: &mut Registers) -> Act {
     let address = m.data_item(r.sp)?;
     let n = m.data_item(above(r.sp, 1))?;
     let old = m.fetch(address)?;
+    m.check_store(address)?;
     m.set_cell(address, old.wrapping_add(n));
     r.sp = above(r.sp, 2);
     Ok(Control::Continue)

@@ -12,6 +12,7 @@ use super::opcodes::plain;
 use super::packer::{address, Form, Layout};
 use super::processor::raise;
 use super::stacks::Areas;
+use super::tables::Table;
 
 /// Lent memory that notes writes into the image and can take an item's writes back.
 struct Watched<'m> {
@@ -45,6 +46,10 @@ impl Memory for Watched<'_> {
 
     fn areas(&self) -> &Areas {
         self.lent.areas()
+    }
+
+    fn table(&self) -> Table {
+        self.lent.table()
     }
 
     fn cell(&self, address: u32) -> u32 {

@@ -1,6 +1,7 @@
 //! Cells and bytes of the lent memory, and the faults of reaching for them.
 
 use super::stacks::Areas;
+use super::tables::Table;
 
 /// ENDISM, the byte order of a cell.
 #[derive(Clone, Copy, PartialEq, Eq, Debug)]
@@ -41,7 +42,7 @@ impl Order {
     }
 }
 
-/// What an instruction may raise (document 001, table 4; document 02, (a)).
+/// What an instruction may raise (document 001, table 4; document 02, (a) and (b)).
 #[derive(Clone, Copy, PartialEq, Eq, Debug)]
 pub enum Fault {
     /// -9, with the address.
@@ -56,6 +57,8 @@ pub enum Fault {
     ReturnBelow,
     /// -6: at the top of the return area, or above.
     ReturnAbove,
+    /// -20: a store into the table.
+    ReadOnly,
     /// -10.
     DivisionByZero,
     /// -256.
@@ -74,6 +77,7 @@ impl Fault {
             Fault::DataAbove => -4,
             Fault::ReturnBelow => -5,
             Fault::ReturnAbove => -6,
+            Fault::ReadOnly => -20,
             Fault::DivisionByZero => -10,
             Fault::IllegalOpcode => -256,
             Fault::LibraryRoutine => -257,
@@ -97,6 +101,7 @@ pub trait Memory {
     fn length(&self) -> u32;
     fn order(&self) -> Order;
     fn areas(&self) -> &Areas;
+    fn table(&self) -> Table;
     fn cell(&self, address: u32) -> u32;
     fn set_cell(&mut self, address: u32, cell: u32);
     fn byte(&self, address: u32) -> u8;
@@ -131,10 +136,11 @@ pub trait Memory {
     }
 }
 
-/// The memory that the caller lent, with its byte order and the stack areas.
+/// The memory that the caller lent, with its byte order, the stack areas and the table.
 pub struct Lent<'m> {
     pub order: Order,
     pub areas: Areas,
+    pub table: Table,
     pub bytes: &'m mut [u8],
 }
 
@@ -144,6 +150,7 @@ impl Lent<'_> {
         Lent {
             order: self.order,
             areas: self.areas,
+            table: self.table,
             bytes: self.bytes,
         }
     }
@@ -163,6 +170,11 @@ impl Memory for Lent<'_> {
     #[inline(always)]
     fn areas(&self) -> &Areas {
         &self.areas
+    }
+
+    #[inline(always)]
+    fn table(&self) -> Table {
+        self.table
     }
 
     #[inline(always)]

@@ -15,3 +15,4 @@ pub mod packer;
 pub mod processor;
 pub mod refusal;
 pub mod stacks;
+pub mod tables;

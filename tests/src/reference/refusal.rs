@@ -1,4 +1,4 @@
-//! What is refused, with its number (document 01, the two lists; document 02, (a)).
+//! What is refused, with its number (document 01, the two lists; document 02, (a) and (b)).
 
 #[derive(Clone, Copy, PartialEq, Eq, Debug)]
 pub enum Refusal {
@@ -20,6 +20,8 @@ pub enum Refusal {
     ByteOrder,
     /// -4111.
     Areas,
+    /// -4112.
+    Table,
     /// -4104.
     Unaligned,
     /// -1.
@@ -42,6 +44,7 @@ impl Refusal {
             Refusal::MemoryLength => -4101,
             Refusal::ByteOrder => -4102,
             Refusal::Areas => -4111,
+            Refusal::Table => -4112,
             Refusal::Unaligned => -4104,
             Refusal::OutsideMemory => -1,
             Refusal::Base => -4110,

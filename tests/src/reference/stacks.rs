@@ -102,7 +102,7 @@ pub fn first_pointers(numbers: Numbers, length: u32) -> (u32, u32) {
     }
 }
 
-/// Places of the stacks: range and alignment first, then the area.
+/// Places of the stacks: range and alignment first, then the area, and where one is written the table.
 pub trait Stacks: Memory {
     /// An item of the data stack: the held cell may be read too.
     #[inline(always)]
@@ -118,27 +118,31 @@ pub trait Stacks: Memory {
     fn check_data(&self, address: u32) -> Result<(), Fault> {
         self.check_cell(address)?;
         let area = self.areas().data;
-        area.judge(address, Fault::DataBelow, Fault::DataAbove)
-    }
-
-    /// A place of the return stack to be written.
-    #[inline(always)]
-    fn check_return(&self, address: u32) -> Result<(), Fault> {
-        self.check_cell(address)?;
-        let area = self.areas().returns;
-        area.judge(address, Fault::ReturnBelow, Fault::ReturnAbove)
+        area.judge(address, Fault::DataBelow, Fault::DataAbove)?;
+        self.table().judge(address)
     }
 
     /// An item of the return stack.
     #[inline(always)]
     fn return_item(&self, address: u32) -> Result<u32, Fault> {
-        self.check_return(address)?;
-        Ok(self.cell(address))
+        let x = self.fetch(address)?;
+        let area = self.areas().returns;
+        area.judge(address, Fault::ReturnBelow, Fault::ReturnAbove)?;
+        Ok(x)
+    }
+
+    /// A place of the return stack to be written.
+    #[inline(always)]
+    fn check_return(&self, address: u32) -> Result<(), Fault> {
+        self.return_item(address)?;
+        self.table().judge(address)
     }
 
     /// Whether a throw may push its code there: the held cell is for it.
     fn takes_code(&self, address: u32) -> bool {
-        self.check_cell(address).is_ok() && self.areas().data_and_held.contains(address)
+        self.check_cell(address).is_ok()
+            && self.areas().data_and_held.contains(address)
+            && !self.table().contains(address)
     }
 }
 
