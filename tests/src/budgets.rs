@@ -12,6 +12,7 @@ pub struct Budgets {
     pub stopped_later: u32,
     pub stopped_at_once: u32,
     pub refused: u32,
+    pub with_table: u32,
 }
 
 /// The same run with another budget.
@@ -87,6 +88,7 @@ pub fn try_run(
     let before = run.numbers[0].min(MOST);
     let run = &with_budget(run, before);
     let first = perform(implementation, run);
+    tally.with_table += u32::from(run.table != [0; 2]);
     if first.answer != 0 {
         tally.stopped_at_once += u32::from(first.answer == 1);
         tally.refused += u32::from(first.answer != 1);

@@ -124,6 +124,7 @@ pub struct Rules {
     pub stopped: u32,
     pub outside: u32,
     pub with_areas: u32,
+    pub with_table: u32,
 }
 
 /// Tries demand 3 on an implementation; the error is the first rule that breaks it.
@@ -145,6 +146,7 @@ pub fn try_rules(implementation: &Implementation, rules: u32) -> Result<Rules, D
         tally.stopped += u32::from(followed.stopped);
         tally.outside += u32::from(followed.outside);
         tally.with_areas += u32::from(call.given_areas() != [0; 4]);
+        tally.with_table += u32::from(call.table != [0; 2]);
     }
     Ok(tally)
 }

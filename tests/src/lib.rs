@@ -8,6 +8,7 @@ pub mod cuts;
 pub mod demand3;
 pub mod firsts;
 pub mod random;
+pub mod reach;
 pub mod reference;
 pub mod shrink;
 pub mod worked;

@@ -23,6 +23,7 @@ pub fn smallest(call: &Call, differs: &dyn Fn(&Call) -> bool) -> Call {
         shrinking.shorten_listing();
         shrinking.shorten_memory();
         shrinking.lower_areas();
+        shrinking.lower_table();
         shrinking.lower_numbers();
         shrinking.zero_bytes(|call| &mut call.memory);
         shrinking.zero_bytes(|call| &mut call.file);
@@ -128,6 +129,14 @@ impl Shrinking<'_> {
         }
     }
 
+    /// No table, or one of a single cell at either end of it.
+    fn lower_table(&mut self) {
+        let [first, end] = self.best.table;
+        self.attempt_with(|call| call.table = [0; 2]);
+        self.attempt_with(|call| call.table = [first, first.saturating_add(4)]);
+        self.attempt_with(|call| call.table = [end.saturating_sub(4), end]);
+    }
+
     fn zero_bytes(&mut self, of: impl Fn(&mut Call) -> &mut Vec<u8>) {
         let length = of(&mut self.best).len();
         for size in pieces(2 * length) {
@@ -174,6 +183,9 @@ pub fn call_text(call: &Call) -> String {
     );
     if call.areas != [0; 4] {
         text += &array_text("areas", &call.areas);
+    }
+    if call.table != [0; 2] {
+        text += &array_text("table", &call.table);
     }
     if !call.memory.is_empty() {
         text += &format!("  memory: {}\n", memory_text(&call.memory));

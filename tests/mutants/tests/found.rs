@@ -78,6 +78,7 @@ fn budgets_of_the_reference_can_be_cut_and_raised() {
         runs.stopped_later,
         runs.stopped_at_once,
         runs.refused,
+        runs.with_table,
     ] {
         assert!(kind > RULES / 400);
     }
@@ -98,4 +99,5 @@ fn the_reference_meets_demand_3() {
     println!("{rules:?}");
     assert!(rules.items > u64::from(RULES) && rules.stopped > 0 && rules.outside > 0);
     assert!(rules.with_areas > RULES / 4);
+    assert!(rules.with_table > RULES / 4 && rules.with_table < 3 * RULES / 4);
 }

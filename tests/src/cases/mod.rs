@@ -5,6 +5,7 @@ pub mod listings;
 pub mod modules;
 pub mod processor;
 pub mod rules;
+pub mod tables;
 pub mod writer;
 
 use crate::call::Call;
@@ -49,6 +50,14 @@ pub fn pointer(random: &mut Random, length: u32) -> u32 {
 /// The order that a number stands for; bad numbers are drawn too, and refused later.
 pub fn order_of(number: u8) -> Order {
     Order::from_number(number).unwrap_or(Order::LeastFirst)
+}
+
+/// The cell at an address, or 0 outside memory.
+pub fn cell_at(call: &Call, address: u32) -> u32 {
+    let at = address as usize;
+    let bytes = call.memory.get(at..at.saturating_add(4));
+    let bytes = bytes.and_then(|bytes| bytes.try_into().ok());
+    bytes.map_or(0, |bytes| order_of(call.order).cell_of(bytes))
 }
 
 /// Writes a cell where it lies inside memory.
@@ -98,11 +107,11 @@ fn odd_length(random: &mut Random) -> usize {
     random.choose(&lengths)
 }
 
-/// Damages what is lent beside the input: byte order, memory's length, areas, short arrays. Up to
-/// three at once, so that the order of refusals shows.
+/// Damages what is lent beside the input: byte order, memory's length, areas, table, short arrays. Up
+/// to three at once, so that the order of refusals shows.
 pub fn damage(random: &mut Random, call: &mut Call) {
     for _ in 0..random.between(1, 3) {
-        match random.below(6) {
+        match random.below(7) {
             0 => call.order = random.choose(&[0, 1, 2, 3, 128, 254, 255]),
             1 => {
                 let length = odd_length(random);
@@ -121,6 +130,7 @@ pub fn damage(random: &mut Random, call: &mut Call) {
                 let numbers = call.given_areas().iter_mut().zip(bad);
                 numbers.for_each(|(number, bad)| *number = bad);
             }
+            5 => call.table = tables::bad(random, 1024),
             _ => {
                 let length = (call.output.len() + 2).saturating_sub(random.below(5) as usize);
                 call.output.resize(length, 0x77);

@@ -1,9 +1,10 @@
 //! Calls of the processor.
 
 use super::{any_cell, any_cells, damage, fill_memory, memory_length, order_of, out_with_room};
-use super::{areas, pointer, put_cell, rules};
+use super::{areas, cell_at, pointer, put_cell, rules, tables};
 use crate::call::{perform, reference, Call, Entry};
 use crate::random::Random;
+use crate::reference::stacks::first_pointers;
 
 /// A machine in any state.
 fn machine(random: &mut Random, entry: Entry) -> Call {
@@ -92,6 +93,41 @@ fn prime(random: &mut Random, call: &mut Call) {
     }
 }
 
+/// Where an instruction may write: the place that the top item names, those that ROLL moves items
+/// between, or the stacks.
+fn written_places(call: &Call, opcode: u32) -> [u32; 3] {
+    let [sp, rp] = [2, 3].map(|pointer| call.registers[pointer]);
+    let top = cell_at(call, sp);
+    match opcode {
+        0x3A | 0x3C | 0x3D => [top; 3],
+        0x0A => {
+            let moved = top.min(call.memory.len() as u32);
+            let deepest = sp.wrapping_add(4 * moved).wrapping_add(4);
+            [deepest, deepest.wrapping_sub(4), sp.wrapping_add(4)]
+        }
+        0x0C | 0x46..=0x4B => [rp.wrapping_sub(4), rp.wrapping_sub(4), rp.wrapping_sub(8)],
+        0x4C..=0x4F => [rp; 3],
+        _ => [sp, sp.wrapping_add(4), sp.wrapping_sub(4)],
+    }
+}
+
+/// A table, or none: mostly about what the opcode may write, else about EP or what another may. A small
+/// u is put on the stack for ROLL, and for a fetch or a store an address at an edge of the table.
+fn put_table(random: &mut Random, call: &mut Call, opcode: u32) {
+    let sp = call.registers[2];
+    if opcode == 0x0A && random.one_in(2) {
+        put_cell(call, sp, random.below(6));
+    }
+    let other = random.choose(&[opcode, opcode, opcode, opcode, 0, 0x3A, 0x4B, 0x4C]);
+    let [x, y, z] = written_places(call, other);
+    let places = [x, y, z, x, y, z, call.registers[0]];
+    call.table = tables::any(random, call.memory.len() as u32, &places);
+    if (0x39..=0x3D).contains(&opcode) && random.one_in(2) && call.table != tables::NONE {
+        let edge = tables::edge(random, call.table);
+        put_cell(call, sp, edge);
+    }
+}
+
 /// Every opcode byte in turn, the opcodes of table 7 (and 5Ch) more often than the others.
 fn opcode(index: u32) -> u32 {
     if index.is_multiple_of(4) {
@@ -113,6 +149,7 @@ pub fn cycle(random: &mut Random, index: u32) -> Call {
         _ => random.cell(),
     };
     call.registers[1] = (rest << 8) | opcode(index);
+    put_table(random, &mut call, opcode(index));
     if random.one_in(40) {
         damage(random, &mut call);
     }
@@ -125,6 +162,9 @@ pub fn start(random: &mut Random, _: u32) -> Call {
     let length = call.memory.len() as u32;
     call.numbers = [pointer(random, length), pointer(random, length), 0, 0];
     call.areas = areas::any(random, length);
+    let (sp, _) = first_pointers(call.areas, length);
+    let places = [sp.wrapping_sub(4), sp.wrapping_sub(4), call.numbers[0]];
+    call.table = tables::any(random, length, &places);
     if random.one_in(8) {
         damage(random, &mut call);
     }
@@ -181,6 +221,7 @@ fn run_of_bytes(random: &mut Random) -> Call {
         let pointers = run_pointers(random, &call);
         call.registers[2..4].copy_from_slice(&pointers);
     }
+    put_table(random, &mut call, 0);
     call.numbers[0] = budget(random);
     call
 }
@@ -189,13 +230,10 @@ fn run_of_bytes(random: &mut Random) -> Call {
 fn run_of_rule(random: &mut Random) -> Call {
     let rule = rules::rule(random);
     let base = rule.numbers[0];
-    let at = base as usize;
-    let a = match rule.memory.get(at..at + 4) {
-        Some(cell) => order_of(rule.order).cell_of([cell[0], cell[1], cell[2], cell[3]]),
-        None => 0,
-    };
+    let a = cell_at(&rule, base);
     let mut call = Call::new(Entry::Run);
     call.order = rule.order;
+    call.table = rule.table;
     call.memory = rule.memory;
     call.registers = vec![base + 4, a];
     call.registers.extend(rule.registers);
@@ -251,6 +289,7 @@ pub fn large(random: &mut Random, index: u32) -> Call {
     if entry == Entry::Start {
         call.numbers = [pointer(random, length), pointer(random, length), 0, 0];
         call.areas = areas;
+        call.table = tables::any(random, length & !3, &[length, length - 0x104]);
     } else {
         let a = (random.below(64) << 8) | random.below(0x58);
         let [ep, mut sp, mut rp] = [8, 12, 12].map(|cells| length - 4 * random.below(cells));
@@ -259,6 +298,7 @@ pub fn large(random: &mut Random, index: u32) -> Call {
         }
         call.registers = vec![ep, a, sp, rp];
         call.registers.extend(areas);
+        put_table(random, &mut call, a % 256);
     }
     if entry == Entry::Run {
         call.numbers[0] = random.below(100);

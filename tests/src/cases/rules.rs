@@ -2,7 +2,7 @@
 
 use super::writer::Writer;
 use super::{any_cell, damage, fill_memory, memory_length, order_of, out_with_room, pointer};
-use super::{areas, put_cell, unused_length, GREATEST};
+use super::{areas, put_cell, tables, unused_length, GREATEST};
 use crate::call::{perform, reference, Call, Entry};
 use crate::random::Random;
 use crate::reference::listing::{accept, Listing};
@@ -76,6 +76,37 @@ fn stacks(random: &mut Random, length: u32, image: &std::ops::Range<u32>) -> Vec
     pointers.into_iter().chain(areas).collect()
 }
 
+/// The addresses that a listing names before a store.
+fn named_places(listing: &Listing) -> Vec<u32> {
+    let pairs = listing.kinds.windows(2).zip(&listing.operands);
+    let named = pairs.filter(|(pair, _)| matches!(pair, [0x52, 0x3A | 0x3C | 0x3D]));
+    named.map(|(_, address)| *address).collect()
+}
+
+/// None, or a good table: often about what the rule writes, or just over its image.
+fn put_table(
+    random: &mut Random,
+    call: &mut Call,
+    listing: &Listing,
+    image: &std::ops::Range<u32>,
+) {
+    let length = call.memory.len() as u32;
+    let [sp, rp] = [0, 1].map(|pointer| call.registers[pointer]);
+    let stacks = vec![sp, sp.wrapping_sub(8), rp, rp.wrapping_sub(4)];
+    let places = match random.below(4) {
+        0 => vec![image.start, image.end],
+        1 => stacks,
+        _ => named_places(listing),
+    };
+    call.table = if random.one_in(12) && image.end <= length {
+        [image.start, image.end]
+    } else if places.is_empty() {
+        tables::NONE
+    } else {
+        tables::usable(random, length, &places)
+    };
+}
+
 /// Puts the image where it begins, if memory holds it whole.
 pub fn put_image(call: &mut Call, image: &[u8]) -> bool {
     let at = call.numbers[0] as usize;
@@ -144,6 +175,7 @@ pub fn rule(random: &mut Random) -> Call {
         let rp = call.registers[1];
         put_cell(&mut call, rp, address);
     }
+    put_table(random, &mut call, &listing, &image);
     call.numbers = [base, rule_items(random), 0, 0];
     let cells = packer::image(&listing, &layout, base);
     let image = packer::bytes(&cells, order_of(call.order));
@@ -175,14 +207,17 @@ fn close_items(random: &mut Random, call: &mut Call) {
     }
 }
 
-/// A run of the list machine: of a rule, or with its image not in memory, not whole there, bad areas
-/// or bad input.
+/// A run of the list machine: of a rule, or with its image not in memory, not whole there, bad areas, a
+/// bad table or bad input.
 pub fn list_run(random: &mut Random, _: u32) -> Call {
     let mut call = rule(random);
     let length = call.memory.len() as u32;
     if random.one_in(16) {
         let areas = areas::bad(random, length);
         call.registers[2..].copy_from_slice(&areas);
+    }
+    if random.one_in(16) {
+        call.table = tables::bad(random, length);
     }
     match random.below(24) {
         0 => fill_memory(random, &mut call, length as usize),
@@ -242,5 +277,6 @@ pub fn large(random: &mut Random, index: u32) -> Call {
     put_image(&mut call, &image);
     let image = base..GREATEST;
     call.registers = stacks(random, length, &image);
+    put_table(random, &mut call, &listing, &image);
     call
 }

@@ -1,0 +1,54 @@
+//! The cases meet the table in every way.
+
+use beetle_tests::cases::{processor, rules};
+use beetle_tests::reach::{tally, Tally};
+
+/// Each of these came up so often at least.
+fn at_least(tally: &Tally, least: u32, names: &[&str]) {
+    println!("{tally:?}");
+    for name in names {
+        let times = tally.get(name).copied().unwrap_or_default();
+        assert!(times >= least, "{name}: {times} times");
+    }
+}
+
+const ALWAYS: [&str; 4] = [
+    "no table",
+    "a table that nothing meets",
+    "-258 by a throw",
+    "-4112",
+];
+
+#[test]
+fn cycles_meet_tables() {
+    let tally = tally(7, 40_000, processor::cycle);
+    at_least(&tally, 100, &ALWAYS);
+    let writes = [
+        "-20 by !",
+        "-20 by C!",
+        "-20 by +!",
+        "-20 by ROLL",
+        "-20 by (DO)",
+        "-20 by an index",
+        "-20 by >R",
+        "-20 by a call",
+        "-20 by an item written over",
+        "-20 before another fault",
+        "-258 by a write",
+    ];
+    at_least(&tally, 5, &writes);
+}
+
+#[test]
+fn starts_meet_tables() {
+    at_least(&tally(8, 10_000, processor::start), 100, &ALWAYS);
+}
+
+#[test]
+fn runs_meet_tables() {
+    for make in [processor::run, rules::list_run, rules::list_resume] {
+        let tally = tally(9, 4_000, make);
+        at_least(&tally, 40, &ALWAYS);
+        at_least(&tally, 15, &["-20"]);
+    }
+}
