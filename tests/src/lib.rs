@@ -13,3 +13,4 @@ pub mod reference;
 pub mod shrink;
 pub mod worked;
 pub mod worked_areas;
+pub mod worked_tables;

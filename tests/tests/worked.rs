@@ -1,7 +1,7 @@
 //! The worked rows, on the reference and, where it is linked, on the library.
 
 use beetle_tests::call::{reference, Implementation};
-use beetle_tests::{worked, worked_areas};
+use beetle_tests::{worked, worked_areas, worked_tables};
 
 fn all_rows(implementation: &Implementation) {
     worked::running(implementation);
@@ -10,6 +10,7 @@ fn all_rows(implementation: &Implementation) {
     worked::halting(implementation);
     worked::packing(implementation);
     worked_areas::rows(implementation);
+    worked_tables::rows(implementation);
 }
 
 #[test]
