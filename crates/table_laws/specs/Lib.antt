@@ -1,0 +1,3 @@
+-- What is claimed of tables.
+pub mod Keeping
+pub mod ItemRows
