@@ -12,12 +12,11 @@ use Rattle.machine.specs.declared.Table.{Table}
 use Rattle.machine.specs.declared.Machine.{Machine}
 use Rattle.machine.specs.declared.Access.{Access}
 use Rattle.machine.specs.declared.Access.the-variants.{DataRead, DataWrite, ReturnRead, ReturnWrite, NamedRead, NamedWrite, Stream, Push}
-use Rattle.areas.specs.Areas.{areasOf, filed}
+use Rattle.areas.specs.Areas.{areasOf}
 use Rattle.areas.specs.Bounds.{machineOf}
 use Rattle.areas.specs.declared.Areas.{Areas}
 use Rattle.processor.specs.Answers.{StartAnswer, startAnswer, CycleAnswer, RunAnswer, givenOf, runAnswer}
 use Rattle.worked.specs.Rows.{Claim, Row, numbers, lists}
-use Rattle.worked.specs.Processor.{blank}
 use Rattle.worked.specs.Cycling.{small, setUp, holding, registersAt, cycled, moved, goes, throws, raises, stops}
 
 abbrev pub readOnly : ℕ
