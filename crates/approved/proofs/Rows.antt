@@ -9,9 +9,9 @@ use Rattle.areas.specs.Areas.{judgeAreas}
 use Rattle.areas.specs.Tables.{judgeTable}
 use Rattle.areas.specs.Bounds.{judgeBounded}
 use Rattle.machine.specs.Places.{placeOf, fetchOf}
-use Rattle.machine.specs.Exceptions.{exceptionOf}
+use Rattle.throws.specs.Exceptions.{exceptionOf}
 use Rattle.machine.specs.Commits.{placesOf, storedOf, commitOf}
-use Rattle.machine.specs.Throws.{handlerOf, throwOf, nextOf, finishOf}
+use Rattle.throws.specs.Throws.{handlerOf, throwOf, nextOf, finishOf}
 use Rattle.instruction.specs.Plain.{plainOf}
 use Rattle.instruction.specs.Taking.{takingOf}
 use Rattle.instruction.specs.Dispatch.{decodeOf, executeOf}

@@ -13,7 +13,7 @@ use Rattle.cell.proofs.BooleanLaws.{neither}
 use Rattle.machine.specs.Places.{Width, oneByte, oneCell, placeOf}
 use Rattle.machine.specs.Effects.{Store}
 use Rattle.machine.specs.Commits.{placesOf, touches}
-use Rattle.machine.specs.Throws.{CycleState}
+use Rattle.throws.specs.Throws.{CycleState}
 use Rattle.machine.specs.declared.Table.{Table}
 use Rattle.machine.specs.declared.Machine.{Machine}
 use Rattle.machine.specs.declared.Registers.{Registers}

@@ -14,7 +14,7 @@ use Rattle.cell.specs.declared.Judged.the-variants.{Passed}
 use Rattle.machine.specs.Places.{Width, oneByte, oneCell, placeOf}
 use Rattle.machine.specs.Effects.{Store, Effect, act, raise}
 use Rattle.machine.specs.Commits.{touches}
-use Rattle.machine.specs.Throws.{CycleState}
+use Rattle.throws.specs.Throws.{CycleState}
 use Rattle.machine.specs.declared.Table.{Table}
 use Rattle.machine.specs.declared.Machine.{Machine}
 use Rattle.machine.specs.declared.Registers.{Registers}

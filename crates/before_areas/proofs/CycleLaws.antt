@@ -6,7 +6,7 @@ use lib.ListN.{length}
 use Rattle.cell.specs.Refusals.{Lent}
 use Rattle.cell.proofs.MemoryLaws.{store-length}
 use Rattle.machine.specs.Places.{noTable, unbounded}
-use Rattle.machine.specs.Throws.{CycleState}
+use Rattle.throws.specs.Throws.{CycleState}
 use Rattle.machine.specs.declared.Registers.{Registers}
 use Rattle.machine.specs.declared.Ended.{Ended}
 use Rattle.machine.specs.declared.Ended.the-variants.{Went, Threw, Stopped}

@@ -6,9 +6,9 @@ use Rattle.cell.specs.Number.{difference}
 use Rattle.cell.specs.declared.Checked.{Checked}
 use Rattle.cell.specs.declared.Fault.{Fault}
 use Rattle.machine.specs.Places.{oneCell}
-use Rattle.machine.specs.Exceptions.{exceptionOf}
+use Rattle.throws.specs.Exceptions.{exceptionOf}
 use Rattle.machine.specs.Effects.{Control, goOn, jump, halt, throwing, Action, Effect}
-use Rattle.machine.specs.Throws.{CycleState}
+use Rattle.throws.specs.Throws.{CycleState}
 use Rattle.machine.specs.declared.Machine.{Machine}
 use Rattle.machine.specs.declared.Registers.{Registers}
 use Rattle.machine.specs.declared.Access.the-variants.{Push}

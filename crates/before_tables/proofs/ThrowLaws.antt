@@ -8,9 +8,9 @@ use Rattle.cell.specs.declared.Checked.{Checked}
 use Rattle.cell.specs.declared.Fault.{Fault}
 use Rattle.cell.specs.declared.Fetched.{Fetched}
 use Rattle.machine.specs.Places.{oneCell}
-use Rattle.machine.specs.Exceptions.{exceptionOf}
+use Rattle.throws.specs.Exceptions.{exceptionOf}
 use Rattle.machine.specs.Commits.{Stepped}
-use Rattle.machine.specs.Throws.{handed, noted, handlerOf, pushed, throwOf, throwingOf, nexted, nextOf, finishOf}
+use Rattle.throws.specs.Throws.{handed, noted, handlerOf, pushed, throwOf, throwingOf, nexted, nextOf, finishOf}
 use Rattle.machine.specs.declared.Machine.{Machine}
 use Rattle.machine.specs.declared.Registers.{Registers}
 use Rattle.machine.specs.declared.Access.the-variants.{Stream, Push}

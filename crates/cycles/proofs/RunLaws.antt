@@ -7,7 +7,7 @@ use native.Mathlib.Omega.{arith}
 use lib.ListN.{length}
 use borrow.Author.Tests.{eqb-true, eqb-false}
 use Rattle.machine.specs.Commits.{stepped}
-use Rattle.machine.specs.Throws.{CycleState, withResult, finishOf}
+use Rattle.throws.specs.Throws.{CycleState, withResult, finishOf}
 use Rattle.machine.specs.declared.Machine.{Machine}
 use Rattle.machine.specs.declared.CycleResult.{CycleResult}
 use Rattle.machine.specs.declared.Step.{Step}

@@ -2,7 +2,7 @@
 use mathlib.Core.List.{List}
 use Prim.Native.Nat.{ℕ, zero, suc, _%_}
 use Rattle.cell.specs.Shift.{asr8}
-use Rattle.machine.specs.Throws.{CycleState, finishOf}
+use Rattle.throws.specs.Throws.{CycleState, finishOf}
 use Rattle.machine.specs.declared.Machine.{Machine}
 use Rattle.machine.specs.declared.Registers.{Registers}
 use Rattle.machine.specs.declared.Ended.{Ended}

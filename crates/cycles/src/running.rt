@@ -4,7 +4,7 @@ ghost use Prim.Native.Nat.{_≤_, _+_};
 ghost use lib.ListN.{length};
 ghost use Rattle.machine.specs.Commits as commits;
 ghost use Rattle.machine.specs.Places as places;
-ghost use Rattle.machine.specs.Throws as throws;
+ghost use Rattle.throws.specs.Throws as throws;
 ghost use Rattle.cycles.specs.Cycles as cycles;
 ghost use Rattle.cycles.specs.Counts as counts;
 use cell::Address;
@@ -19,8 +19,8 @@ use machine::Machine;
 use machine::Outcome;
 use machine::Registers;
 use machine::Step;
-use machine::ending::finish;
 use machine::places::fetch;
+use throws::ending::finish;
 
 // What a run has left of its budget, and how its last cycle ended.
 pub struct Progress {

@@ -14,8 +14,8 @@ use machine::Machine;
 use machine::NoStore;
 use machine::Registers;
 use machine::Then;
-use machine::fixed::BAD_STACK;
 use machine::places::fetch_data;
+use throws::fixed::BAD_STACK;
 
 // 55h HALT ( x -- ): an SP that is no valid cell stops the machine with -258.
 pub fn halt(machine: Machine, memory: &[u8], r: Registers) -> NoStore

@@ -10,9 +10,9 @@ use Rattle.cell.specs.Choice.{if}
 use Rattle.cell.specs.declared.Checked.{Checked}
 use Rattle.cell.specs.declared.Checked.the-variants.{Good, Bad}
 use Rattle.machine.specs.Effects.{Store, Control, goOn, jump, halt, throwing, Action, effectOf}
-use Rattle.machine.specs.Exceptions.{exceptionOf}
+use Rattle.throws.specs.Exceptions.{exceptionOf}
 use Rattle.machine.specs.Commits.{firstBad, faultOf, placesOf, storedOf, commitOf, touches}
-use Rattle.machine.specs.Throws.{throwingOf}
+use Rattle.throws.specs.Throws.{throwingOf}
 use Rattle.machine.specs.declared.Machine.{Machine}
 use Rattle.machine.specs.declared.Then.{Then}
 use Rattle.machine.specs.declared.Then.the-variants.{GoOn, Jump, Halt, Throw, Raise}

@@ -5,7 +5,7 @@ ghost use lib.ListN.{length};
 ghost use Rattle.cell.specs.Refusals.{Lent};
 ghost use Rattle.machine.specs.Places as places;
 ghost use Rattle.machine.specs.Commits as commits;
-ghost use Rattle.machine.specs.Throws as throws;
+ghost use Rattle.throws.specs.Throws as throws;
 ghost use Rattle.pack_layout.specs.Listing.{listed};
 ghost use Rattle.list_machine.specs.ListMachine as lists;
 ghost use Rattle.list_effects.specs.Shapes as shapes;
@@ -28,10 +28,10 @@ use machine::CycleResult;
 use machine::Ended;
 use machine::Machine;
 use machine::Registers;
-use machine::ending::handle;
-use machine::ending::throw;
-use machine::fixed::BAD_STACK;
 use pack_layout::ItemNumber;
+use throws::ending::handle;
+use throws::ending::throw;
+use throws::fixed::BAD_STACK;
 
 // In front of an item, with the stack pointers of r.
 fn arrive(item: ItemNumber, ran: bool, r: Registers) -> Stand

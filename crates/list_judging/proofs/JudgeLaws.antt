@@ -16,10 +16,10 @@ use Rattle.cell.specs.declared.Checked.{Checked}
 use Rattle.cell.specs.declared.Checked.the-variants.{Good, Bad}
 use Rattle.cell.specs.declared.Fault.{Fault}
 use Rattle.machine.specs.Places.{oneCell, placeOf}
-use Rattle.machine.specs.Exceptions.{exceptionOf, exceptionCode}
+use Rattle.throws.specs.Exceptions.{exceptionOf, exceptionCode}
 use Rattle.machine.specs.declared.Exception.{Exception}
 use Rattle.machine.specs.Commits.{touches}
-use Rattle.machine.specs.Throws.{badStack, handlerCell}
+use Rattle.throws.specs.Throws.{badStack, handlerCell}
 use Rattle.machine.specs.declared.Machine.{Machine}
 use Rattle.machine.specs.declared.Access.the-variants.{Push}
 use Rattle.machine.specs.declared.Then.{Then}

@@ -11,10 +11,10 @@ use Rattle.cell.specs.Number.{difference}
 use Rattle.cell.specs.declared.Checked.{Checked}
 use Rattle.cell.specs.declared.Checked.the-variants.{Good, Bad}
 use Rattle.machine.specs.Places.{oneCell, placeOf}
-use Rattle.machine.specs.Exceptions.{exceptionOf, exceptionCode}
+use Rattle.throws.specs.Exceptions.{exceptionOf, exceptionCode}
 use Rattle.machine.specs.Effects.{Store, Effect}
 use Rattle.machine.specs.Commits.{Stepped, commitOf, touches}
-use Rattle.machine.specs.Throws.{CycleState, badStack, badHandler, handlerCell, throwOf, throwingOf}
+use Rattle.throws.specs.Throws.{CycleState, badStack, badHandler, handlerCell, throwOf, throwingOf}
 use Rattle.machine.specs.declared.Machine.{Machine}
 use Rattle.machine.specs.declared.Exception.{Exception}
 use Rattle.machine.specs.declared.Registers.{Registers}

@@ -28,14 +28,14 @@ use list_tables::tables::is_immediate;
 use machine::Exception;
 use machine::Machine;
 use machine::Then;
-use machine::exceptions::code_of;
-use machine::exceptions::tell;
-use machine::fixed::BAD_HANDLER;
-use machine::fixed::BAD_STACK;
-use machine::fixed::HANDLER_CELL;
 use machine::places::check_named;
 use machine::places::check_push;
 use pack_layout::ItemNumber;
+use throws::exceptions::code_of;
+use throws::exceptions::tell;
+use throws::fixed::BAD_HANDLER;
+use throws::fixed::BAD_STACK;
+use throws::fixed::HANDLER_CELL;
 
 // 'THROW is h: an entry, -259, or outside.
 fn handler_way(machine: Machine, memory: &[u8], table: &[u32], base: Address, h: Address) -> Way

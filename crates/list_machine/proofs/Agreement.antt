@@ -10,7 +10,7 @@ use Rattle.cell.specs.Shift.{asr8}
 use Rattle.cell.specs.declared.Fetched.the-variants.{Cell}
 use Rattle.machine.specs.Places.{fetchOf}
 use Rattle.machine.specs.Commits.{stepped, commitOf}
-use Rattle.machine.specs.Throws.{cycleState, finishOf}
+use Rattle.throws.specs.Throws.{cycleState, finishOf}
 use Rattle.machine.specs.declared.Machine.{Machine}
 use Rattle.machine.specs.declared.Registers.{Registers}
 use Rattle.machine.specs.declared.Outcome.{Outcome}

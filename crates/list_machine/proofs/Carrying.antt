@@ -11,7 +11,7 @@ use Rattle.cell.specs.declared.Checked.{Checked}
 use Rattle.cell.specs.declared.Checked.the-variants.{Good, Bad}
 use Rattle.machine.specs.Effects.{Control, goOn, jump, halt, throwing, Action, Effect, act, raise}
 use Rattle.machine.specs.Commits.{Stepped, stepped, placesOf, storedOf, controlled, carriedOut, commitOf}
-use Rattle.machine.specs.Throws.{cycleState, nextOf, finishOf}
+use Rattle.throws.specs.Throws.{cycleState, nextOf, finishOf}
 use Rattle.machine.specs.declared.Machine.{Machine}
 use Rattle.machine.specs.declared.Registers.{Registers}
 use Rattle.machine.specs.declared.Outcome.{Outcome}
@@ -31,7 +31,7 @@ use Rattle.list_machine.specs.Demand3.{Holds}
 use Rattle.list_machine.proofs.Frame.{stores-frame}
 use Rattle.list_machine.proofs.Image.{still-holds, next-enters}
 use Rattle.list_machine.proofs.Meets.{Meets, registersFor}
-use Rattle.machine.specs.Exceptions.{exceptionOf}
+use Rattle.throws.specs.Exceptions.{exceptionOf}
 use Rattle.list_machine.proofs.Throwing.{throw-meets, throwing-meets}
 
 abbrev pub isWent : Outcome → Bool

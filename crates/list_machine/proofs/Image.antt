@@ -11,7 +11,7 @@ use Rattle.cell.specs.Number.{sum}
 use Rattle.cell.specs.declared.Fetched.the-variants.{Cell}
 use Rattle.cell.proofs.MemoryLaws.{cell-alike}
 use Rattle.machine.specs.Places.{placeOf, fetchOf}
-use Rattle.machine.specs.Throws.{cycleState, nextOf}
+use Rattle.throws.specs.Throws.{cycleState, nextOf}
 use Rattle.machine.specs.declared.Machine.{Machine}
 use Rattle.machine.specs.declared.Registers.{Registers}
 use Rattle.machine.specs.declared.Access.the-variants.{Stream}

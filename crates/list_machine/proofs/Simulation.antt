@@ -9,7 +9,7 @@ use Rattle.cell.specs.Choice.{if}
 use Rattle.cell.specs.Memory.{cellAt}
 use Rattle.cell.specs.Shift.{asr8}
 use Rattle.cell.proofs.BooleanLaws.{both-true}
-use Rattle.machine.specs.Throws.{CycleState, cycleState, finishOf}
+use Rattle.throws.specs.Throws.{CycleState, cycleState, finishOf}
 use Rattle.machine.specs.declared.Machine.{Machine}
 use Rattle.machine.specs.declared.Registers.{Registers}
 use Rattle.machine.specs.declared.Ended.{Ended}

@@ -16,12 +16,12 @@ use Rattle.cell.specs.declared.Fetched.{Fetched}
 use Rattle.cell.specs.declared.Fetched.the-variants.{Cell, Failed}
 use Rattle.cell.proofs.MemoryLaws.{store-length, cell-frame, alike-refl}
 use Rattle.machine.specs.Places.{oneCell, placeOf, fetchOf}
-use Rattle.machine.specs.Exceptions.{exceptionCode}
+use Rattle.throws.specs.Exceptions.{exceptionCode}
 use Rattle.machine.specs.declared.Exception.{Exception}
 use Rattle.machine.specs.declared.Exception.the-variants.{Range, Alignment, DataOverflow, DataUnderflow, ReturnOverflow, ReturnUnderflow, ReadOnly, Divisor, Illegal, Library}
 use Rattle.machine.specs.Effects.{cellStore}
 use Rattle.machine.specs.Commits.{touches, storedOf}
-use Rattle.machine.specs.Throws.{cycleState, handed, handlerOf, noted, pushed, throwOf, throwingOf, handlerCell, badCell, addressCell, badStack}
+use Rattle.throws.specs.Throws.{cycleState, handed, handlerOf, noted, pushed, throwOf, throwingOf, handlerCell, badCell, addressCell, badStack}
 use Rattle.machine.specs.declared.Machine.{Machine}
 use Rattle.machine.specs.declared.Access.the-variants.{Stream, Push}
 use Rattle.machine.specs.declared.Ended.{Ended}

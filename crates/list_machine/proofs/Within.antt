@@ -11,11 +11,11 @@ use Rattle.cell.specs.Number.{difference}
 use Rattle.cell.specs.declared.Checked.{Checked}
 use Rattle.cell.specs.declared.Checked.the-variants.{Good, Bad}
 use Rattle.machine.specs.Places.{oneCell, placeOf}
-use Rattle.machine.specs.Exceptions.{exceptionOf}
+use Rattle.throws.specs.Exceptions.{exceptionOf}
 use Rattle.machine.specs.declared.Exception.{Exception}
 use Rattle.machine.specs.Effects.{Control, goOn, jump, halt, throwing, Action, Effect, act, raise}
 use Rattle.machine.specs.Commits.{placesOf}
-use Rattle.machine.specs.Throws.{CycleState, throwOf, throwingOf}
+use Rattle.throws.specs.Throws.{CycleState, throwOf, throwingOf}
 use Rattle.machine.specs.declared.Machine.{Machine}
 use Rattle.machine.specs.declared.Access.the-variants.{Push}
 use Rattle.machine.specs.declared.Ended.{Ended}

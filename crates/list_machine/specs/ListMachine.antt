@@ -13,11 +13,11 @@ use Rattle.cell.specs.declared.Checked.the-variants.{Good, Bad}
 use Rattle.cell.specs.declared.Fault.the-variants.{Illegal}
 use Rattle.cell.specs.declared.Fetched.the-variants.{Cell}
 use Rattle.machine.specs.Places.{oneCell, placeOf}
-use Rattle.machine.specs.Exceptions.{exceptionOf, exceptionCode}
+use Rattle.throws.specs.Exceptions.{exceptionOf, exceptionCode}
 use Rattle.machine.specs.declared.Exception.{Exception}
 use Rattle.machine.specs.Effects.{Store, cellStore, Control, goOn, jump, halt, throwing, Action, Effect, act, raise}
 use Rattle.machine.specs.Commits.{placesOf, storedOf, touches}
-use Rattle.machine.specs.Throws.{CycleState, handlerCell, throwOf, throwingOf}
+use Rattle.throws.specs.Throws.{CycleState, handlerCell, throwOf, throwingOf}
 use Rattle.machine.specs.declared.Machine.{Machine}
 use Rattle.machine.specs.declared.Registers.{Registers}
 use Rattle.machine.specs.declared.Access.the-variants.{Push}

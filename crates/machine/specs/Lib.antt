@@ -2,5 +2,3 @@
 pub mod Places
 pub mod Effects
 pub mod Commits
-pub mod Exceptions
-pub mod Throws

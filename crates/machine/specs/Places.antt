@@ -122,7 +122,7 @@ abbrev pub alignedAs : Width → ℕ → Bool
 alignedAs oneByte a = true
 alignedAs oneCell a = eqb (a % 4) 0
 
--- the fault of a place in memory that is unaligned or not allowed. Which of the two it is for a stack, the throw tells (specs/Exceptions.antt)
+-- the fault of a place in memory that is unaligned or not allowed. Which of the two it is for a stack, the throw tells (crate `throws`, specs/Exceptions.antt)
 abbrev pub faultAt : Access → ℕ → Fault
 faultAt DataRead a = Data (address a)
 faultAt DataWrite a = Data (address a)

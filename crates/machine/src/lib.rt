@@ -1,8 +1,5 @@
-// The machine below its instructions: places and their accesses, what an instruction asks for and what its commit means, the throw and NEXT.
+// The machine below its instructions: places and their accesses, what an instruction asks for and what its commit means.
 
-pub mod ending;
-pub mod exceptions;
-pub mod fixed;
 pub mod places;
 
 use cell::Address;
@@ -176,7 +173,7 @@ pub struct Step {
     pub outcome: Outcome,
 }
 
-// What a throw is made for. specs/Exceptions.antt has the code of each.
+// What a throw is made for. Crate `throws` has the code of each.
 pub enum Exception {
     // -9: the address lies outside memory
     Range(Address),

@@ -5,8 +5,8 @@ use lib.ListN.{length}
 use Rattle.cell.specs.Refusals.{refusalNumber}
 use Rattle.cell.specs.declared.Judged.{Judged}
 use Rattle.cell.specs.declared.Judged.the-variants as judged
-use Rattle.machine.specs.Exceptions.{exceptionCode}
-use Rattle.machine.specs.Throws.{CycleState}
+use Rattle.throws.specs.Exceptions.{exceptionCode}
+use Rattle.throws.specs.Throws.{CycleState}
 use Rattle.machine.specs.declared.Table.{Table}
 use Rattle.machine.specs.declared.Machine.{Machine}
 use Rattle.machine.specs.declared.Registers.{Registers}

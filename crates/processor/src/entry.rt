@@ -3,7 +3,7 @@ ghost use mathlib.Core.Path.{_≡_};
 ghost use Prim.Native.Nat.{_≤_, _-_};
 ghost use lib.ListN.{length};
 ghost use Rattle.machine.specs.Places as places;
-ghost use Rattle.machine.specs.Throws as throws;
+ghost use Rattle.throws.specs.Throws as throws;
 ghost use Rattle.areas.specs.Areas.{filed};
 ghost use Rattle.processor.specs.Starting as starting;
 ghost use Rattle.processor.specs.Answers as answers;
@@ -26,11 +26,11 @@ use machine::Ended;
 use machine::Machine;
 use machine::Registers;
 use machine::Table;
-use machine::ending::next;
-use machine::fixed::ADDRESS_CELL;
-use machine::fixed::BAD_CELL;
-use machine::fixed::HANDLER_CELL;
-use machine::fixed::MEMORY_CELL;
+use throws::ending::next;
+use throws::fixed::ADDRESS_CELL;
+use throws::fixed::BAD_CELL;
+use throws::fixed::HANDLER_CELL;
+use throws::fixed::MEMORY_CELL;
 
 // The four cells at the start of memory, the registers, then NEXT.
 fn begin(

@@ -5,7 +5,7 @@ use native.Mathlib.Omega.{arith}
 use Rattle.cell.specs.Memory.{Bytewise}
 use Rattle.cell.proofs.MemoryLaws.{store-bytewise}
 use Rattle.machine.specs.Commits.{Stepped, commitOf}
-use Rattle.machine.specs.Throws.{CycleState}
+use Rattle.throws.specs.Throws.{CycleState}
 use Rattle.machine.specs.declared.Machine.{Machine}
 use Rattle.machine.specs.declared.Registers.{Registers}
 use Rattle.machine.specs.declared.Step.{Step}

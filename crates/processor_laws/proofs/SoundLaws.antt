@@ -14,11 +14,11 @@ use Rattle.cell.specs.declared.Fetched.the-variants.{Cell, Failed}
 use Rattle.cell.proofs.MemoryLaws.{set-bytewise, store-bytewise}
 use Rattle.machine.specs.declared.Exception.{Exception}
 use Rattle.machine.specs.declared.Exception.the-variants.{Range, Alignment, DataOverflow, DataUnderflow, ReturnOverflow, ReturnUnderflow, ReadOnly, Divisor, Illegal, Library}
-use Rattle.machine.specs.Exceptions.{exceptionOf, exceptionCode}
+use Rattle.throws.specs.Exceptions.{exceptionOf, exceptionCode}
 use Rattle.machine.specs.Places.{Width, oneByte, oneCell, placeOf, fetchOf}
 use Rattle.machine.specs.Effects.{Store, Control, goOn, jump, halt, throwing, Action, Effect, act, raise}
 use Rattle.machine.specs.Commits.{Stepped, putStore, storedOf, placesOf, controlled, carriedOut, commitOf}
-use Rattle.machine.specs.Throws.{cycleState, handlerCell, badCell, addressCell, badStack, handed, handlerOf, noted, pushed, throwOf, throwingOf, nexted, nextOf, finished, finishOf}
+use Rattle.throws.specs.Throws.{cycleState, handlerCell, badCell, addressCell, badStack, handed, handlerOf, noted, pushed, throwOf, throwingOf, nexted, nextOf, finished, finishOf}
 use Rattle.machine.specs.declared.Machine.{Machine}
 use Rattle.machine.specs.declared.Registers.{Registers}
 use Rattle.machine.specs.declared.Access.the-variants.{Stream, Push}

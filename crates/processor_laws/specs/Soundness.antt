@@ -9,7 +9,7 @@ use Rattle.cell.specs.declared.Fetched.the-variants.{Cell, Failed}
 use Rattle.machine.specs.Places.{Width, oneByte, oneCell}
 use Rattle.machine.specs.Effects.{Store, Control, goOn, jump, halt, throwing, Action, Effect, act, raise}
 use Rattle.machine.specs.Commits.{Stepped}
-use Rattle.machine.specs.Throws.{CycleState}
+use Rattle.throws.specs.Throws.{CycleState}
 use Rattle.machine.specs.declared.Registers.{Registers}
 
 -- every byte of memory is below 256, every register below 2^32

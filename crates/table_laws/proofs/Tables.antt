@@ -16,7 +16,7 @@ use Rattle.cell.proofs.BooleanLaws.{both-true}
 use Rattle.machine.specs.Places.{Width, oneByte, oneCell, guardedOf, inTable, tableAllows, alignedAs, placeOf}
 use Rattle.machine.specs.Effects.{Store, Effect, act, raise}
 use Rattle.machine.specs.Commits.{widthOf, placesOf, touches}
-use Rattle.machine.specs.Throws.{CycleState}
+use Rattle.throws.specs.Throws.{CycleState}
 use Rattle.machine.specs.declared.Table.{Table}
 use Rattle.machine.specs.declared.Guarded.{Guarded}
 use Rattle.machine.specs.declared.Machine.{Machine}

@@ -10,10 +10,10 @@ use Rattle.areas.specs.Areas.{judgeAreas}
 use Rattle.areas.specs.Tables.{judgeTable}
 use Rattle.areas.specs.Bounds.{judgeBounded}
 use Rattle.machine.specs.Places.{placeOf, fetchOf, fetchByteOf}
-use Rattle.machine.specs.Exceptions.{exceptionOf}
+use Rattle.throws.specs.Exceptions.{exceptionOf}
 use Rattle.machine.specs.Effects.{rollStores}
 use Rattle.machine.specs.Commits.{placesOf, storedOf, commitOf}
-use Rattle.machine.specs.Throws.{handlerOf, throwOf, throwingOf, nextOf, finishOf}
+use Rattle.throws.specs.Throws.{handlerOf, throwOf, throwingOf, nextOf, finishOf}
 use Rattle.instruction.specs.Plain.{plainOf}
 use Rattle.instruction.specs.Counting.{plusEnds}
 use Rattle.instruction.specs.Taking.{takingOf}

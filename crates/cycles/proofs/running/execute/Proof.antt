@@ -3,7 +3,7 @@ use borrow.Author.Needs.{needs}
 use Rattle.cycles.proofs.running.execute.Statement.{statement}
 use Rattle.cycles.proofs.running.execute.Tie as tie
 use Rattle.cycles.specs.Cycles as cycles
-use Rattle.machine.specs.Throws as throws
+use Rattle.throws.specs.Throws as throws
 use mathlib.Core.Path.{_∙_, ap}
 
 shift-byte-requires : tie.Need-shift-byte-requires

@@ -2,7 +2,7 @@
 use borrow.Author.Needs.{needs}
 use Rattle.cycles.proofs.running.fetch_next.Statement.{statement}
 use Rattle.cycles.proofs.running.fetch_next.Tie as tie
-use Rattle.machine.specs.Throws as throws
+use Rattle.throws.specs.Throws as throws
 use mathlib.Core.Path.{sym, _∙_}
 
 enum-told : tie.Need-enum-told

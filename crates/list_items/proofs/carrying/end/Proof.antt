@@ -3,7 +3,7 @@ use borrow.Author.Needs.{needs}
 use Rattle.list_items.proofs.carrying.end.Statement.{statement}
 use Rattle.list_items.proofs.carrying.end.Tie as tie
 use borrow.Author.Tests.{eq-eqb, ne-eqb}
-use Rattle.machine.specs.Throws as throws
+use Rattle.throws.specs.Throws as throws
 
 enum-known-cause : tie.Need-enum-known-cause
 enum-known-cause c = search needs

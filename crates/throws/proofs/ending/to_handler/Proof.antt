@@ -1,7 +1,7 @@
 -- `to_handler` meets its contract, by the fetch at 'THROW.
 use borrow.Author.Needs.{needs}
-use Rattle.machine.proofs.ending.to_handler.Statement.{statement}
-use Rattle.machine.proofs.ending.to_handler.Tie as tie
+use Rattle.throws.proofs.ending.to_handler.Statement.{statement}
+use Rattle.throws.proofs.ending.to_handler.Tie as tie
 use mathlib.Core.Path.{sym, _∙_}
 
 fetch-requires : tie.Need-fetch-requires

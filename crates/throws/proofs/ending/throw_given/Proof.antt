@@ -1,8 +1,8 @@
 -- `throw_given` meets its contract: only SP's alignment is judged.
 use borrow.Author.Needs.{needs}
-use Rattle.machine.proofs.ending.throw_given.Statement.{statement}
-use Rattle.machine.proofs.ending.throw_given.Tie as tie
-use Rattle.machine.specs.Throws as throws
+use Rattle.throws.proofs.ending.throw_given.Statement.{statement}
+use Rattle.throws.proofs.ending.throw_given.Tie as tie
+use Rattle.throws.specs.Throws as throws
 use borrow.Author.Tests.{eq-eqb, ne-eqb}
 
 handle-requires : tie.Need-handle-requires

@@ -1,8 +1,8 @@
 -- `finish` meets its contract, by how the instruction left the machine.
 use borrow.Author.Needs.{needs}
-use Rattle.machine.proofs.ending.finish.Statement.{statement}
-use Rattle.machine.proofs.ending.finish.Tie as tie
-use Rattle.machine.specs.Throws as throws
+use Rattle.throws.proofs.ending.finish.Statement.{statement}
+use Rattle.throws.proofs.ending.finish.Tie as tie
+use Rattle.throws.specs.Throws as throws
 
 enum-told : tie.Need-enum-told
 enum-told c = search needs

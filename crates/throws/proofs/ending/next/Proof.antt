@@ -1,8 +1,8 @@
 -- `next` meets its contract, by the fetch at EP.
 use borrow.Author.Needs.{needs}
-use Rattle.machine.proofs.ending.next.Statement.{statement}
-use Rattle.machine.proofs.ending.next.Tie as tie
-use Rattle.machine.specs.Throws as throws
+use Rattle.throws.proofs.ending.next.Statement.{statement}
+use Rattle.throws.proofs.ending.next.Tie as tie
+use Rattle.throws.specs.Throws as throws
 use mathlib.Core.Path.{sym, _∙_}
 
 fetch-requires : tie.Need-fetch-requires

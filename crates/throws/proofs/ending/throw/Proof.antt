@@ -1,16 +1,16 @@
 -- `throw` meets its contract: the push is judged before anything is written.
 use borrow.Author.Needs.{needs}
-use Rattle.machine.proofs.ending.throw.Statement.{statement}
-use Rattle.machine.proofs.ending.throw.Tie as tie
+use Rattle.throws.proofs.ending.throw.Statement.{statement}
+use Rattle.throws.proofs.ending.throw.Tie as tie
 use Rattle.cell.proofs.memory.store.Reads as store-reads
 use Rattle.cell.proofs.number.subtract.Reads as subtract-reads
-use Rattle.machine.proofs.ending.handle.Reads as handle-reads
-use Rattle.machine.proofs.ending.note.Reads as note-reads
-use Rattle.machine.proofs.exceptions.code_of.Reads as code-of-reads
+use Rattle.throws.proofs.ending.handle.Reads as handle-reads
+use Rattle.throws.proofs.ending.note.Reads as note-reads
+use Rattle.throws.proofs.exceptions.code_of.Reads as code-of-reads
 use Rattle.machine.proofs.places.check_push.Reads as check-push-reads
 use Rattle.machine.proofs.CommitLaws.{room-place}
 use Rattle.machine.specs.declared.Access.the-variants.{Push}
-use Rattle.machine.specs.Throws as throws
+use Rattle.throws.specs.Throws as throws
 use denote.Ref.{now}
 use lib.ListN.{length}
 use native.Mathlib.Omega.{arith}

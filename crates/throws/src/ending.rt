@@ -2,16 +2,9 @@
 ghost use mathlib.Core.Path.{_≡_};
 ghost use Prim.Native.Nat.{_≤_};
 ghost use lib.ListN.{length};
 ghost use Rattle.machine.specs.Places as places;
 ghost use Rattle.machine.specs.Commits as commits;
-ghost use Rattle.machine.specs.Throws as throws;
-use crate::CycleResult;
-use crate::Ended;
-use crate::Exception;
-use crate::Machine;
-use crate::Outcome;
-use crate::Registers;
-use crate::Step;
+ghost use Rattle.throws.specs.Throws as throws;
 use crate::exceptions::code_of;
 use crate::exceptions::tell;
 use crate::fixed::ADDRESS_CELL;
@@ -19,8 +12,6 @@ use crate::fixed::BAD_CELL;
 use crate::fixed::BAD_HANDLER;
 use crate::fixed::BAD_STACK;
 use crate::fixed::HANDLER_CELL;
-use crate::places::check_push;
-use crate::places::fetch;
 use cell::Address;
 use cell::Checked;
 use cell::Fetched;
@@ -29,6 +20,15 @@ use cell::memory::store;
 use cell::number::add;
 use cell::number::subtract;
 use cell::place::fault_in;
+use machine::CycleResult;
+use machine::Ended;
+use machine::Exception;
+use machine::Machine;
+use machine::Outcome;
+use machine::Registers;
+use machine::Step;
+use machine::places::check_push;
+use machine::places::fetch;
 
 // The registers once A is the cell at h.
 fn enter(h: Address, x: u32, r: Registers) -> Registers

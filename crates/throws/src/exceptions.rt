@@ -1,11 +1,11 @@
 // What is thrown for a fault.
 ghost use mathlib.Core.Path.{_≡_};
-ghost use Rattle.machine.specs.Exceptions as exceptions;
-use crate::Exception;
-use crate::Machine;
-use crate::Span;
+ghost use Rattle.throws.specs.Exceptions as exceptions;
 use cell::Address;
 use cell::Fault;
+use machine::Exception;
+use machine::Machine;
+use machine::Span;
 
 // What is thrown for a stack's fault at a place in memory: unaligned, or one of the two ends of its cells.
 fn tell_end(span: Span, a: Address, below: Exception, above: Exception) -> Exception

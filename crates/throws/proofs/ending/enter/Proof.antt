@@ -1,6 +1,6 @@
 use borrow.Author.Needs.{needs}
-use Rattle.machine.proofs.ending.enter.Statement.{statement}
-use Rattle.machine.proofs.ending.enter.Tie as tie
+use Rattle.throws.proofs.ending.enter.Statement.{statement}
+use Rattle.throws.proofs.ending.enter.Tie as tie
 
 add-requires : tie.Need-add-requires
 add-requires c κs = search needs

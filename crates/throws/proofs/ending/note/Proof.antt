@@ -1,6 +1,6 @@
 use borrow.Author.Needs.{needs}
-use Rattle.machine.proofs.ending.note.Statement.{statement}
-use Rattle.machine.proofs.ending.note.Tie as tie
+use Rattle.throws.proofs.ending.note.Statement.{statement}
+use Rattle.throws.proofs.ending.note.Tie as tie
 use Rattle.cell.proofs.memory.store.Reads as store-reads
 
 enum-known-e : tie.Need-enum-known-e

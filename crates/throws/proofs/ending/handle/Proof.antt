@@ -1,8 +1,8 @@
 -- `handle` meets its contract: 'BAD is written, then 'THROW is read.
 use borrow.Author.Needs.{needs}
-use Rattle.machine.proofs.ending.handle.Statement.{statement}
-use Rattle.machine.proofs.ending.handle.Tie as tie
-use Rattle.machine.specs.Throws as throws
+use Rattle.throws.proofs.ending.handle.Statement.{statement}
+use Rattle.throws.proofs.ending.handle.Tie as tie
+use Rattle.throws.specs.Throws as throws
 
 store-requires : tie.Need-store-requires
 store-requires c κs = search needs

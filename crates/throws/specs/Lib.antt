@@ -1,0 +1,3 @@
+-- What crate `throws` means.
+pub mod Exceptions
+pub mod Throws
