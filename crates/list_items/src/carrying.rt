@@ -31,6 +31,7 @@ use machine::Registers;
 use pack_layout::ItemNumber;
 use throws::ending::handle;
 use throws::ending::throw;
+use throws::exceptions::code_of;
 use throws::fixed::BAD_STACK;
 
 // In front of an item, with the stack pointers of r.
@@ -81,7 +82,7 @@ fn end(machine: Machine, memory: &mut [u8], r: Registers, cause: Cause) -> Cycle
     ensures { λ t. ⌜ throws.withResult (now (memory .exit)) t ≡ ways.endOf machine (now (memory .entry)) r cause ⌝ }
 {
     match cause {
-        Cause::Raised(e) => throw(machine, memory, r, e),
+        Cause::Raised(e) => throw(machine, memory, r, e, code_of(e)),
         Cause::Given => {
             if r.sp % 4 == 0 {
                 return handle(machine, memory, r, Ended::Went);

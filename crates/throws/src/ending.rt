@@ -4,6 +4,7 @@ ghost use Prim.Native.Nat.{_≤_};
 ghost use lib.ListN.{length};
 ghost use Rattle.machine.specs.Places as places;
 ghost use Rattle.machine.specs.Commits as commits;
+ghost use Rattle.throws.specs.Exceptions as exceptions;
 ghost use Rattle.throws.specs.Throws as throws;
 use crate::exceptions::code_of;
 use crate::exceptions::tell;
@@ -121,9 +122,17 @@ fn note(machine: Machine, memory: &mut [u8], e: Exception)
     }
 }
 
-pub fn throw(machine: Machine, memory: &mut [u8], r: Registers, e: Exception) -> CycleResult
+// A throw. The code comes with its exception: found here, it would make the throw too long to be laid into the loop of a run.
+pub fn throw(
+    machine: Machine,
+    memory: &mut [u8],
+    r: Registers,
+    e: Exception,
+    code: u32,
+) -> CycleResult
     requires { ⌜ places.Fits machine (length (now memory)) ⌝ }
     requires { ⌜ 16 ≤ length (now memory) ⌝ }
+    requires { ⌜ code ≡ exceptions.exceptionCode e ⌝ }
     ensures { λ t. ⌜ throws.withResult (now (memory .exit)) t ≡ throws.throwOf machine (now (memory .entry)) r e ⌝ }
 {
     let sp = subtract(r.sp, 4);
@@ -140,7 +149,7 @@ pub fn throw(machine: Machine, memory: &mut [u8], r: Registers, e: Exception) ->
         };
     };
     note(machine, memory, e);
-    store(machine.order, memory, Address(sp), code_of(e));
+    store(machine.order, memory, Address(sp), code);
     handle(
         machine,
         memory,
@@ -191,6 +200,7 @@ pub fn next(machine: Machine, memory: &mut [u8], r: Registers) -> CycleResult
 {
     let got = fetch(machine, memory, Address(r.ep));
     let Fetched::Cell(x) = got else {
+        let e = tell(machine, fault_in(got));
         return throw(
             machine,
             memory,
@@ -200,7 +210,8 @@ pub fn next(machine: Machine, memory: &mut [u8], r: Registers) -> CycleResult
                 sp: r.sp,
                 rp: r.rp,
             },
-            tell(machine, fault_in(got)),
+            e,
+            code_of(e),
         );
     };
     CycleResult {
@@ -248,17 +259,21 @@ pub fn finish(machine: Machine, memory: &mut [u8], s: Step) -> CycleResult
                 rp: r.rp,
             },
         ),
-        Outcome::Raise(f) => throw(
-            machine,
-            memory,
-            Registers {
-                ep: r.ep,
-                a: r.a,
-                sp: r.sp,
-                rp: r.rp,
-            },
-            tell(machine, f),
-        ),
+        Outcome::Raise(f) => {
+            let e = tell(machine, f);
+            throw(
+                machine,
+                memory,
+                Registers {
+                    ep: r.ep,
+                    a: r.a,
+                    sp: r.sp,
+                    rp: r.rp,
+                },
+                e,
+                code_of(e),
+            )
+        }
         Outcome::Halt(x) => CycleResult {
             registers: Registers {
                 ep: r.ep,

@@ -8,6 +8,9 @@ use Rattle.throws.specs.Throws as throws
 enum-known-cause : tie.Need-enum-known-cause
 enum-known-cause c = search needs
 
+code-of-requires : tie.Need-code-of-requires
+code-of-requires c κs = search needs
+
 throw-requires : tie.Need-throw-requires
 throw-requires c κs = search needs
 
@@ -28,7 +31,7 @@ same-length-2 : tie.Need-same-length-2
 same-length-2 c = search needs
 
 returns-2 : tie.Need-returns-2
-returns-2 c = rw (c .before .before .before .before .before .cause .given .1) (c .before .before .throw .ensures)
+returns-2 c = rw (c .before .before .before .before .before .before .cause .given .1) (c .before .before .throw .ensures)
 
 returns-3 : tie.Need-returns-3
 unfolding throws.throwingOf
@@ -39,6 +42,7 @@ end-spec =
     tie.close
     (tie.spec
     enum-known-cause
+    code-of-requires
     throw-requires
     enum-told
     handle-requires

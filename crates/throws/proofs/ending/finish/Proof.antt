@@ -2,6 +2,11 @@
 use borrow.Author.Needs.{needs}
 use Rattle.throws.proofs.ending.finish.Statement.{statement}
 use Rattle.throws.proofs.ending.finish.Tie as tie
+use Rattle.throws.proofs.ending.next.Reads as next-reads
+use Rattle.throws.proofs.ending.throw.Reads as throw-reads
+use Rattle.throws.proofs.ending.throw_given.Reads as throw-given-reads
+use Rattle.throws.proofs.exceptions.code_of.Reads as code-of-reads
+use Rattle.throws.proofs.exceptions.tell.Reads as tell-reads
 use Rattle.throws.specs.Throws as throws
 
 enum-told : tie.Need-enum-told
@@ -18,6 +23,9 @@ enum-known-outcome c = search needs
 
 tell-requires : tie.Need-tell-requires
 tell-requires c κs = search needs
+
+code-of-requires : tie.Need-code-of-requires
+code-of-requires c κs = search needs
 
 throw-requires : tie.Need-throw-requires
 throw-requires c κs = search needs
@@ -47,8 +55,7 @@ same-length-2 c = search needs
 
 returns-3 : tie.Need-returns-3
 unfolding throws.finishOf
-returns-3 c =
-    rw (c .before .before .before .before .before .before .outcome .given .1, ← c .before .before .before .tell .ensures) (c .before .before .throw .ensures)
+returns-3 c = rw (c .before .before .before .before .before .before .before .outcome .given .1, ← c .before .before .before .before .before .tell .ensures) (c .before .before .throw .ensures)
 
 returns-4 : tie.Need-returns-4
 unfolding throws.finishOf
@@ -70,6 +77,7 @@ finish-spec =
     next-requires
     enum-known-outcome
     tell-requires
+    code-of-requires
     throw-requires
     enum-known-outcome-2
     enum-told-3

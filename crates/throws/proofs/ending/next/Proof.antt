@@ -2,6 +2,12 @@
 use borrow.Author.Needs.{needs}
 use Rattle.throws.proofs.ending.next.Statement.{statement}
 use Rattle.throws.proofs.ending.next.Tie as tie
+use Rattle.cell.proofs.place.fault_in.Reads as fault-in-reads
+use Rattle.machine.proofs.places.fetch.Reads as fetch-reads
+use Rattle.throws.proofs.ending.enter.Reads as enter-reads
+use Rattle.throws.proofs.ending.throw.Reads as throw-reads
+use Rattle.throws.proofs.exceptions.code_of.Reads as code-of-reads
+use Rattle.throws.proofs.exceptions.tell.Reads as tell-reads
 use Rattle.throws.specs.Throws as throws
 use mathlib.Core.Path.{sym, _∙_}
 
@@ -20,6 +26,9 @@ fault-in-requires c κs = search needs
 tell-requires : tie.Need-tell-requires
 tell-requires c κs = search needs
 
+code-of-requires : tie.Need-code-of-requires
+code-of-requires c κs = search needs
+
 throw-requires : tie.Need-throw-requires
 throw-requires c κs = search needs
 
@@ -28,12 +37,7 @@ same-length c = search needs
 
 returns : tie.Need-returns
 unfolding throws.nextOf
-returns c =
-    rw (
-      sym (c .before .before .before .before .before .before .before .before .fetch .ensures .0) ∙ c .before .before .before .before .fault-in .ensures,
-      ← c .before .before .before .tell .ensures,
-    )
-    (c .before .before .throw .ensures)
+returns c = rw (sym (c .before .before .before .before .before .before .before .before .before .fetch .ensures .0) ∙ c .before .before .before .before .before .before .fault-in .ensures, ← c .before .before .before .before .before .tell .ensures) (c .before .before .throw .ensures)
 
 enter-requires : tie.Need-enter-requires
 enter-requires c κs = search needs
@@ -54,6 +58,7 @@ next-spec =
     enum-told
     fault-in-requires
     tell-requires
+    code-of-requires
     throw-requires
     same-length
     returns

@@ -4,10 +4,9 @@ use Rattle.throws.proofs.ending.throw.Statement.{statement}
 use Rattle.throws.proofs.ending.throw.Tie as tie
 use Rattle.cell.proofs.memory.store.Reads as store-reads
 use Rattle.cell.proofs.number.subtract.Reads as subtract-reads
+use Rattle.machine.proofs.places.check_push.Reads as check-push-reads
 use Rattle.throws.proofs.ending.handle.Reads as handle-reads
 use Rattle.throws.proofs.ending.note.Reads as note-reads
-use Rattle.throws.proofs.exceptions.code_of.Reads as code-of-reads
-use Rattle.machine.proofs.places.check_push.Reads as check-push-reads
 use Rattle.machine.proofs.CommitLaws.{room-place}
 use Rattle.machine.specs.declared.Access.the-variants.{Push}
 use Rattle.throws.specs.Throws as throws
@@ -35,14 +34,11 @@ returns c = rw (← c .before .before .before .subtract .ensures, sym (c .before
 note-requires : tie.Need-note-requires
 note-requires c κs = search needs
 
-code-of-requires : tie.Need-code-of-requires
-code-of-requires c κs = search needs
-
 store-requires : tie.Need-store-requires
-store-requires c κs = let a = c .before .before .before .before .before .before .before .before .before .before .before .args in omega (
+store-requires c κs = let a = c .before .before .before .before .before .before .before .before .before .before .args in omega (
   arith,
-  c .before .before .before .before .note .kept .1 .0,
-  room-place (a .machine) Push (length (now (a .memory))) (c .before .before .before .before .before .before .before .before .before .subtract .result) (c .before .before .before .before .before .before .before .before .before .before .before .pre .0 .whole) (sym (c .before .before .before .before .before .before .before .before .check-push .ensures) ∙ c .before .before .before .before .before .before .enum-told .given .1),
+  c .before .before .before .note .kept .1 .0,
+  room-place (a .machine) Push (length (now (a .memory))) (c .before .before .before .before .before .before .before .before .subtract .result) (c .before .before .before .before .before .before .before .before .before .before .pre .0 .whole) (sym (c .before .before .before .before .before .before .before .check-push .ensures) ∙ c .before .before .before .before .before .enum-told .given .1),
 )
 
 handle-requires : tie.Need-handle-requires
@@ -53,8 +49,8 @@ same-length c = search needs
 
 returns-2 : tie.Need-returns-2
 unfolding throws.throwOf
-returns-2 c = rw (← c .before .before .before .before .before .before .before .before .before .before .before .before .before .before .before .before .subtract .ensures, sym (c .before .before .before .before .before .before .before .before .before .before .before .before .before .before .before .check-push .ensures) ∙ c .before .before .before .before .before .before .before .before .before .before .before .before .before .enum-told .given .1)
-    (rw (← c .before .before .before .before .before .before .before .before .before .before .before .note .ensures, ← c .before .before .before .before .before .before .before .code-of .ensures, ← c .before .before .before .before .before .before .store .ensures) (c .before .before .handle .ensures))
+returns-2 c = rw (← c .before .before .before .before .before .before .before .before .before .before .before .before .before .before .before .subtract .ensures, sym (c .before .before .before .before .before .before .before .before .before .before .before .before .before .before .check-push .ensures) ∙ c .before .before .before .before .before .before .before .before .before .before .before .before .enum-told .given .1)
+    (rw (← c .before .before .before .before .before .before .before .before .before .before .note .ensures, ← c .before .before .before .before .before .before .before .before .before .before .before .before .before .before .before .before .before .pre .1 .1, ← c .before .before .before .before .before .before .store .ensures) (c .before .before .handle .ensures))
 
 pub throw-spec : {M : Type 1} → statement M
 throw-spec =
@@ -66,7 +62,6 @@ throw-spec =
     enum-told-2
     returns
     note-requires
-    code-of-requires
     store-requires
     handle-requires
     same-length
