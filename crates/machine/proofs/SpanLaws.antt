@@ -11,7 +11,7 @@ use Rattle.cell.specs.declared.Checked.{Checked}
 use Rattle.cell.specs.declared.Checked.the-variants.{Good, Bad}
 use Rattle.cell.specs.declared.Fault.the-variants as fault
 use Rattle.cell.proofs.BooleanLaws.{both-true}
-use Rattle.machine.specs.Places.{Width, endIn, spanAt, within, Lies, inTable, allowed, tableAllows, alignedAs, faultAt, openTo, placeOf}
+use Rattle.machine.specs.Places.{Width, endIn, spanAt, within, inTable, allowed, tableAllows, alignedAs, faultAt, openTo, placeOf}
 use Rattle.machine.specs.declared.Span.{Span}
 use Rattle.machine.specs.declared.Guarded.{Guarded}
 use Rattle.machine.specs.declared.Machine.{Machine}

@@ -2,10 +2,6 @@
 use borrow.Author.Needs.{needs}
 use Rattle.areas.proofs.bounding.machine_of.Statement.{statement}
 use Rattle.areas.proofs.bounding.machine_of.Tie as tie
-use Rattle.areas.proofs.bounding.span_of.Reads as span-of-reads
-use Rattle.areas.proofs.judging.is_none.Reads as is-none-reads
-use Rattle.machine.proofs.places.guard.Reads as guard-reads
-use Rattle.machine.proofs.places.unbounded.Reads as unbounded-reads
 use Rattle.areas.proofs.AreaLaws.{taken}
 use native.Mathlib.Omega.{arith}
 use mathlib.Core.Path.{sym, _∙_}

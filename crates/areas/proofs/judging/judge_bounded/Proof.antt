@@ -2,9 +2,6 @@
 use borrow.Author.Needs.{needs}
 use Rattle.areas.proofs.judging.judge_bounded.Statement.{statement}
 use Rattle.areas.proofs.judging.judge_bounded.Tie as tie
-use Rattle.areas.proofs.judging.judge_areas.Reads as judge-areas-reads
-use Rattle.areas.proofs.judging.judge_table.Reads as judge-table-reads
-use Rattle.cell.proofs.judgement.judge_machine.Reads as judge-machine-reads
 use Rattle.areas.specs.Bounds as bounds
 use mathlib.Core.Path.{sym, _∙_}
 

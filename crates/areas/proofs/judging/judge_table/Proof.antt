@@ -2,8 +2,6 @@
 use borrow.Author.Needs.{needs}
 use Rattle.areas.proofs.judging.judge_table.Statement.{statement}
 use Rattle.areas.proofs.judging.judge_table.Tie as tie
-use Rattle.areas.proofs.judging.is_bad_table.Reads as is-bad-table-reads
-use Rattle.areas.proofs.judging.is_none_given.Reads as is-none-given-reads
 use Rattle.areas.specs.Tables as tables
 use mathlib.Core.Path.{sym, _∙_}
 

@@ -2,8 +2,6 @@
 use borrow.Author.Needs.{needs}
 use Rattle.exports.proofs.lists.beetle_list_run.Statement.{statement}
 use Rattle.exports.proofs.lists.beetle_list_run.Tie as tie
-use Rattle.calls.proofs.lending.make_table.Reads as make-table-reads
-use Rattle.list_calls.proofs.lists.resume_list.Reads as resume-list-reads
 
 make-table-requires : tie.Need-make-table-requires
 make-table-requires c κs = search needs

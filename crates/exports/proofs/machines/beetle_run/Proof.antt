@@ -2,12 +2,6 @@
 use borrow.Author.Needs.{needs}
 use Rattle.exports.proofs.machines.beetle_run.Statement.{statement}
 use Rattle.exports.proofs.machines.beetle_run.Tie as tie
-use Rattle.calls.proofs.lending.make_table.Reads as make-table-reads
-use Rattle.calls.proofs.lending.read_registers.Reads as read-registers-reads
-use Rattle.cell.proofs.judgement.refusal_number.Reads as refusal-number-reads
-use Rattle.processor.proofs.entry.run.Reads as run-reads
-use Rattle.processor_calls.proofs.machines.judge_with.Reads as judge-with-reads
-use Rattle.processor_calls.proofs.machines.tell_ran.Reads as tell-ran-reads
 use Rattle.processor_calls.specs.Machines as machines
 use Rattle.processor_calls.proofs.CallLaws.{call-roomy}
 use mathlib.Core.Path.{sym, _∙_}

@@ -2,12 +2,6 @@
 use borrow.Author.Needs.{needs}
 use Rattle.exports.proofs.machines.beetle_start.Statement.{statement}
 use Rattle.exports.proofs.machines.beetle_start.Tie as tie
-use Rattle.calls.proofs.lending.make_areas.Reads as make-areas-reads
-use Rattle.calls.proofs.lending.make_table.Reads as make-table-reads
-use Rattle.cell.proofs.judgement.refusal_number.Reads as refusal-number-reads
-use Rattle.processor.proofs.entry.start.Reads as start-reads
-use Rattle.processor_calls.proofs.machines.judge_call.Reads as judge-call-reads
-use Rattle.processor_calls.proofs.machines.tell_started.Reads as tell-started-reads
 use Rattle.processor_calls.specs.Machines as machines
 use Rattle.processor_calls.proofs.CallLaws.{call-roomy}
 use mathlib.Core.Path.{sym, _∙_}

@@ -1,8 +1,6 @@
 use borrow.Author.Needs.{needs}
 use Rattle.machine.proofs.places.check_byte_write.Statement.{statement}
 use Rattle.machine.proofs.places.check_byte_write.Tie as tie
-use Rattle.cell.proofs.place.check_byte.Reads as check-byte-reads
-use Rattle.machine.proofs.places.check_open.Reads as check-open-reads
 use Rattle.machine.specs.Places as places
 
 check-byte-requires : tie.Need-check-byte-requires

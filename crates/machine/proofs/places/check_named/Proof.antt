@@ -1,7 +1,6 @@
 use borrow.Author.Needs.{needs}
 use Rattle.machine.proofs.places.check_named.Statement.{statement}
 use Rattle.machine.proofs.places.check_named.Tie as tie
-use Rattle.cell.proofs.place.check_cell.Reads as check-cell-reads
 use Rattle.machine.specs.Places as places
 use Rattle.machine.proofs.SpanLaws.{open-read}
 use mathlib.Core.Path.{sym, _∙_}

@@ -1,7 +1,6 @@
 use borrow.Author.Needs.{needs}
 use Rattle.machine.proofs.places.check_open.Statement.{statement}
 use Rattle.machine.proofs.places.check_open.Tie as tie
-use Rattle.machine.proofs.places.is_guarded.Reads as is-guarded-reads
 use mathlib.Core.Path.{sym, _∙_}
 
 enum-told : tie.Need-enum-told

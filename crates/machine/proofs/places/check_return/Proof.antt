@@ -1,7 +1,6 @@
 use borrow.Author.Needs.{needs}
 use Rattle.machine.proofs.places.check_return.Statement.{statement}
 use Rattle.machine.proofs.places.check_return.Tie as tie
-use Rattle.machine.proofs.places.is_within.Reads as is-within-reads
 use Rattle.machine.proofs.SpanLaws.{found, place-good, place-off, place-outside}
 use Rattle.machine.specs.declared.Access.the-variants.{ReturnRead}
 use Rattle.machine.specs.Places.{oneCell}

@@ -1,8 +1,6 @@
 use borrow.Author.Needs.{needs}
 use Rattle.machine.proofs.places.check_return_write.Statement.{statement}
 use Rattle.machine.proofs.places.check_return_write.Tie as tie
-use Rattle.machine.proofs.places.is_guarded.Reads as is-guarded-reads
-use Rattle.machine.proofs.places.is_within.Reads as is-within-reads
 use Rattle.machine.proofs.SpanLaws.{found, place-good, place-guarded, place-off, place-outside}
 use Rattle.machine.specs.declared.Access.the-variants.{ReturnWrite}
 use Rattle.machine.specs.Places.{oneCell}

@@ -1,10 +1,6 @@
 use borrow.Author.Needs.{needs}
 use Rattle.machine.proofs.places.check_target.Statement.{statement}
 use Rattle.machine.proofs.places.check_target.Tie as tie
-use Rattle.cell.proofs.place.check_cell.Reads as check-cell-reads
-use Rattle.machine.proofs.places.check_data_write.Reads as check-data-write-reads
-use Rattle.machine.proofs.places.check_open.Reads as check-open-reads
-use Rattle.machine.proofs.places.check_return_write.Reads as check-return-write-reads
 use Rattle.machine.specs.Places as places
 
 enum-told : tie.Need-enum-told

@@ -1,8 +1,6 @@
 use borrow.Author.Needs.{needs}
 use Rattle.machine.proofs.places.fetch.Statement.{statement}
 use Rattle.machine.proofs.places.fetch.Tie as tie
-use Rattle.machine.proofs.places.check_named.Reads as check-named-reads
-use Rattle.machine.proofs.places.fetch_at.Reads as fetch-at-reads
 use Rattle.machine.proofs.CommitLaws.{room-place}
 use Rattle.machine.specs.Places as places
 use mathlib.Core.Path.{sym, _∙_}

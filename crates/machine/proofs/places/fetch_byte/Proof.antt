@@ -1,7 +1,6 @@
 use borrow.Author.Needs.{needs}
 use Rattle.machine.proofs.places.fetch_byte.Statement.{statement}
 use Rattle.machine.proofs.places.fetch_byte.Tie as tie
-use Rattle.cell.proofs.place.check_byte.Reads as check-byte-reads
 use Rattle.machine.specs.Places as places
 use Rattle.cell.proofs.PlaceLaws.{good-byte}
 use native.Mathlib.Omega.{arith}

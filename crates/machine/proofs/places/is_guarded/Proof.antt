@@ -1,7 +1,6 @@
 use borrow.Author.Needs.{needs}
 use Rattle.machine.proofs.places.is_guarded.Statement.{statement}
 use Rattle.machine.proofs.places.is_guarded.Tie as tie
-use Rattle.cell.proofs.number.subtract.Reads as subtract-reads
 use Rattle.machine.proofs.SpanLaws.{guards-byte}
 
 subtract-requires : tie.Need-subtract-requires

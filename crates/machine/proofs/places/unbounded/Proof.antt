@@ -1,7 +1,6 @@
 use borrow.Author.Needs.{needs}
 use Rattle.machine.proofs.places.unbounded.Statement.{statement}
 use Rattle.machine.proofs.places.unbounded.Tie as tie
-use Rattle.machine.proofs.places.guard.Reads as guard-reads
 
 cast-cells : tie.Need-cast-cells
 cast-cells c = search needs

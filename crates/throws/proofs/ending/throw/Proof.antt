@@ -2,11 +2,6 @@
 use borrow.Author.Needs.{needs}
 use Rattle.throws.proofs.ending.throw.Statement.{statement}
 use Rattle.throws.proofs.ending.throw.Tie as tie
-use Rattle.cell.proofs.memory.store.Reads as store-reads
-use Rattle.cell.proofs.number.subtract.Reads as subtract-reads
-use Rattle.machine.proofs.places.check_push.Reads as check-push-reads
-use Rattle.throws.proofs.ending.handle.Reads as handle-reads
-use Rattle.throws.proofs.ending.note.Reads as note-reads
 use Rattle.machine.proofs.CommitLaws.{room-place}
 use Rattle.machine.specs.declared.Access.the-variants.{Push}
 use Rattle.throws.specs.Throws as throws
