@@ -36,6 +36,7 @@ refusal-some refusal.Unaligned e = omega arith
 refusal-some refusal.Outside e = omega arith
 refusal-some refusal.ShortOutput e = omega arith
 refusal-some refusal.ItemCount e = omega arith
+refusal-some refusal.OperandCount e = omega arith
 refusal-some refusal.Kind e = omega arith
 refusal-some refusal.PlainOperand e = omega arith
 refusal-some refusal.Target e = omega arith

@@ -1,6 +1,6 @@
 -- Refusals: their numbers, and the first that applies. Document 01, Turned back for the input, Turned back for the state, and
 -- the order below them: what a call is lent comes first, then its input, then places, and the room of outputs last. Document 02, (a) and (b): areas
--- come after the byte order, then the table.
+-- come after the byte order, then the table; (l): a short file's -4119 is a part of the input list.
 use mathlib.Core.Path.{_≡_}
 use mathlib.Core.Bool.{Bool, not, _||_}
 use mathlib.Core.List.{List, [], _∷_}
@@ -8,7 +8,7 @@ use Prim.Native.Nat.{ℕ, _-_, _%_, _^_, _≤_}
 use lib.Dec.{ltb, eqb}
 use Rattle.cell.specs.Choice.{if}
 use Rattle.cell.specs.declared.Refusal.{Refusal}
-use Rattle.cell.specs.declared.Refusal.the-variants.{MemoryLength, ByteOrder, StackAreas, Table, Header, FileLength, Unaligned, Outside, ShortOutput, ItemCount, Kind, PlainOperand, Target, Base}
+use Rattle.cell.specs.declared.Refusal.the-variants.{MemoryLength, ByteOrder, StackAreas, Table, Header, FileLength, Unaligned, Outside, ShortOutput, ItemCount, OperandCount, Kind, PlainOperand, Target, Base}
 use Rattle.cell.specs.declared.Judged.{Judged}
 use Rattle.cell.specs.declared.Judged.the-variants.{Passed, Refused}
 
@@ -24,6 +24,7 @@ refusalNumber Unaligned = 2 ^ 32 - 4104
 refusalNumber Outside = 2 ^ 32 - 1
 refusalNumber ShortOutput = 2 ^ 32 - 4105
 refusalNumber ItemCount = 2 ^ 32 - 4106
+refusalNumber OperandCount = 2 ^ 32 - 4119
 refusalNumber Kind = 2 ^ 32 - 4107
 refusalNumber PlainOperand = 2 ^ 32 - 4108
 refusalNumber Target = 2 ^ 32 - 4109

@@ -37,6 +37,7 @@ pub fn refusal_number(r: Refusal) -> u32
         Refusal::Outside => 0xFFFFFFFF,
         Refusal::ShortOutput => 0xFFFFEFF7,
         Refusal::ItemCount => 0xFFFFEFF6,
+        Refusal::OperandCount => 0xFFFFEFE9,
         Refusal::Kind => 0xFFFFEFF5,
         Refusal::PlainOperand => 0xFFFFEFF4,
         Refusal::Target => 0xFFFFEFF3,

@@ -61,6 +61,7 @@ pub enum Refusal {
     Outside,
     ShortOutput,
     ItemCount,
+    OperandCount,
     Kind,
     PlainOperand,
     Target,
