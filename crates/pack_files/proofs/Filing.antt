@@ -1,11 +1,11 @@
 -- A listing file: its header, and the two arrays that it holds.
 -- Assumes nothing.
 use mathlib.Core.Path.{_≡_, refl, sym, ap, _∙_}
-use mathlib.Core.Bool.{Bool, true, false, not, _||_}
+use mathlib.Core.Bool.{Bool, true, false, not}
 use mathlib.Core.List.{List, [], _∷_, _++_}
 use Prim.Native.Nat.{ℕ, _+_, _-_, _*_, _<_, _≤_}
 use native.Mathlib.Omega.{arith}
-use borrow.Author.Tests.{eqb-true, eq-eqb, ne-eqb, not-false, lt-ltb, le-ltb, ltb-true, ltb-false}
+use borrow.Author.Tests.{eq-eqb, ne-eqb, lt-ltb, le-ltb, ltb-true, ltb-false}
 use lib.Dec.{eqb, ltb}
 use lib.ListN.{length, take, drop, length-append, length-take, length-drop}
 use lib.Seq.{take-at}
@@ -15,11 +15,11 @@ use Rattle.cell.specs.declared.Refusal.{Refusal}
 use Rattle.cell.specs.declared.Refusal.the-variants.{ItemCount}
 use Rattle.cell.specs.declared.Judged.{Judged}
 use Rattle.cell.specs.declared.Judged.the-variants.{Passed, Refused}
-use Rattle.cell.proofs.BooleanLaws.{neither}
 use Rattle.cell.proofs.JudgementLaws.{both-pass, one-clear}
 use Rattle.pack_layout.specs.Listing.{listed, judgedArrays, judgedListing}
 use Rattle.pack_layout.specs.File.{cellsFrom, fileCount, fileBase, fileKinds, fileOperands, filed, judgedLength, judgedFile}
 use Rattle.pack_layout.specs.Packing.{imageCells, judgedPlace}
+use Rattle.pack_judging.proofs.Reading.{length-of}
 use Rattle.packer.specs.declared.Packed.{Packed}
 use Rattle.packer.specs.declared.Packed.the-variants as packed
 use Rattle.packer.specs.Judgement.{judgeOrder, judgeRoom, judgePack}
@@ -27,13 +27,6 @@ use Rattle.packer.specs.Pack.{packCount, PackResult, packedTo, packOf}
 use Rattle.packer.proofs.Judging.{all-room}
 use Rattle.packer.proofs.Answering.{if-room}
 use Rattle.pack_files.specs.Files.{Header, manyItems, judgeHeader, judgePackFile, packFileOf}
-
--- a file whose length is that of its header and its items
-pub length-of : (s : List ℕ) → judgedLength s ≡ Passed → length s ≡ 8 + 5 * fileCount s
-length-of s e =
-    let same = eqb (length s) (8 + 5 * fileCount s) in
-    let p = one-clear (ltb (length s) 8 || not same) ItemCount Passed e in
-    eqb-true (length s) (8 + 5 * fileCount s) (not-false same (neither (ltb (length s) 8) (not same) (p .0) .1))
 
 -- more than 4,096 items
 many : (kinds operands : List ℕ) → 4096 < length kinds → judgedArrays kinds operands ≡ Refused ItemCount

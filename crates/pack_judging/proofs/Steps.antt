@@ -48,7 +48,7 @@ module _ (l : Listing) (n i : ℕ) where
   abbrev here : Judged
   here = judged (classOf (l .kind i)) (l .count) (l .operand i)
 
-  judged-step : i < n → judgedFrom l (n - i) i ≡ after here (judgedFrom l (n - (i + 1)) (i + 1))
+  pub judged-step : i < n → judgedFrom l (n - i) i ≡ after here (judgedFrom l (n - (i + 1)) (i + 1))
   unfolding judgedFrom
   judged-step h = rw (let e : n - i ≡ suc (n - (i + 1)) = omega arith in e, add-one i)
 

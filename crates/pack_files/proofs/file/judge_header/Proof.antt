@@ -6,7 +6,7 @@ use mathlib.Core.Path.{sym, _∙_}
 use native.Mathlib.Omega.{arith}
 use borrow.Author.Tests.{lt-ltb, le-ltb}
 use Rattle.pack_files.specs.Files as files
-use Rattle.pack_files.proofs.Filing.{length-of}
+use Rattle.pack_judging.proofs.Reading.{length-of}
 
 judge-order-requires : tie.Need-judge-order-requires
 judge-order-requires c κs = search needs
