@@ -1,0 +1,2 @@
+-- What crate `short_packing` means.
+pub mod Packing

@@ -1,0 +1,2 @@
+// Short listing files, packed.
+pub mod pack;
