@@ -488,7 +488,7 @@ pub const MUTANTS: &[Mutant] = &[
     mutant("modules", "save asks for one byte more", "calls.rs",
         "room(output, file.len())?;", "room(output, file.len() + 1)?;"),
     mutant("modules", "save clears the rest of the output", "calls.rs",
-        "output[..file.len()].copy_from_slice(&file);", "output[..file.len()].copy_from_slice(&file);\n        output[file.len()..].fill(0);"),
+        "output[..file.len()].copy_from_slice(file);", "output[..file.len()].copy_from_slice(file);\n    output[file.len()..].fill(0);"),
     mutant("modules", "save always in order 0", "module.rs",
         "file.push(order.number());", "file.push(0);"),
     // Loads that halt

@@ -12,7 +12,7 @@ pub type ListRun =
 pub type ListResume =
     fn(u8, &[u8], &[u32], u32, &mut [u8], u32, u32, u32, u8, &mut [u32], u32, &mut [u32]) -> u32;
 
-/// The ten calls of the interface.
+/// The thirteen calls of the interface.
 #[derive(Clone, Copy)]
 pub struct Implementation {
     pub start: Start,
@@ -23,6 +23,9 @@ pub struct Implementation {
     pub save: fn(u8, &[u8], u32, u32, &mut [u8], &mut [u32]) -> u32,
     pub pack: fn(u8, &[u8], &[u32], u32, &mut [u8], &mut [u32]) -> u32,
     pub pack_file: fn(u8, &[u8], &mut [u8], &mut [u32]) -> u32,
+    pub shorten: fn(&[u8], &mut [u8], &mut [u32]) -> u32,
+    pub lengthen: fn(&[u8], &mut [u8], &mut [u32]) -> u32,
+    pub pack_short: fn(u8, &[u8], &mut [u8], &mut [u32]) -> u32,
     pub list_run: ListRun,
     pub list_resume: ListResume,
 }
@@ -40,6 +43,9 @@ macro_rules! implementation {
             save: $($module)::+::save,
             pack: $($module)::+::pack,
             pack_file: $($module)::+::pack_file,
+            shorten: $($module)::+::shorten,
+            lengthen: $($module)::+::lengthen,
+            pack_short: $($module)::+::pack_short,
             list_run: $($module)::+::list_run,
             list_resume: $($module)::+::list_resume,
         }
@@ -67,6 +73,9 @@ pub enum Entry {
     Save,
     Pack,
     PackFile,
+    Shorten,
+    Lengthen,
+    PackShort,
     ListRun,
     ListResume,
 }
@@ -210,6 +219,9 @@ impl Arrays {
             Entry::Save => (to.save)(order, m, x, y, w, o),
             Entry::Pack => (to.pack)(order, k, v, x, w, o),
             Entry::PackFile => (to.pack_file)(order, f, w, o),
+            Entry::Shorten => (to.shorten)(f, w, o),
+            Entry::Lengthen => (to.lengthen)(f, w, o),
+            Entry::PackShort => (to.pack_short)(order, f, w, o),
             Entry::ListRun => (to.list_run)(order, k, v, x, m, t, end, r, y, o),
             Entry::ListResume => {
                 (to.list_resume)(order, k, v, x, m, t, end, item, ran as u8, r, y, o)

@@ -1,4 +1,4 @@
-//! The ten calls of the C interface: refusals in document 01's order, with -4111 and -4112 after
+//! The thirteen calls of the C interface: refusals in document 01's order, with -4111 and -4112 after
 //! -4102, and -4105 last; what is lent is written on success only.
 
 use super::instructions::Registers;
@@ -9,6 +9,7 @@ use super::module;
 use super::packer;
 use super::processor::{self, Outcome};
 use super::refusal::{demand, Refusal};
+use super::short;
 use super::stacks::{Areas, Numbers};
 use super::tables::{Range, Table};
 
@@ -185,6 +186,15 @@ pub fn load_first(
     })())
 }
 
+/// A file goes to the output.
+fn give_file(file: &[u8], output: &mut [u8], out: &mut [u32]) -> Result<u32, Refusal> {
+    room(output, file.len())?;
+    room(out, 1)?;
+    output[..file.len()].copy_from_slice(file);
+    out[0] = file.len() as u32;
+    Ok(WENT_ON)
+}
+
 pub fn save(
     order: u8,
     memory: &[u8],
@@ -198,11 +208,7 @@ pub fn save(
         let order = byte_order(order)?;
         let at = module::place(memory, address, u64::from(cells))?;
         let file = module::write(order, &memory[at..at + 4 * cells as usize]);
-        room(output, file.len())?;
-        room(out, 1)?;
-        output[..file.len()].copy_from_slice(&file);
-        out[0] = file.len() as u32;
-        Ok(WENT_ON)
+        give_file(&file, output, out)
     })())
 }
 
@@ -243,6 +249,32 @@ pub fn pack_file(order: u8, file: &[u8], output: &mut [u8], out: &mut [u32]) -> 
     number((|| {
         let order = byte_order(order)?;
         let (listing, base) = listing::read(file)?;
+        pack_listing(order, &listing, base, output, out)
+    })())
+}
+
+/// An old listing file turned into a short one (document 02, (l)).
+pub fn shorten(file: &[u8], output: &mut [u8], out: &mut [u32]) -> u32 {
+    number((|| {
+        let (listing, base) = listing::read(file)?;
+        let short = short::write(&listing.kinds, &listing.operands, base);
+        give_file(&short, output, out)
+    })())
+}
+
+/// A short listing file turned into an old one.
+pub fn lengthen(file: &[u8], output: &mut [u8], out: &mut [u32]) -> u32 {
+    number((|| {
+        let (listing, base) = short::read(file)?;
+        let old = listing::write(&listing.kinds, &listing.operands, base);
+        give_file(&old, output, out)
+    })())
+}
+
+pub fn pack_short(order: u8, file: &[u8], output: &mut [u8], out: &mut [u32]) -> u32 {
+    number((|| {
+        let order = byte_order(order)?;
+        let (listing, base) = short::read(file)?;
         pack_listing(order, &listing, base, output, out)
     })())
 }

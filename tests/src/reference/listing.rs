@@ -89,20 +89,38 @@ pub fn accept(kinds: &[u8], operands: &[u32]) -> Result<Listing, Refusal> {
     })
 }
 
-fn number_at(file: &[u8], at: usize) -> u32 {
+/// The number in four bytes of a file, least byte first.
+pub fn number_at(file: &[u8], at: usize) -> u32 {
     u32::from_le_bytes([file[at], file[at + 1], file[at + 2], file[at + 3]])
 }
 
-/// Reads a listing file: n, base, n kinds, n operands, numbers least byte first.
-pub fn read(file: &[u8]) -> Result<(Listing, u32), Refusal> {
+/// Kinds, operands and base out of a file, the items not judged.
+pub type Parts = (Vec<u8>, Vec<u32>, u32);
+
+/// Takes a listing file apart: n, base, n kinds, n operands.
+pub fn parts(file: &[u8]) -> Result<Parts, Refusal> {
     demand(file.len() >= 8, Refusal::ListingSize)?;
     let n = number_at(file, 0);
     let length = 8 + 5 * u64::from(n);
     demand(file.len() as u64 == length, Refusal::ListingSize)?;
-    let kinds_end = 8 + n as usize;
-    let operands: Vec<u32> = (0..n as usize)
-        .map(|item| number_at(file, kinds_end + 4 * item))
-        .collect();
-    let listing = accept(&file[8..kinds_end], &operands)?;
-    Ok((listing, number_at(file, 4)))
+    let (kinds, operands) = file[8..].split_at(n as usize);
+    let operands = operands.chunks(4).map(|bytes| number_at(bytes, 0));
+    Ok((kinds.to_vec(), operands.collect(), number_at(file, 4)))
+}
+
+/// Reads a listing file.
+pub fn read(file: &[u8]) -> Result<(Listing, u32), Refusal> {
+    let (kinds, operands, base) = parts(file)?;
+    Ok((accept(&kinds, &operands)?, base))
+}
+
+/// A file of sizes and base, kinds, operands.
+pub fn file(header: &[u32], kinds: &[u8], operands: &[u32]) -> Vec<u8> {
+    let bytes = |numbers: &[u32]| numbers.iter().flat_map(|x| x.to_le_bytes()).collect();
+    [bytes(header), kinds.to_vec(), bytes(operands)].concat()
+}
+
+/// The listing file of these arrays.
+pub fn write(kinds: &[u8], operands: &[u32], base: u32) -> Vec<u8> {
+    file(&[kinds.len() as u32, base], kinds, operands)
 }

@@ -14,5 +14,6 @@ pub mod opcodes;
 pub mod packer;
 pub mod processor;
 pub mod refusal;
+pub mod short;
 pub mod stacks;
 pub mod tables;

@@ -1,4 +1,4 @@
-//! What is refused, with its number (document 01, the two lists; document 02, (a) and (b)).
+//! What is refused, with its number (document 01, the two lists; document 02, (a), (b) and (l)).
 
 #[derive(Clone, Copy, PartialEq, Eq, Debug)]
 pub enum Refusal {
@@ -8,6 +8,8 @@ pub enum Refusal {
     FileLength,
     /// -4106.
     ListingSize,
+    /// -4119.
+    ShortFile,
     /// -4107.
     Kind,
     /// -4108.
@@ -38,6 +40,7 @@ impl Refusal {
             Refusal::Header => -2,
             Refusal::FileLength => -4103,
             Refusal::ListingSize => -4106,
+            Refusal::ShortFile => -4119,
             Refusal::Kind => -4107,
             Refusal::PlainOperand => -4108,
             Refusal::Target => -4109,
