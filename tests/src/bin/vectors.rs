@@ -7,7 +7,9 @@
 //! is a line of order, table, EP, handler, areas and memory, `=`, and the same. A listing is a line of a
 //! file's bytes (`-` for none), `=`, and the cells or the refusal's number. A load that halts is a line
 //! of order, length of a memory of 5Ah, file, address and cells, `=`, and `refused` with the number, or
-//! the cells loaded and each changed byte.
+//! the cells loaded and each changed byte. A short listing is a line of a short file's bytes, `=`, the
+//! cells that it packs to in order 0, `=`, and the old file's bytes, with `refused` and the number in
+//! place of either.
 
 #[cfg(feature = "library")]
 use beetle_tests::call::library;
@@ -20,7 +22,7 @@ struct Kind {
     agrees: fn(&Implementation, &str) -> bool,
 }
 
-const KINDS: [Kind; 4] = [
+const KINDS: [Kind; 5] = [
     Kind {
         name: "cycles",
         files: &["cycles.txt", "plusloops.txt", "areas.txt"],
@@ -40,6 +42,11 @@ const KINDS: [Kind; 4] = [
         name: "firsts",
         files: &["firsts.txt"],
         agrees: first_agrees,
+    },
+    Kind {
+        name: "short",
+        files: &["short.txt"],
+        agrees: short_agrees,
     },
 ];
 
@@ -62,6 +69,10 @@ fn bytes_or_none(word: &str) -> Vec<u8> {
     } else {
         bytes(word)
     }
+}
+
+fn hexadecimal_bytes(bytes: &[u8]) -> String {
+    bytes.iter().map(|byte| format!("{byte:02X}")).collect()
 }
 
 /// Each byte that changed, after its address.
@@ -141,22 +152,64 @@ fn start_agrees(calls: &Implementation, line: &str) -> bool {
     told == expected && registers[4..] == *areas
 }
 
+/// Room for every image.
+const LARGEST_IMAGE: usize = 4 * 8192;
+
+/// The cells of an image of order 0, in words.
+fn cell_words(image: &[u8]) -> Vec<String> {
+    image
+        .chunks(4)
+        .map(|cell| u32::from_le_bytes([cell[0], cell[1], cell[2], cell[3]]))
+        .map(|cell| format!("{cell:08X}"))
+        .collect()
+}
+
 fn listing_agrees(calls: &Implementation, line: &str) -> bool {
     let (given, expected) = sides(line);
     let file = bytes_or_none(given[0]);
-    let mut output = vec![0; 4 * 8192];
+    let mut output = vec![0; LARGEST_IMAGE];
     let mut out = [0];
     let answer = (calls.pack_file)(0, &file, &mut output, &mut out);
-    let told: Vec<String> = if answer == 0 {
-        output[..4 * out[0] as usize]
-            .chunks(4)
-            .map(|cell| u32::from_le_bytes([cell[0], cell[1], cell[2], cell[3]]))
-            .map(|cell| format!("{cell:08X}"))
-            .collect()
+    let told = if answer == 0 {
+        cell_words(&output[..4 * out[0] as usize])
     } else {
         vec![(answer as i32).to_string()]
     };
     told == expected
+}
+
+/// What a short file packs to in order 0, in words.
+fn packed_words(calls: &Implementation, file: &[u8]) -> Vec<String> {
+    let mut output = vec![0; LARGEST_IMAGE];
+    let mut out = [0];
+    match (calls.pack_short)(0, file, &mut output, &mut out) {
+        0 => cell_words(&output[..4 * out[0] as usize]),
+        refusal => answer_words(refusal, 0),
+    }
+}
+
+/// The file that another is turned into, or the refusal.
+fn turned(turn: fn(&[u8], &mut [u8], &mut [u32]) -> u32, file: &[u8]) -> Result<Vec<u8>, u32> {
+    let mut output = vec![0; 12 + 5 * 4096];
+    let mut out = [0];
+    match turn(file, &mut output, &mut out) {
+        0 => Ok(output[..out[0] as usize].to_vec()),
+        refusal => Err(refusal),
+    }
+}
+
+fn short_agrees(calls: &Implementation, line: &str) -> bool {
+    let (given, expected) = line.split_once('=').expect("an equals sign");
+    let (packed, lengthened) = sides(expected);
+    let file = bytes_or_none(given.trim());
+    let agrees = match turned(calls.lengthen, &file) {
+        Ok(old) => {
+            let back = turned(calls.shorten, &old);
+            lengthened == [hexadecimal_bytes(&old)] && back == Ok(file.clone())
+        }
+        Err(refusal) => lengthened == answer_words(refusal, 0),
+    };
+    agrees && packed_words(calls, &file) == packed
 }
 
 fn first_agrees(calls: &Implementation, line: &str) -> bool {
