@@ -4,7 +4,7 @@ use std::collections::BTreeMap;
 
 use crate::budgets::{self, Budgets};
 use crate::call::{agree, perform, Call, Implementation};
-use crate::cases::{listings, modules, processor, rules};
+use crate::cases::{files, listings, modules, processor, rules};
 use crate::cuts;
 use crate::demand3::follow;
 use crate::firsts::{self, Firsts};
@@ -14,7 +14,7 @@ use crate::shrink::{call_text, returned_text, smallest};
 /// Calls of one sort, with the number that is drawn by default.
 pub struct Suite {
     pub name: &'static str,
-    /// processor, modules or packer.
+    /// processor, modules, packer or files.
     pub group: &'static str,
     pub cases: u32,
     pub make: fn(&mut Random, u32) -> Call,
@@ -34,7 +34,7 @@ const fn suite(
     }
 }
 
-pub const SUITES: [Suite; 14] = [
+pub const SUITES: [Suite; 18] = [
     suite("cycles", "processor", 400_000, processor::cycle),
     suite("starts", "processor", 20_000, processor::start),
     suite("runs", "processor", 40_000, processor::run),
@@ -49,6 +49,10 @@ pub const SUITES: [Suite; 14] = [
     suite("list resumes", "packer", 60_000, rules::list_resume),
     suite("large listings", "packer", 60, listings::large),
     suite("large list runs", "packer", 24, rules::large),
+    suite("shortens", "files", 20_000, files::shorten),
+    suite("lengthens", "files", 20_000, files::lengthen),
+    suite("pack shorts", "files", 20_000, files::pack_short),
+    suite("large files", "files", 60, files::large),
 ];
 
 /// How many rules demand 3 is tried on by default.

@@ -6,6 +6,7 @@ pub mod cases;
 pub mod compare;
 pub mod cuts;
 pub mod demand3;
+pub mod files;
 pub mod firsts;
 pub mod random;
 pub mod reach;

@@ -1,6 +1,7 @@
 //! Makes a call that shows a difference smaller, and prints it.
 
 use crate::call::{Call, Returned};
+use crate::files::{closed, opened};
 use crate::reference::listing::{kind_of, Kind};
 
 /// Searches for a smaller call that still shows the difference.
@@ -10,8 +11,17 @@ pub struct Shrinking<'d> {
     tries: usize,
 }
 
-/// The smallest call found that still shows the difference.
+/// The smallest call found that still shows the difference. A listing file is opened, where it can be,
+/// so that items go out of it.
 pub fn smallest(call: &Call, differs: &dyn Fn(&Call) -> bool) -> Call {
+    let Some(open) = opened(call) else {
+        return shrunk(call, differs);
+    };
+    let small = shrunk(&open, &|open| differs(&closed(open.clone())));
+    closed(small)
+}
+
+fn shrunk(call: &Call, differs: &dyn Fn(&Call) -> bool) -> Call {
     let size = call.memory.len() + 20 * call.kinds.len() + 4096;
     let mut shrinking = Shrinking {
         best: call.clone(),
@@ -22,6 +32,7 @@ pub fn smallest(call: &Call, differs: &dyn Fn(&Call) -> bool) -> Call {
         let before = shrinking.best.clone();
         shrinking.shorten_listing();
         shrinking.shorten_memory();
+        shrinking.shorten_file();
         shrinking.lower_areas();
         shrinking.lower_table();
         shrinking.lower_numbers();
@@ -96,6 +107,18 @@ impl Shrinking<'_> {
     fn shorten_memory(&mut self) {
         if self.best.memory.len() > 1024 && self.best.memory.len().is_multiple_of(4) {
             self.attempt_with(|call| call.memory.truncate(1024));
+        }
+    }
+
+    /// The file without one piece and another.
+    fn shorten_file(&mut self) {
+        for size in pieces(2 * self.best.file.len()) {
+            let mut start = 0;
+            while start + size <= self.best.file.len() && self.tries > 0 {
+                if !self.attempt_with(|call| drop(call.file.drain(start..start + size))) {
+                    start += size;
+                }
+            }
         }
     }
 

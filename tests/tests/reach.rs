@@ -1,6 +1,8 @@
-//! The cases meet the table in every way.
+//! The cases meet the table in every way, and listing files with every answer.
 
+use beetle_tests::call::reference;
 use beetle_tests::cases::{processor, rules};
+use beetle_tests::compare::{compare, SUITES};
 use beetle_tests::reach::{tally, Tally};
 
 /// Each of these came up so often at least.
@@ -50,5 +52,29 @@ fn runs_meet_tables() {
         let tally = tally(9, 4_000, make);
         at_least(&tally, 40, &ALWAYS);
         at_least(&tally, 15, &["-20"]);
+    }
+}
+
+#[test]
+fn files_meet_every_answer() {
+    let shortened = &[0, -4105, -4106, -4107, -4108, -4109][..];
+    let lengthened = &[0, -4105, -4106, -4107, -4109, -4119][..];
+    let packed = &[lengthened, &[-4102, -4104, -4110]].concat()[..];
+    for (name, expected) in [
+        ("shortens", shortened),
+        ("lengthens", lengthened),
+        ("pack shorts", packed),
+    ] {
+        let suite = SUITES.iter().find(|suite| suite.name == name);
+        let suite = suite.expect("the suite");
+        let answers = compare(suite, &reference(), &reference(), 4_000).ok();
+        let answers = answers.expect("no difference");
+        println!("{name}: {answers:?}");
+        let mut met: Vec<i32> = answers.keys().copied().collect();
+        let mut expected = expected.to_vec();
+        met.sort();
+        expected.sort();
+        assert_eq!(met, expected, "{name}");
+        assert!(answers.values().all(|times| *times >= 20), "{name}");
     }
 }

@@ -2,6 +2,7 @@
 
 use super::{any_bytes, any_cell, damage, out_with_room};
 use crate::call::{Call, Entry};
+use crate::files;
 use crate::random::Random;
 use crate::reference::listing::{self, kind_of, Kind};
 use crate::reference::packer;
@@ -35,7 +36,7 @@ fn target(random: &mut Random, item: u32, items: u32) -> u32 {
 }
 
 /// A kind byte of a certain kind.
-fn kind_byte(random: &mut Random, kind: Kind) -> u8 {
+pub(super) fn kind_byte(random: &mut Random, kind: Kind) -> u8 {
     loop {
         let byte = random.between(0x01, 0x57) as u8;
         if kind_of(byte) == Some(kind) {
@@ -70,7 +71,7 @@ fn listing(random: &mut Random, items: u32) -> (Vec<u8>, Vec<u32>) {
     items_of(random, items, branches, literals)
 }
 
-fn size(random: &mut Random) -> u32 {
+pub(super) fn size(random: &mut Random) -> u32 {
     match random.below(40) {
         0 => random.between(700, 4096),
         1..=5 => random.between(250, 700),
@@ -79,6 +80,11 @@ fn size(random: &mut Random) -> u32 {
     }
 }
 
+/// Bytes that are no kinds.
+pub(super) const NO_KINDS: [u8; 11] = [
+    0x00, 0x43, 0x45, 0x49, 0x4D, 0x4F, 0x53, 0x56, 0x58, 0x5B, 0x5C,
+];
+
 /// Makes some items illegal.
 fn spoil(random: &mut Random, kinds: &mut [u8], operands: &mut [u32]) {
     let items = kinds.len() as u32;
@@ -86,12 +92,7 @@ fn spoil(random: &mut Random, kinds: &mut [u8], operands: &mut [u32]) {
         let item = random.below(items) as usize;
         match random.below(4) {
             0 => kinds[item] = random.byte(),
-            1 => {
-                let bytes = [
-                    0x00, 0x43, 0x45, 0x49, 0x4D, 0x4F, 0x53, 0x56, 0x58, 0x5B, 0x5C,
-                ];
-                kinds[item] = random.choose(&bytes);
-            }
+            1 => kinds[item] = random.choose(&NO_KINDS),
             2 => operands[item] = items.wrapping_add(random.below(3)).wrapping_sub(1),
             _ => operands[item] = random.choose(&[1, 0x8000_0000, 0xFFFF_FFFF]),
         }
@@ -117,8 +118,8 @@ fn image_cells(kinds: &[u8], operands: &[u32]) -> u32 {
     listing::accept(kinds, operands).map_or(0, |listing| packer::layout(&listing).cells as u32)
 }
 
-/// A listing, sometimes a bad one, with a base and an output.
-fn packing(random: &mut Random, call: &mut Call, items: u32) {
+/// A listing, sometimes a bad one, with a byte order and a base: the cells of its image.
+pub(super) fn listed(random: &mut Random, call: &mut Call, items: u32) -> u32 {
     let (mut kinds, mut operands) = listing(random, items);
     if random.one_in(5) {
         spoil(random, &mut kinds, &mut operands);
@@ -128,7 +129,11 @@ fn packing(random: &mut Random, call: &mut Call, items: u32) {
     call.numbers[0] = base(random, cells);
     call.kinds = kinds;
     call.operands = operands;
-    let room = 4 * cells as usize;
+    cells
+}
+
+/// An output for so many bytes: just so long, longer, or too short; and `out`.
+pub(super) fn lend(random: &mut Random, call: &mut Call, room: usize) {
     let room = match random.below(6) {
         0 => room.saturating_sub(1),
         1 => room + random.below(30) as usize,
@@ -142,6 +147,12 @@ fn packing(random: &mut Random, call: &mut Call, items: u32) {
         call.memory = Vec::new();
         call.registers = Vec::new();
     }
+}
+
+/// A listing, sometimes a bad one, with a base and an output.
+fn packing(random: &mut Random, call: &mut Call, items: u32) {
+    let cells = listed(random, call, items);
+    lend(random, call, 4 * cells as usize);
 }
 
 /// The arrays no longer match, or are empty.
@@ -178,7 +189,7 @@ pub fn large(random: &mut Random, index: u32) -> Call {
 }
 
 /// Numbers of items at the bounds, and some whose size in bytes passes 2^32.
-const COUNTS: [u32; 8] = [
+pub(super) const COUNTS: [u32; 8] = [
     0,
     1,
     4096,
@@ -190,7 +201,7 @@ const COUNTS: [u32; 8] = [
 ];
 
 /// Cuts, extends or corrupts a listing's file.
-fn corrupt(random: &mut Random, file: &mut Vec<u8>) {
+pub(super) fn corrupt(random: &mut Random, file: &mut Vec<u8>) {
     match random.below(6) {
         0 => {
             let length = random.below(file.len() as u32 + 1) as usize;
@@ -225,16 +236,9 @@ pub fn pack_file(random: &mut Random, _: u32) -> Call {
     let mut call = Call::new(Entry::PackFile);
     let items = size(random);
     packing(random, &mut call, items);
-    let mut file = items.to_le_bytes().to_vec();
-    file.extend(call.numbers[0].to_le_bytes());
-    file.append(&mut call.kinds);
-    for operand in call.operands.drain(..) {
-        file.extend(operand.to_le_bytes());
-    }
+    let mut call = files::closed(call);
     if random.one_in(5) {
-        corrupt(random, &mut file);
+        corrupt(random, &mut call.file);
     }
-    call.file = file;
-    call.numbers[0] = 0;
     call
 }

@@ -1,6 +1,7 @@
 //! Calls drawn at random, hostile ones among them.
 
 pub mod areas;
+pub mod files;
 pub mod listings;
 pub mod modules;
 pub mod processor;
