@@ -9,6 +9,7 @@ use crate::cuts;
 use crate::demand3::follow;
 use crate::firsts::{self, Firsts};
 use crate::random::Random;
+use crate::shorts::{self, Shorts};
 use crate::shrink::{call_text, returned_text, smallest};
 
 /// Calls of one sort, with the number that is drawn by default.
@@ -82,7 +83,7 @@ pub struct Difference {
     pub call: Box<Call>,
 }
 
-/// A case that breaks a claim about runs or loads in parts, told with what differs.
+/// A case that breaks a claim that an implementation has to meet by itself, told with what differs.
 fn broken(name: &str, index: u32, why: &str, call: &Call) -> String {
     format!("{name}, case {index}: {why}\n{}", call_text(call))
 }
@@ -196,6 +197,14 @@ pub fn try_firsts(implementation: &Implementation, loads: u32) -> Result<Firsts,
     let load = modules::load_first;
     tried("halts", 6, loads, load, |random, call, tally| {
         firsts::try_load(implementation, random, call, tally)
+    })
+}
+
+/// Turns listing files into the other sort and back, and packs both.
+pub fn try_shorts(implementation: &Implementation, cases: u32) -> Result<Shorts, String> {
+    let file = files::any;
+    tried("there and back", 7, cases, file, |_, call, tally| {
+        shorts::try_file(implementation, call, tally)
     })
 }
 

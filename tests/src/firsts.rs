@@ -35,7 +35,8 @@ fn first_cells(load: &Call, whole: &Returned, cells: u32) -> Vec<u8> {
     memory
 }
 
-fn same(what: &str, good: bool) -> Result<(), String> {
+/// The error says what is not the same.
+pub fn same(what: &str, good: bool) -> Result<(), String> {
     if good {
         Ok(())
     } else {

@@ -11,6 +11,7 @@ pub mod firsts;
 pub mod random;
 pub mod reach;
 pub mod reference;
+pub mod shorts;
 pub mod shrink;
 pub mod worked;
 pub mod worked_areas;

@@ -6,6 +6,7 @@ use std::time::Instant;
 use beetle_tests::call::{library, reference, Implementation};
 use beetle_tests::compare::{
     compare, explain, explain_rule, raised, try_budgets, try_cuts, try_firsts, try_rules,
+    try_shorts,
 };
 use beetle_tests::compare::{RULES, SUITES};
 
@@ -38,12 +39,13 @@ fn claim<T: std::fmt::Debug>(
     report(&format!("{claim}, {name}"), since, result)
 }
 
-/// Demand 3, runs cut in two, budgets cut and raised, loads that halt.
+/// Demand 3, runs cut in two, budgets cut and raised, loads that halt, files turned and turned back.
 fn claims(name: &str, implementation: &Implementation) -> bool {
     let mut good = demand_3(name, implementation);
     good &= claim("cuts", try_cuts, name, implementation);
     good &= claim("budgets", try_budgets, name, implementation);
-    good & claim("halts", try_firsts, name, implementation)
+    good &= claim("halts", try_firsts, name, implementation);
+    good & claim("there and back", try_shorts, name, implementation)
 }
 
 fn main() -> ExitCode {
