@@ -15,4 +15,5 @@ pub mod shorts;
 pub mod shrink;
 pub mod worked;
 pub mod worked_areas;
+pub mod worked_short;
 pub mod worked_tables;
