@@ -2,8 +2,8 @@
 //! the default number of cases, and the reference is not told from itself.
 
 use beetle_tests::call::{reference, Implementation};
-use beetle_tests::compare::{compare, explain, try_budgets, try_cuts, try_firsts, try_rules};
-use beetle_tests::compare::{Difference, RULES, SUITES};
+use beetle_tests::compare::{compare, explain, Difference, RULES, SUITES};
+use beetle_tests::compare::{try_budgets, try_cuts, try_firsts, try_rules, try_shorts};
 use beetle_tests::implementation;
 
 /// Its group, its name, and its calls.
@@ -34,6 +34,7 @@ fn every_mutant_is_found() {
         let by = match group {
             "budgets" => try_budgets(&mutant, RULES).err(),
             "firsts" => try_firsts(&mutant, RULES).err(),
+            "shorts" => try_shorts(&mutant, RULES).err(),
             _ => found(group, &mutant).map(|by| format!("{}, case {}", by.name, by.index)),
         };
         match by {
@@ -52,6 +53,18 @@ fn a_difference_is_made_small() {
     let text = explain(&difference, &reference(), &mutant);
     println!("{text}");
     assert!(text.contains("memory: 1024 bytes; ; 0 more"), "{text}");
+}
+
+/// A file goes down to a literal and a branch, the least that shows their operands exchanged.
+#[test]
+fn a_file_is_made_small() {
+    let name = "the operands of branches before those of literals";
+    let named = mutants().into_iter().find(|mutant| mutant.1 == name);
+    let (group, _, mutant) = named.expect("the mutant");
+    let difference = found(group, &mutant).expect("a difference");
+    let text = explain(&difference, &reference(), &mutant);
+    println!("{text}");
+    assert!(text.contains("  file, 18: 2 0 0 0 0 0 0 0 52 "), "{text}");
 }
 
 #[test]
@@ -90,6 +103,21 @@ fn loads_of_the_reference_can_halt() {
     println!("{loads:?}");
     for kind in [loads.halted, loads.whole, loads.refused] {
         assert!(kind > RULES / 400);
+    }
+}
+
+#[test]
+fn files_of_the_reference_come_back() {
+    let files = try_shorts(&reference(), RULES / 4).expect("there and back");
+    println!("{files:?}");
+    for kind in [
+        files.old_back,
+        files.short_back,
+        files.packed,
+        files.not_packed,
+        files.refused,
+    ] {
+        assert!(kind > RULES / 40);
     }
 }
 
