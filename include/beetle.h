@@ -21,7 +21,9 @@
  * to Fh and what is loaded is no store of a rule. The table is no register: each call takes its own.
  *
  * A listing is its kinds, its operands and a base; as a file it is n, base, the kinds, the operands,
- * least significant byte first. `pointers` holds six numbers: SP, RP and the same areas.
+ * least significant byte first. A short file is n, m, base, the n kinds, and the m operands of its
+ * literals and branches alone, in the order of their items. Some files read as either; each call takes
+ * one of the two. `pointers` holds six numbers: SP, RP and the same areas.
  *
  * The answer is 0, 1 where the machine stopped, 2 where the list machine stands outside, or a
  * refusal, below 0. On a refusal nothing that was lent is written. A `registers`, `pointers`, `out`
@@ -59,7 +61,8 @@ extern "C" {
 #define BEETLE_BAD_FILE_LENGTH (-4103) /* file length not 12 + 4l */
 #define BEETLE_UNALIGNED (-4104)      /* module address or base no multiple of 4 */
 #define BEETLE_SHORT_OUTPUT (-4105)   /* a lent output too short */
-#define BEETLE_BAD_COUNT (-4106)      /* no item or over 4,096; two lengths; a file of the wrong length */
+#define BEETLE_BAD_COUNT (-4106)      /* no item or over 4,096; two lengths; a file, not a short one, of
+                                         the wrong length */
 #define BEETLE_BAD_KIND (-4107)       /* a byte that is no kind */
 #define BEETLE_BAD_OPERAND (-4108)    /* a plain item whose operand is not 0 */
 #define BEETLE_BAD_TARGET (-4109)     /* a target that is no item */
@@ -69,6 +72,10 @@ extern "C" {
                                          judged after BEETLE_BAD_ORDER */
 #define BEETLE_BAD_TABLE (-4112)      /* a table with an unaligned end, its ends exchanged, below 10h or
                                          past memory; judged after BEETLE_BAD_AREAS */
+#define BEETLE_BAD_SHORT_FILE (-4119) /* a short file of under 12 bytes, judged before BEETLE_BAD_COUNT;
+                                         or its m is not the number of its literals and branches, or
+                                         its length not 12 + n + 4m, judged after BEETLE_BAD_COUNT and
+                                         before BEETLE_BAD_KIND */
 
 /* Starts the machine: registers are written. SP and RP start at the areas' tops; without areas at
  * MEMORY - 100h and MEMORY. out: [reason, or 0]. */
@@ -149,6 +156,27 @@ int32_t beetle_pack(
 /* Packs a listing file. out: [cells]. */
 int32_t beetle_pack_file(
     uint8_t order,
+    const uint8_t *file, size_t file_length,
+    uint8_t *output, size_t output_length,
+    uint32_t *out, size_t out_length);
+
+/* Packs a short file, as the listing file that beetle_lengthen makes of it is packed. out: [cells]. */
+int32_t beetle_pack_short(
+    uint8_t order,
+    const uint8_t *file, size_t file_length,
+    uint8_t *output, size_t output_length,
+    uint32_t *out, size_t out_length);
+
+/* Makes the short file, 12 + n + 4m bytes, of a listing file. Kinds and operands are judged, the base
+ * is not. Lengthened again, it is the file that was given, byte for byte. out: [bytes]. */
+int32_t beetle_shorten(
+    const uint8_t *file, size_t file_length,
+    uint8_t *output, size_t output_length,
+    uint32_t *out, size_t out_length);
+
+/* Makes the listing file, 8 + 5n bytes, of a short one, judged likewise. Shortened again, it is the
+ * file that was given. out: [bytes]. */
+int32_t beetle_lengthen(
     const uint8_t *file, size_t file_length,
     uint8_t *output, size_t output_length,
     uint32_t *out, size_t out_length);

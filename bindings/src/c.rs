@@ -94,6 +94,31 @@ extern "C" {
         out: *mut u32,
         out_length: usize,
     ) -> u32;
+    pub fn beetle_pack_short(
+        order: u8,
+        file: *const u8,
+        file_length: usize,
+        output: *mut u8,
+        output_length: usize,
+        out: *mut u32,
+        out_length: usize,
+    ) -> u32;
+    pub fn beetle_shorten(
+        file: *const u8,
+        file_length: usize,
+        output: *mut u8,
+        output_length: usize,
+        out: *mut u32,
+        out_length: usize,
+    ) -> u32;
+    pub fn beetle_lengthen(
+        file: *const u8,
+        file_length: usize,
+        output: *mut u8,
+        output_length: usize,
+        out: *mut u32,
+        out_length: usize,
+    ) -> u32;
     pub fn beetle_list_run(
         order: u8,
         kinds: *const u8,

@@ -149,6 +149,30 @@ pub fn pack_file(order: u8, file: &[u8], output: &mut [u8], out: &mut [u32]) -> 
     unsafe { c::beetle_pack_file(order, f, f_length, w, w_length, o, o_length) }
 }
 
+pub fn pack_short(order: u8, file: &[u8], output: &mut [u8], out: &mut [u32]) -> u32 {
+    let (f, f_length) = (file.as_ptr(), file.len());
+    let (w, w_length) = (output.as_mut_ptr(), output.len());
+    let (o, o_length) = (out.as_mut_ptr(), out.len());
+    // SAFETY: as above.
+    unsafe { c::beetle_pack_short(order, f, f_length, w, w_length, o, o_length) }
+}
+
+pub fn shorten(file: &[u8], output: &mut [u8], out: &mut [u32]) -> u32 {
+    let (f, f_length) = (file.as_ptr(), file.len());
+    let (w, w_length) = (output.as_mut_ptr(), output.len());
+    let (o, o_length) = (out.as_mut_ptr(), out.len());
+    // SAFETY: as above.
+    unsafe { c::beetle_shorten(f, f_length, w, w_length, o, o_length) }
+}
+
+pub fn lengthen(file: &[u8], output: &mut [u8], out: &mut [u32]) -> u32 {
+    let (f, f_length) = (file.as_ptr(), file.len());
+    let (w, w_length) = (output.as_mut_ptr(), output.len());
+    let (o, o_length) = (out.as_mut_ptr(), out.len());
+    // SAFETY: as above.
+    unsafe { c::beetle_lengthen(f, f_length, w, w_length, o, o_length) }
+}
+
 #[allow(clippy::too_many_arguments)]
 pub fn list_run(
     order: u8,
