@@ -37,6 +37,14 @@ impl Failure {
         }
     }
 
+    /// The number of a refusal.
+    pub fn number(&self) -> Option<i32> {
+        match self {
+            Failure::Refused(number) | Failure::Bad(number, _) => Some(*number),
+            _ => None,
+        }
+    }
+
     /// Says on the error stream what happened.
     pub fn tell(&self) {
         match self {
@@ -58,9 +66,10 @@ impl Failure {
     }
 }
 
-/// The refusals of stack areas and of a table.
+/// The refusals of stack areas, of a table and of a short file.
 pub const BAD_AREAS: i32 = -4111;
 pub const BAD_TABLE: i32 = -4112;
+pub const BAD_SHORT_FILE: i32 = -4119;
 
 /// What a refusal's number means (document 01, the two lists of refusals; document 02).
 pub fn meaning(refusal: i32) -> &'static str {
@@ -72,7 +81,10 @@ pub fn meaning(refusal: i32) -> &'static str {
         -4103 => "the file's length is not 12 and 4 for each cell of the module",
         -4104 => "the address or base is no multiple of 4",
         -4105 => "a lent output is too short",
-        -4106 => "no item, more than 4,096 items, or not 8 bytes and 5 for each item in the file",
+        -4106 => {
+            "no item, more than 4,096 items, or a listing file, not a short one, of other than 8 \
+             bytes and 5 for each item"
+        }
         -4107 => "an item's kind is none that a listing may have",
         -4108 => "a plain item has an operand",
         -4109 => "a branch leads to no item",
@@ -82,6 +94,10 @@ pub fn meaning(refusal: i32) -> &'static str {
              empty, outside memory or overlapping"
         }
         BAD_TABLE => "the table is unaligned, ends before it begins, lies below 10h or past memory",
+        BAD_SHORT_FILE => {
+            "the short file has under 12 bytes, an m that is not the number of its literals and \
+             branches, or a length that is not 12 + n + 4m"
+        }
         _ => "a number that the documents do not list",
     }
 }

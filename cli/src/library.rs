@@ -3,6 +3,7 @@
 use crate::areas::Areas;
 use crate::failure::Failure;
 use crate::limits::Limits;
+use crate::short;
 use crate::table::Table;
 
 /// EP, A, SP, RP and the areas of the stacks.
@@ -97,6 +98,9 @@ const OUTSIDE: u32 = 2;
 /// No listing packs to more bytes: 4,096 items, each in a cell with an operand cell.
 const MOST_IMAGE_BYTES: usize = 4 * 2 * 4096;
 
+/// No file of a listing has more bytes, short or not: 4,096 items, each with an operand.
+const MOST_FILE_BYTES: usize = 12 + 5 * 4096;
+
 /// A refusal is a number below 0.
 fn accepted(answer: u32) -> Result<u32, Failure> {
     let number = answer as i32;
@@ -105,6 +109,18 @@ fn accepted(answer: u32) -> Result<u32, Failure> {
     } else {
         Ok(answer)
     }
+}
+
+/// What a call writes into an output of so many bytes, told in units of so many.
+fn written(
+    most: usize,
+    unit: usize,
+    call: impl FnOnce(&mut [u8], &mut [u32]) -> u32,
+) -> Result<Vec<u8>, Failure> {
+    let (mut output, mut out) = (vec![0; most], [0]);
+    accepted(call(&mut output, &mut out))?;
+    output.truncate(unit * out[0] as usize);
+    Ok(output)
 }
 
 /// Starts the machine: its registers, and the reason if it stopped at once.
@@ -170,20 +186,39 @@ pub fn load_first(
 
 /// Saves cells from an address on: the module's file.
 pub fn save(order: u8, memory: &[u8], address: u32, cells: u32) -> Result<Vec<u8>, Failure> {
-    let (mut file, mut out) = (vec![0; 12 + memory.len()], [0]);
-    let answer = beetle_bindings::save(order, memory, address, cells, &mut file, &mut out);
-    accepted(answer)?;
-    file.truncate(out[0] as usize);
-    Ok(file)
+    written(12 + memory.len(), 1, |file, out| {
+        beetle_bindings::save(order, memory, address, cells, file, out)
+    })
 }
 
 /// Packs a listing file: the image's bytes.
 pub fn pack_file(order: u8, file: &[u8]) -> Result<Vec<u8>, Failure> {
-    let (mut image, mut out) = (vec![0; MOST_IMAGE_BYTES], [0]);
-    let answer = beetle_bindings::pack_file(order, file, &mut image, &mut out);
-    accepted(answer)?;
-    image.truncate(4 * out[0] as usize);
-    Ok(image)
+    written(MOST_IMAGE_BYTES, 4, |image, out| {
+        beetle_bindings::pack_file(order, file, image, out)
+    })
+}
+
+/// Packs a short file: the image's bytes.
+pub fn pack_short(order: u8, file: &[u8]) -> Result<Vec<u8>, Failure> {
+    let image = written(MOST_IMAGE_BYTES, 4, |image, out| {
+        beetle_bindings::pack_short(order, file, image, out)
+    });
+    image.map_err(|failure| short::explain(failure, file))
+}
+
+/// The short file of a listing file.
+pub fn shorten(file: &[u8]) -> Result<Vec<u8>, Failure> {
+    written(MOST_FILE_BYTES, 1, |short, out| {
+        beetle_bindings::shorten(file, short, out)
+    })
+}
+
+/// The listing file of a short one.
+pub fn lengthen(file: &[u8]) -> Result<Vec<u8>, Failure> {
+    let long = written(MOST_FILE_BYTES, 1, |long, out| {
+        beetle_bindings::lengthen(file, long, out)
+    });
+    long.map_err(|failure| short::explain(failure, file))
 }
 
 /// Carries out at most so many items of a listing, from where the machine stands.

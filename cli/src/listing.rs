@@ -1,19 +1,59 @@
 //! Listing files (document 01): n, base, n kinds, n operands; numbers have 4 bytes, least first.
 
+use crate::arguments::Arguments;
 use crate::failure::Failure;
+use crate::files;
 use crate::library::{self, Listing};
 
-/// The file of a listing.
-pub fn to_file(listing: &Listing) -> Vec<u8> {
-    let items = listing.kinds.len() as u32;
-    let mut file = Vec::new();
-    file.extend(items.to_le_bytes());
-    file.extend(listing.base.to_le_bytes());
-    file.extend(&listing.kinds);
-    for operand in &listing.operands {
-        file.extend(operand.to_le_bytes());
+/// The file of a listing, or its short one. Nothing in the bytes tells which: some files read as
+/// either, so that it is for the caller to say.
+pub struct File {
+    pub bytes: Vec<u8>,
+    short: bool,
+}
+
+impl File {
+    /// The one that a command is given, a short one with `--short`.
+    pub fn given(arguments: &Arguments) -> Result<Self, Failure> {
+        let bytes = files::read(arguments.file(0))?;
+        let short = arguments.switch("--short");
+        Ok(File { bytes, short })
     }
-    file
+
+    /// That of a listing.
+    pub fn of(listing: &Listing, short: bool) -> Result<Self, Failure> {
+        let bytes = to_file(listing);
+        let bytes = if short {
+            library::shorten(&bytes)?
+        } else {
+            bytes
+        };
+        Ok(File { bytes, short })
+    }
+
+    /// The bytes of the image that it packs to.
+    pub fn image(&self, order: u8) -> Result<Vec<u8>, Failure> {
+        if self.short {
+            library::pack_short(order, &self.bytes)
+        } else {
+            library::pack_file(order, &self.bytes)
+        }
+    }
+
+    /// Packs it. The packer judges it, so that what it accepted can be taken apart here.
+    pub fn packed(&self, order: u8) -> Result<Packed, Failure> {
+        let image = self.image(order)?;
+        let listing = if self.short {
+            from_file(&library::lengthen(&self.bytes)?)
+        } else {
+            from_file(&self.bytes)
+        };
+        Ok(Packed {
+            listing,
+            order,
+            image,
+        })
+    }
 }
 
 /// A listing file that the packer accepted, with the image that it packs to.
@@ -34,23 +74,30 @@ impl Packed {
     }
 }
 
-/// Packs a listing file. The packer judges it, so that what it accepted can be taken apart here.
-pub fn packed(order: u8, file: &[u8]) -> Result<Packed, Failure> {
-    let image = library::pack_file(order, file)?;
+fn to_file(listing: &Listing) -> Vec<u8> {
+    let items = listing.kinds.len() as u32;
+    let mut file = Vec::new();
+    file.extend(items.to_le_bytes());
+    file.extend(listing.base.to_le_bytes());
+    file.extend(&listing.kinds);
+    for operand in &listing.operands {
+        file.extend(operand.to_le_bytes());
+    }
+    file
+}
+
+/// The listing of a file that was accepted.
+fn from_file(file: &[u8]) -> Listing {
     let items = number_at(file, 0) as usize;
     let operands = (0..items).map(|item| number_at(file, 8 + items + 4 * item));
-    let listing = Listing {
+    Listing {
         base: number_at(file, 4),
         kinds: file[8..8 + items].to_vec(),
         operands: operands.collect(),
-    };
-    Ok(Packed {
-        listing,
-        order,
-        image,
-    })
+    }
 }
 
-fn number_at(file: &[u8], at: usize) -> u32 {
+/// The number of 4 bytes at a place.
+pub fn number_at(file: &[u8], at: usize) -> u32 {
     u32::from_le_bytes([file[at], file[at + 1], file[at + 2], file[at + 3]])
 }

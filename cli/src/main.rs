@@ -17,6 +17,7 @@ mod number;
 mod reading;
 mod reasons;
 mod report;
+mod short;
 mod table;
 mod text;
 
@@ -30,16 +31,21 @@ use failure::Failure;
 const HELP: &str = "\
 beetle COMMAND ..
 
-  assemble RULE.txt -o RULE.lst   a rule's text to a listing file
-  show RULE.lst                   the listing and its packed cells, side by side
-  pack RULE.lst                   the packed cells
-  save RULE.lst -o RULE.mod       the packed cells as an object module
-  load MODULE                     the cells of a module, all or the first of them
-  run MODULE                      a module, run until it stops
-  follow RULE.lst                 the listing, carried out item by item
+  assemble RULE.txt -o RULE.lst    a rule's text to a listing file
+  shorten RULE.lst -o RULE.short   a listing file to a short one
+  lengthen RULE.short -o RULE.lst  and back
+  show RULE.lst                    the listing and its packed cells, side by side
+  pack RULE.lst                    the packed cells
+  save RULE.lst -o RULE.mod        the packed cells as an object module
+  load MODULE                      the cells of a module, all or the first of them
+  run MODULE                       a module, run until it stops
+  follow RULE.lst                  the listing, carried out item by item
 
-'beetle COMMAND --help' says more of each. Packing, loading, saving, running and
-following are done by the proved library; reading text and printing is not proved.
+With --short, show, pack, save and follow read a short file, and assemble writes one.
+
+'beetle COMMAND --help' says more of each. Shortening and lengthening, packing, loading,
+saving, running and following are done by the proved library; reading text and printing
+is not proved.
 
 Exit status: 0 done; 1 refused, mistakes in a text, a file that cannot be read or
 written, a run that HALT did not end, or two machines that differ; 2 wrong command line.

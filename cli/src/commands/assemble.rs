@@ -4,13 +4,14 @@ use std::io::Write;
 
 use crate::arguments::{Arguments, Takes};
 use crate::failure::Failure;
-use crate::{files, listing, text};
+use crate::listing::File;
+use crate::{files, text};
 
 pub const HELP: &str = "\
-beetle assemble RULE.txt -o RULE.lst
+beetle assemble RULE.txt -o RULE.lst [--short]
 
-Makes a listing file of a rule's text. The packer then judges the listing, and a
-listing that it refuses is not written.
+Makes a listing file of a rule's text, with --short a short file ('beetle shorten --help'
+tells of those). The packer then judges it, and what it refuses is not written.
 
 The text is words between spaces. An item may have a line for itself or share one.
   DUP, (DO), @ ..   an instruction of the paper's table 7, in capitals or not
@@ -33,7 +34,7 @@ stand in a listing. All mistakes are told, each as FILE:LINE:COLUMN: what is wro
 const TAKES: Takes = Takes {
     files: &["RULE.txt"],
     options: &["-o"],
-    switches: &[],
+    switches: &["--short"],
 };
 
 pub fn carry_out(words: &[String], out: &mut dyn Write) -> Result<u8, Failure> {
@@ -41,9 +42,9 @@ pub fn carry_out(words: &[String], out: &mut dyn Write) -> Result<u8, Failure> {
     let target = arguments.needed("-o")?;
     let name = arguments.file(0);
     let listing = text::assemble(name, &files::read_text(name)?).map_err(Failure::Mistakes)?;
-    let file = listing::to_file(&listing);
-    let packed = listing::packed(0, &file)?;
-    files::write(target, &file)?;
+    let file = File::of(&listing, arguments.switch("--short"))?;
+    let packed = file.packed(0)?;
+    files::write(target, &file.bytes)?;
     let (items, base, cells) = (listing.kinds.len(), listing.base, packed.cells());
     writeln!(
         out,

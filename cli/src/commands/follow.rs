@@ -10,13 +10,13 @@ use crate::failure::Failure;
 use crate::following::Following;
 use crate::library::{self, End, Listed, Listing, Registers};
 use crate::limits::Limits;
-use crate::listing::{self, Packed};
+use crate::listing::{File, Packed};
 use crate::names::{kind_of, name_of, Kind};
 use crate::table::{Asked, Table};
-use crate::{files, memory, reasons, report};
+use crate::{memory, reasons, report};
 
 pub const HELP: &str = "\
-beetle follow RULE.lst [--items N] [--memory BYTES] [--order 0|1]
+beetle follow RULE.lst [--short] [--items N] [--memory BYTES] [--order 0|1]
               [--handler ADDRESS] [--beside]
               [--data-area TOP,CELLS --return-area TOP,CELLS]
               [--table code | --table FIRST,END]
@@ -26,6 +26,7 @@ just started with the image at its base. After each item a line gives the items 
 the item, SP, RP, the cycles counted and the tops of both stacks, the data stack in
 decimal and the return stack in hexadecimal.
 
+  --short            RULE.lst is a short file; 'beetle shorten --help' tells of those
   --items N          the most items, 1000 without it
   --memory BYTES     length of the machine's memory, 65536 without it
   --order 0|1        the machine's byte order: 0 (as without it) least byte first
@@ -62,7 +63,7 @@ const TAKES: Takes = Takes {
         "--return-area",
         "--table",
     ],
-    switches: &["--beside"],
+    switches: &["--short", "--beside"],
 };
 
 /// The items that are followed where no number is given.
@@ -120,8 +121,7 @@ fn begin(arguments: &Arguments) -> Result<Begun, Failure> {
     let handler = arguments.cell("--handler")?.unwrap_or(NO_HANDLER);
     let areas = Areas::asked_for(arguments)?;
     let table = Asked::read(arguments)?;
-    let file = files::read(arguments.file(0))?;
-    let packed = listing::packed(arguments.order()?, &file)?;
+    let packed = File::given(arguments)?.packed(arguments.order()?)?;
     let mut memory = memory::lent(arguments)?;
     let base = packed.listing.base;
     let Some(place) = memory.get_mut(base as usize..packed.end() as usize) else {

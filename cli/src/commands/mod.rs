@@ -2,10 +2,12 @@
 
 mod assemble;
 mod follow;
+mod lengthen;
 mod load;
 mod pack;
 mod run;
 mod save;
+mod shorten;
 mod show;
 
 use std::io::Write;
@@ -20,11 +22,21 @@ pub struct Command {
 }
 
 /// All commands, in the order in which a rule goes through them.
-pub const COMMANDS: [Command; 7] = [
+pub const COMMANDS: [Command; 9] = [
     Command {
         name: "assemble",
         help: assemble::HELP,
         carry_out: assemble::carry_out,
+    },
+    Command {
+        name: "shorten",
+        help: shorten::HELP,
+        carry_out: shorten::carry_out,
+    },
+    Command {
+        name: "lengthen",
+        help: lengthen::HELP,
+        carry_out: lengthen::carry_out,
     },
     Command {
         name: "show",

@@ -4,14 +4,14 @@ use std::io::{self, Write};
 
 use crate::arguments::{Arguments, Takes};
 use crate::failure::Failure;
-use crate::listing::{self, Packed};
+use crate::listing::{File, Packed};
+use crate::memory;
 use crate::names::{kind_of, name_of, Kind};
 use crate::number::shown;
 use crate::reading::{self, address, Form, Place};
-use crate::{files, memory};
 
 pub const HELP: &str = "\
-beetle show RULE.lst [--order 0|1]
+beetle show RULE.lst [--short] [--order 0|1]
 
 Prints a listing file as text, an item a line, beside the cells that it packs to:
   item         its number
@@ -29,19 +29,21 @@ The packed cells come from the proved packer. The other columns are read back fr
 those cells against the listing and are not proved; where something does not read back,
 that is an error.
 
+  --short      RULE.lst is a short file; 'beetle shorten --help' tells of those
   --order 0|1  byte order of the image. The cells are the same numbers in either
 ";
 
 const TAKES: Takes = Takes {
     files: &["RULE.lst"],
     options: &["--order"],
-    switches: &[],
+    switches: &["--short"],
 };
 
 pub fn carry_out(words: &[String], out: &mut dyn Write) -> Result<u8, Failure> {
     let arguments = Arguments::read(words, &TAKES)?;
     let name = arguments.file(0);
-    let packed = listing::packed(arguments.order()?, &files::read(name)?)?;
+    let order = arguments.order()?;
+    let packed = File::given(&arguments)?.packed(order)?;
     let places = reading::places(&packed).map_err(Failure::Other)?;
     let (items, base, cells) = (places.len(), packed.listing.base, packed.cells());
     writeln!(out, "{name}: {items} items, base {base:X}h, {cells} cells")?;

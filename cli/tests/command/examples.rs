@@ -2,11 +2,23 @@
 //! cells protected and without.
 
 use crate::folder::Folder;
+use std::ffi::OsString;
 use std::fs;
 
-fn example(file: &str) -> String {
-    let folder = concat!(env!("CARGO_MANIFEST_DIR"), "/../examples/");
-    fs::read_to_string(format!("{folder}{file}")).expect("an example")
+const EXAMPLES: &str = concat!(env!("CARGO_MANIFEST_DIR"), "/../examples/");
+
+pub fn example(file: &str) -> String {
+    fs::read_to_string(format!("{EXAMPLES}{file}")).expect("an example")
+}
+
+/// The names of all rules there.
+pub fn names() -> Vec<String> {
+    let files = fs::read_dir(EXAMPLES).expect("the folder of examples");
+    let files = files.map(|file| file.expect("a file").file_name());
+    let name = |file: OsString| Some(file.to_str()?.strip_suffix(".txt")?.to_string());
+    let names: Vec<String> = files.filter_map(name).collect();
+    assert_eq!(names.len(), 6);
+    names
 }
 
 /// The folder of a test, with an example assembled and saved in it.

@@ -1,5 +1,5 @@
-//! Listings of many shapes: whatever the packer accepts can be shown and followed beside the
-//! processor.
+//! Listings of many shapes: whatever the packer accepts can be shown, followed beside the processor,
+//! and shortened.
 
 use crate::folder::Folder;
 
@@ -58,5 +58,20 @@ fn accepted_listings_are_shown_and_followed() {
             folder.done(&words);
             folder.done(&format!("{words} {AREAS}"));
         }
+    }
+}
+
+#[test]
+fn accepted_listings_are_shortened() {
+    let folder = Folder::new("shortened_listings");
+    let mut numbers = Numbers(2);
+    for items in [1, 2, 3, 5, 8, 13, 30, 100, 400, 1500, 4096] {
+        let file = file(&mut numbers, items);
+        folder.write("rule.lst", &file);
+        folder.done("shorten rule.lst -o rule.short");
+        folder.done("lengthen rule.short -o back.lst");
+        assert_eq!(folder.read("back.lst"), file);
+        let packed = folder.done("pack rule.short --short");
+        assert_eq!(packed, folder.done("pack rule.lst"));
     }
 }

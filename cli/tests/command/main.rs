@@ -6,5 +6,7 @@ mod folder;
 mod listings;
 mod machines;
 mod refused;
+mod short;
+mod short_refused;
 mod tables;
 mod worked;

@@ -130,7 +130,10 @@ fn wrong_command_lines() {
 fn help_for_each_command() {
     let folder = Folder::new("help");
     let all = folder.done("--help");
-    for command in ["assemble", "show", "pack", "save", "load", "run", "follow"] {
+    let commands = [
+        "assemble", "shorten", "lengthen", "show", "pack", "save", "load", "run", "follow",
+    ];
+    for command in commands {
         assert!(all.contains(&format!("\n  {command} ")));
         let help = folder.done(&format!("{command} --help"));
         assert!(help.starts_with(&format!("beetle {command} ")));
