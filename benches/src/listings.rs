@@ -1,4 +1,4 @@
-//! The listings whose packing is measured, each of 4,096 items or a few less.
+//! The listings whose packing is measured.
 
 use beetle_tests::reference::listing;
 use beetle_tests::reference::packer;
@@ -38,9 +38,9 @@ impl Listing {
 }
 
 /// Plain items, literals and calls as rules have them; no branch is marked.
-pub fn plain() -> Listing {
+pub fn plain(items: u32) -> Listing {
     let mut listing = Listing::new("as rules are");
-    for item in 0..4096 {
+    for item in 0..items {
         match item % 8 {
             3 => listing.item(LITERAL, item),
             7 => listing.item(CALL, item / 512 * 512),

@@ -3,6 +3,7 @@
 
 mod bounds;
 mod cycles;
+mod files;
 mod listings;
 mod loops;
 mod measure;
@@ -17,8 +18,8 @@ use std::process::ExitCode;
 
 use sides::Side;
 
-/// `count SIDE loop AT CYCLES` runs a loop, `count SIDE module AT TIMES` loads or saves, and does
-/// nothing else, for callgrind to count.
+/// `count SIDE loop AT CYCLES` runs a loop, `count SIDE module AT TIMES` loads or saves, `count proved
+/// file AT TIMES` takes a listing's file, and does nothing else, for callgrind to count.
 fn count(words: &[String]) -> Option<()> {
     let [_, side, what, at, amount] = words else {
         return None;
@@ -32,6 +33,7 @@ fn count(words: &[String]) -> Option<()> {
             drop(case.run(case.run_of(side)?, amount));
         }
         "module" => modules::repeat(&side.calls()?, at, amount)?,
+        "file" if side == Side::Proved => files::repeat(at, amount)?,
         _ => return None,
     }
     Some(())
@@ -43,6 +45,7 @@ fn main() -> ExitCode {
         None => {
             cycles::table();
             packing::table();
+            files::table();
             modules::tables();
             Some(ExitCode::SUCCESS)
         }

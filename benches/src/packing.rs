@@ -39,7 +39,7 @@ pub fn table() {
     ];
     head("Packing by beetle_pack", &columns);
     let calls = whole();
-    for listing in [listings::plain(), listings::most_rounds()] {
+    for listing in [listings::plain(4096), listings::most_rounds()] {
         let [left, right] = calls.map(|calls| image(&calls, &listing));
         assert!(left == right, "both pack to the same image");
         let acts = calls.map(|calls| {
