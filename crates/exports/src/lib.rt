@@ -3,3 +3,4 @@ pub mod listings;
 pub mod lists;
 pub mod machines;
 pub mod modules;
+pub mod shorts;

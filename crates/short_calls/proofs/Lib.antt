@@ -1,0 +1,2 @@
+-- Laws of the calls for short listing files.
+pub mod CallLaws
