@@ -4,7 +4,8 @@ use mathlib.Core.Path.{_≡_, refl, sym, ap, _∙_}
 use mathlib.Core.Bool.{not, _||_}
 use mathlib.Core.List.{List, [], _∷_}
 use Prim.Native.Nat.{ℕ, _+_, _*_, _≤_}
-use borrow.Author.Tests.{eqb-true, eqb-false, ltb-false, not-false}
+use native.Mathlib.Omega.{arith}
+use borrow.Author.Tests.{eqb-true, eqb-false, eq-eqb, ne-eqb, ltb-false, le-ltb, not-false}
 use lib.Dec.{ltb, eqb}
 use lib.ListN.{length}
 use Rattle.cell.specs.Refusals.{judge, after}
@@ -23,7 +24,7 @@ use Rattle.short_judging.specs.declared.Counted.the-variants as counted
 use Rattle.short_judging.specs.Operands.{operandsBefore}
 use Rattle.short_judging.specs.ShortFile.{shortCount, operandCount, shortKind, shortListing}
 use Rattle.short_judging.specs.Judging.{judgedShort, keeping, keptCount, countedFile, otherCount}
-use Rattle.short_judging.proofs.Passes.{file-counted}
+use Rattle.short_judging.proofs.Passes.{file-counted, counts-reached, same-passed}
 
 -- what the count of operands says of the judgement, and of the number
 abbrev toJudged : Counted → Judged
@@ -73,6 +74,12 @@ file-good s e =
     let p = count-good (fileCount s) _ (sym (file-counted s l) ∙ e) in
     record { whole = length-of s l; some = p .0; most = p .1; items = p .2 }
 
+pub good-file : (s : List ℕ) → GoodFile s → judgedFile s ≡ Passed
+good-file s g =
+    let n = fileCount s in
+    let l : judgedLength s ≡ Passed = rw (le-ltb (length s) 8 (omega (arith, g .whole)), eq-eqb (length s) (8 + 5 * n) (g .whole)) refl in
+    file-counted s l ∙ rw (ne-eqb n 0 (g .some), le-ltb 4096 n (g .most)) (g .items)
+
 -- and a short file
 pub record GoodShort (s : List ℕ) : Type 0 where
   pub whole : length s ≡ 12 + shortCount s + 4 * operandCount s
@@ -100,3 +107,10 @@ short-good s e =
       most = ltb-false 4096 n (t .1);
       items = p .1;
     }
+
+pub good-short : (s : List ℕ) → GoodShort s → judgedShort s ≡ Passed
+good-short s g =
+    let n = shortCount s in
+    let m = operandCount s in
+    let k = operandsBefore (shortKind s) n in
+    counts-reached s (omega (arith, g .whole)) (g .some) (g .most) ∙ same-passed (length s) n m k _ (g .operands) (g .whole) ∙ g .items

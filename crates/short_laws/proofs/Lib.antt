@@ -1,0 +1,7 @@
+-- The theorems on listing files of both kinds.
+mod Bytes
+mod Turns
+mod Reading
+mod Writing
+pub mod Plain
+pub mod Theorems

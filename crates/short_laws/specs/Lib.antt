@@ -1,0 +1,2 @@
+-- What is proved of listing files of both kinds.
+pub mod Claims
