@@ -17,8 +17,13 @@ use Rattle.pack_layout.proofs.Packing.{size-is}
 use Rattle.packer.specs.Judgement.{judgeOrder, judgeAll, judgePack}
 use Rattle.packer.specs.Pack.{PackResult, packIf, packOf}
 use Rattle.pack_files.specs.Files.{judgePackFile, packFileOf}
+use Rattle.short_judging.specs.ShortFile.{shortBase, shortKinds, shortOperands}
+use Rattle.short_judging.specs.Judging.{judgedShort}
+use Rattle.short_judging.proofs.Parts.{short-cells}
+use Rattle.short_packing.specs.Packing.{judgePackShort, packShortOf}
+use Rattle.short_packing.proofs.Packing.{arrays-passed}
 use Rattle.pack_prepare.proofs.Checking.{arrays-checked}
-use Rattle.approved.specs.Approved.{Cells, Packs, ofArrays, ofFile}
+use Rattle.approved.specs.Approved.{Cells, Packs, ofArrays, ofFile, ofShort}
 
 -- the listing is legal at the base, and the output begins with the bytes of its image
 pub record Made (order base : ℕ) (l : Listing) (p : PackResult) : Type 0 where
@@ -61,9 +66,11 @@ operands-below s a (suc k) low zero h = cell-below 0 s a low
 operands-below s a (suc k) low (suc i) h = operands-below s (a + 4) k low i (omega arith)
 
 pub made : (order base : ℕ) (l : Listing) (p : PackResult) → Packs order base l p → p .number ≡ 0 → Made order base l p
-unfolding packOf packFileOf judgePack judgePackFile judgedFile
+unfolding packOf packFileOf packShortOf judgePack judgePackFile judgePackShort judgedFile
 made order _ _ _ (ofArrays kinds operands base output low) q =
     made-of order base kinds operands low output (judgedArrays kinds operands) (λ e. e) _ refl q
 made order _ _ _ (ofFile file output low) q =
     made-of order (fileBase file) (fileKinds file) (fileOperands file) (operands-below file (8 + fileCount file) (fileCount file) low) output (judgedFile file)
     (λ e. both-pass (judgedLength file) (judgedArrays (fileKinds file) (fileOperands file)) e .1) _ refl q
+made order _ _ _ (ofShort file output low) q =
+    made-of order (shortBase file) (shortKinds file) (shortOperands file) (short-cells file low) output (judgedShort file) (arrays-passed file) _ refl q

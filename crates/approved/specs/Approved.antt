@@ -21,6 +21,8 @@ use Rattle.pack_layout.specs.Listing.{Listing, listed}
 use Rattle.pack_layout.specs.File.{filed, fileBase}
 use Rattle.packer.specs.Pack.{PackResult, packOf}
 use Rattle.pack_files.specs.Files.{packFileOf}
+use Rattle.short_judging.specs.ShortFile.{shortBase, shortListing}
+use Rattle.short_packing.specs.Packing.{packShortOf}
 use Rattle.module.specs.Answers.{saveOf, LoadResult, loadOf}
 use Rattle.module_judging.specs.Conditions.{GoodPlace}
 use Rattle.module_laws.specs.Theorems.{savedFile}
@@ -31,11 +33,12 @@ use Rattle.list_machine.specs.Demand3.{firstRegisters, Agree, RunAgrees}
 abbrev pub Cells : List ℕ → Type 0
 Cells operands = (i : ℕ) → i < length operands → getD operands i 0 < 2 ^ 32
 
--- what a packing of a listing at a base answered: that of `pack`, or that of `pack_file`
+-- what a packing of a listing at a base answered: that of `pack`, of `pack_file` or of `pack_short`
 pub data Packs (order : ℕ) : ℕ → Listing → PackResult → Type 0 where
   ofArrays : (kinds operands : List ℕ) (base : ℕ) (output : List ℕ) → Cells operands
       → Packs order base (listed kinds operands) (packOf order kinds operands base output)
   ofFile : (file output : List ℕ) → Bytewise file → Packs order (fileBase file) (filed file) (packFileOf order file output)
+  ofShort : (file output : List ℕ) → Bytewise file → Packs order (shortBase file) (shortListing file) (packShortOf order file output)
 
 -- the packed cells stand in a memory, byte by byte from an address on
 pub record StandsAt (p : PackResult) (m : List ℕ) (a : ℕ) : Type 0 where

@@ -1,13 +1,19 @@
 -- What stands where in a file of either kind.
 -- Assumes nothing.
 use mathlib.Core.Path.{_≡_, refl, sym, ap, _∙_}
+use mathlib.Core.Bool.{Bool, true, false}
 use mathlib.Core.List.{List, [], _∷_}
-use Prim.Native.Nat.{ℕ, _+_, _*_, _≤_, _<_}
+use Prim.Native.Nat.{ℕ, _+_, _*_, _^_, _≤_, _<_}
 use native.Mathlib.Omega.{arith}
 use lib.ListN.{length, getD, take, drop, length-take, length-drop}
 use lib.Seq.{getD-take, getD-drop}
+use Rattle.cell.specs.Choice.{if}
+use Rattle.cell.specs.Memory.{Bytewise}
+use Rattle.cell.proofs.MemoryLaws.{cell-below}
+use Rattle.pack_layout.specs.Kinds.{classOf}
 use Rattle.pack_layout.specs.File.{leastFirst, fileCount, fileKinds, fileOperands}
 use Rattle.pack_judging.proofs.Reading.{cells-at, cells-length}
+use Rattle.short_judging.specs.Operands.{hasOperand, operandsBefore}
 use Rattle.short_judging.specs.ShortFile.{shortCount, shortKinds, shortKind, shortOperand, shortOperands}
 use Rattle.short_judging.proofs.Turns.{singles-length, singles-at}
 
@@ -42,3 +48,18 @@ module _ (s : List ℕ) where
 
   pub short-operands : length (shortOperands s) ≡ length (shortKinds s)
   short-operands = singles-length (shortOperand s) (length (shortKinds s))
+
+  -- the operands of a file's bytes are cells
+  short-cell : Bytewise s → (i : ℕ) → shortOperand s i < 2 ^ 32
+  unfolding shortOperand
+  short-cell low i = go (hasOperand (classOf (shortKind s i)))
+    where
+      at : ℕ
+      at = 12 + shortCount s + 4 * operandsBefore (shortKind s) i
+
+      go : (b : Bool) → if b (leastFirst s at) 0 < 2 ^ 32
+      go true = cell-below 0 s at low
+      go false = omega arith
+
+  pub short-cells : Bytewise s → (i : ℕ) → i < length (shortOperands s) → getD (shortOperands s) i 0 < 2 ^ 32
+  short-cells low i h = rw (short-operand i (omega (arith, short-operands))) (short-cell low i)

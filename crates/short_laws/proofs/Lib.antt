@@ -5,3 +5,4 @@ mod Reading
 mod Writing
 pub mod Plain
 pub mod Theorems
+pub mod Rows

@@ -28,7 +28,7 @@ use Rattle.pack_files.specs.Files.{judgePackFile, packFileOf}
 use Rattle.short_judging.specs.Operands.{hasOperand, operandsBefore}
 use Rattle.short_judging.specs.ShortFile.{shortCount, shortBase, shortKinds, shortKind, shortOperand, shortOperands, shortListing}
 use Rattle.short_judging.specs.Judging.{judgedShort}
-use Rattle.short_judging.proofs.Parts.{file-count, file-operand, file-operands, short-operand, short-operands, short-count as short-kinds-length}
+use Rattle.short_judging.proofs.Parts.{file-count, file-operand, file-operands, short-operands, short-cells, short-count as short-kinds-length}
 use Rattle.short_judging.proofs.Passing.{GoodFile, file-good, good-file, GoodShort, short-good, good-short}
 use Rattle.short_files.specs.Files.{longFile, shortFile}
 use Rattle.short_files.specs.Converted.{convertIf, judgeRoom, shortened, lengthened, judgeShorten, judgeLengthen, shortenOf, lengthenOf}
@@ -122,23 +122,12 @@ module _ (s : List ℕ) (low : Bytewise s) (ok : judgedShort s ≡ Passed) where
   short-count-is : length (shortKinds s) ≡ shortCount s
   short-count-is = short-kinds-length s (omega (arith, fine .whole))
 
-  operand-cell : (i : ℕ) → shortOperand s i < 2 ^ 32
-  unfolding shortOperand
-  operand-cell i = go (hasOperand (classOf (shortKind s i)))
-    where
-      at : ℕ
-      at = 12 + shortCount s + 4 * operandsBefore (shortKind s) i
-
-      go : (b : Bool) → if b (leastFirst s at) 0 < 2 ^ 32
-      go true = cell-below 0 s at low
-      go false = omega arith
-
   short-arrays : Arrays (shortKinds s) (shortOperands s) (shortBase s)
   short-arrays =
       record {
         equal = short-operands s;
         most = omega (arith, short-count-is, fine .most);
-        cells = λ i h. rw (short-operand s i h) (operand-cell i);
+        cells = λ i h. short-cells s low i (omega (arith, short-operands s));
         base-cell = cell-below 0 s 8 low;
       }
 

@@ -1,2 +1,2 @@
 -- Laws of a short file on its way to the packer.
-mod Packing
+pub mod Packing

@@ -38,6 +38,16 @@ read-more s xs n i at x c e h l q p r t =
     let b : x ≡ shortOperand s i = r ∙ rw (q, p, e, short-kind s i (omega arith)) refl in
     rw (add-one i) (take-suc-set xs i x l ∙ rw (t, b) refl)
 
+-- the two arrays pass too
+pub arrays-passed : (s : List ℕ) → judgedShort s ≡ Passed → judgedArrays (shortKinds s) (shortOperands s) ≡ Passed
+unfolding judgedArrays judgedListing
+arrays-passed s e =
+    let g = short-good s e in
+    let k = short-count s (omega (arith, g .whole)) in
+    let n = length (shortKinds s) in
+    rw (eq-eqb n (length (shortOperands s)) (sym (short-operands s)), ne-eqb n 0 (λ z. g .some (sym k ∙ z)), le-ltb 4096 n (omega (arith, g .most)))
+    (ap (λ (i : ℕ). judgedFrom (shortListing s) i 0) k ∙ g .items)
+
 module _ (order : ℕ) (s : List ℕ) where
   pub input-refused : (r : Refusal) → judgeInput order s ≡ Refused r → (size : ℕ) → judgePackShort order s size ≡ Refused r
   unfolding judgeInput judgePackShort
@@ -55,19 +65,10 @@ module _ (order : ℕ) (s : List ℕ) where
   unfolding judgeInput
   input-good e = both-pass (judgeOrder order) (judgedShort s) e .1
 
-  arrays-passed : judgedShort s ≡ Passed → judgedArrays (shortKinds s) (shortOperands s) ≡ Passed
-  unfolding judgedArrays judgedListing
-  arrays-passed e =
-      let g = short-good s e in
-      let k = short-count s (omega (arith, g .whole)) in
-      let n = length (shortKinds s) in
-      rw (eq-eqb n (length (shortOperands s)) (sym (short-operands s)), ne-eqb n 0 (λ z. g .some (sym k ∙ z)), le-ltb 4096 n (omega (arith, g .most)))
-      (ap (λ (i : ℕ). judgedFrom (shortListing s) i 0) k ∙ g .items)
-
   judged-same : judgedShort s ≡ Passed → (size : ℕ)
       → judgePack order (shortKinds s) (shortOperands s) (shortBase s) size ≡ judgePackShort order s size
   unfolding judgePackShort judgePack
-  judged-same e size = rw (e, arrays-passed e) refl
+  judged-same e size = rw (e, arrays-passed s e) refl
 
   pub pack-refused : (out : List ℕ) (r : Refusal) → judgeInput order s ≡ Refused r → packedTo out (packed.Refused r) ≡ packShortOf order s out
   unfolding packShortOf
