@@ -21,7 +21,8 @@ use Rattle.pack_layout.specs.Listing.{Listing, listed}
 use Rattle.list_machine.specs.Runs.{resuming}
 use Rattle.list_proposing.specs.Stands.{positionOf}
 use Rattle.list_proposing.specs.declared.Stand.{Stand}
-use Rattle.list_run.specs.Follow.{judgeBegin, judgeImage, judgeFollow, followIf, resumeIn}
+use Rattle.list_refusals.specs.Judging.{judgeBegin, judgeImage, judgeFollow}
+use Rattle.list_following.specs.Follow.{followIf, resumeIn}
 use Rattle.before_tables.proofs.AnswerLaws.{after-passed}
 use Rattle.before_areas.specs.Cycles.{startBefore, cycleBefore, cyclesBefore, doneBefore}
 use Rattle.before_areas.specs.Answers.{withZeros, startedBefore, startIfBefore, startAnswerBefore, cycledBefore, cycleIfBefore, cycleAnswerBefore, ranBefore, runIfBefore, runAnswerBefore, judgeBefore, resumeIfBefore, resumeBefore}

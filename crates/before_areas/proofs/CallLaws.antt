@@ -16,9 +16,9 @@ use Rattle.areas.specs.Areas.{noAreas}
 use Rattle.cell.specs.Refusals.{judgeMachine}
 use Rattle.cycles.specs.Counts.{begun}
 use Rattle.processor.specs.Answers.{givenOf}
-use Rattle.list_run.specs.Follow.{FollowResult}
-use Rattle.list_run.specs.declared.Followed.{Followed}
-use Rattle.list_run.specs.declared.Followed.the-variants as followed
+use Rattle.list_following.specs.Follow.{FollowResult}
+use Rattle.list_following.specs.declared.Followed.{Followed}
+use Rattle.list_following.specs.declared.Followed.the-variants as followed
 use Rattle.calls.specs.Lending.{areasIn}
 use Rattle.processor_calls.specs.Machines.{judgeCall, startTold, cycleTold, runTold, startIf, startCall, cycleIf, cycleCall, runIf, runCall}
 use Rattle.list_calls.specs.Lists.{toldBy, judgeLent, standGiven, resumeCall}

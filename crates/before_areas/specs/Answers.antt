@@ -24,8 +24,8 @@ use Rattle.pack_layout.specs.Packing.{imageCells, judgedPlace}
 use Rattle.list_machine.specs.Runs.{resuming}
 use Rattle.list_proposing.specs.Stands.{positionOf}
 use Rattle.list_proposing.specs.declared.Stand.{Stand}
-use Rattle.list_run.specs.Follow.{FollowResult, followedTo, ranOf}
-use Rattle.list_run.specs.declared.Followed.the-variants as followed
+use Rattle.list_following.specs.Follow.{FollowResult, followedTo, ranOf}
+use Rattle.list_following.specs.declared.Followed.the-variants as followed
 use Rattle.before_areas.specs.Cycles.{startBefore, cycleBefore, cyclesBefore, doneBefore}
 use Rattle.before_areas.specs.Lists.{runBefore}
 

@@ -13,9 +13,9 @@ use Rattle.processor.specs.declared.Cycled.{Cycled}
 use Rattle.processor.specs.declared.Cycled.the-variants as cycled
 use Rattle.processor.specs.declared.Ran.{Ran}
 use Rattle.processor.specs.declared.Ran.the-variants as ran
-use Rattle.list_run.specs.Follow.{FollowResult}
-use Rattle.list_run.specs.declared.Followed.{Followed}
-use Rattle.list_run.specs.declared.Followed.the-variants as followed
+use Rattle.list_following.specs.Follow.{FollowResult}
+use Rattle.list_following.specs.declared.Followed.{Followed}
+use Rattle.list_following.specs.declared.Followed.the-variants as followed
 use Rattle.calls.specs.Lending.{written, withRoom}
 use Rattle.processor_calls.specs.Machines.{Told, told, Called, called}
 use Rattle.list_calls.specs.Lists.{standGiven}

@@ -17,7 +17,7 @@ use Rattle.processor.specs.Answers.{startAnswer, cycleAnswer, givenOf, runAnswe
 use Rattle.pack_layout.specs.Listing.{Listing}
 use Rattle.list_machine.specs.Runs.{Run, runOf}
 use Rattle.list_proposing.specs.declared.Stand.{Stand}
-use Rattle.list_run.specs.Follow.{resumeIn}
+use Rattle.list_following.specs.Follow.{resumeIn}
 use Rattle.processor_calls.specs.Machines.{startCall, cycleCall, runCall}
 use Rattle.list_calls.specs.Lists.{resumeCall}
 use Rattle.before_areas.specs.Cycles.{startBefore, cycleBefore, cyclesBefore, doneBefore}

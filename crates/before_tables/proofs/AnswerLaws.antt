@@ -20,7 +20,8 @@ use Rattle.pack_layout.specs.Listing.{Listing, listed}
 use Rattle.list_machine.specs.Runs.{resuming}
 use Rattle.list_proposing.specs.Stands.{positionOf}
 use Rattle.list_proposing.specs.declared.Stand.{Stand}
-use Rattle.list_run.specs.Follow.{judgeBegin, judgeFollow, followIf, resumeIn, standAt}
+use Rattle.list_refusals.specs.Judging.{judgeBegin, judgeFollow}
+use Rattle.list_following.specs.Follow.{followIf, resumeIn, standAt}
 use Rattle.before_tables.specs.Machines.{machineBefore}
 use Rattle.before_tables.specs.Cycles.{doneBefore}
 use Rattle.before_tables.specs.Answers.{judgeBoundedBefore, startIfBefore, startAnswerBefore, cycleIfBefore, cycleAnswerBefore, runIfBefore, runAnswerBefore, judgeBeginBefore, judgeFollowBefore, followIfBefore, resumeInBefore}

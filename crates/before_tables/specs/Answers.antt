@@ -20,8 +20,9 @@ use Rattle.pack_layout.specs.Packing.{imageCells}
 use Rattle.list_machine.specs.Runs.{resuming}
 use Rattle.list_proposing.specs.Stands.{positionOf}
 use Rattle.list_proposing.specs.declared.Stand.{Stand}
-use Rattle.list_run.specs.Follow.{judgeImage, FollowResult, followedTo, standAt, ranOf}
-use Rattle.list_run.specs.declared.Followed.the-variants as followed
+use Rattle.list_refusals.specs.Judging.{judgeImage}
+use Rattle.list_following.specs.Follow.{FollowResult, followedTo, standAt, ranOf}
+use Rattle.list_following.specs.declared.Followed.the-variants as followed
 use Rattle.before_tables.specs.Machines.{MachineBefore, machineBefore}
 use Rattle.before_tables.specs.Cycles.{startBefore, cycleBefore, cyclesBefore, doneBefore}
 use Rattle.before_tables.specs.Lists.{runBefore}

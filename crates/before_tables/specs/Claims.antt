@@ -25,7 +25,7 @@ use Rattle.pack_layout.specs.Listing.{Listing}
 use Rattle.list_machine.specs.ListMachine.{Position, carryOut}
 use Rattle.list_machine.specs.Runs.{Run, runOf}
 use Rattle.list_proposing.specs.declared.Stand.{Stand}
-use Rattle.list_run.specs.Follow.{resumeIn, resumeOf, followOf}
+use Rattle.list_following.specs.Follow.{resumeIn, resumeOf, followOf}
 use Rattle.processor_calls.specs.Machines.{startCall, cycleCall, runCall}
 use Rattle.list_calls.specs.Lists.{resumeCall, listCall}
 use Rattle.before_tables.specs.Machines.{MachineBefore, machineBefore}

@@ -17,9 +17,10 @@ use Rattle.pack_layout.specs.Listing.{listed}
 use Rattle.pack_layout.specs.Packing.{imageCells, judgedPlace}
 use Rattle.list_proposing.specs.declared.Stand.{Stand}
 use Rattle.list_items.specs.declared.ItemRun.{ItemRun}
-use Rattle.list_run.specs.Follow.{judgeBegin, judgeImage, judgeFollow, FollowResult, followedTo, followIf, resumeIn}
-use Rattle.list_run.specs.declared.Followed.{Followed}
-use Rattle.list_run.specs.declared.Followed.the-variants as followed
+use Rattle.list_refusals.specs.Judging.{judgeBegin, judgeImage, judgeFollow}
+use Rattle.list_following.specs.Follow.{FollowResult, followedTo, followIf, resumeIn}
+use Rattle.list_following.specs.declared.Followed.{Followed}
+use Rattle.list_following.specs.declared.Followed.the-variants as followed
 use Rattle.calls.specs.Lending.{areasIn, withRoom}
 use Rattle.processor_calls.specs.Machines.{told, called}
 use Rattle.list_calls.specs.Lists.{listTold, answerTold, judgeLent, Room, standGiven, resumeCall}

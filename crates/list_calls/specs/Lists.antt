@@ -8,9 +8,9 @@ use Rattle.cell.specs.declared.Judged.{Judged}
 use Rattle.cell.specs.declared.Judged.the-variants.{Passed}
 use Rattle.machine.specs.declared.Table.{Table}
 use Rattle.list_proposing.specs.declared.Stand.{Stand}
-use Rattle.list_run.specs.Follow.{FollowResult, followedTo, standAt, resumeIn}
-use Rattle.list_run.specs.declared.Followed.{Followed}
-use Rattle.list_run.specs.declared.Followed.the-variants as followed
+use Rattle.list_following.specs.Follow.{FollowResult, followedTo, standAt, resumeIn}
+use Rattle.list_following.specs.declared.Followed.{Followed}
+use Rattle.list_following.specs.declared.Followed.the-variants as followed
 use Rattle.calls.specs.Lending.{written, areaList, areasAt, areasIn, withRoom}
 use Rattle.processor_calls.specs.Machines.{Told, told, Called}
 

@@ -17,9 +17,10 @@ use Rattle.list_machine.proofs.Lengths.{run-long}
 use Rattle.list_machine.proofs.Cutting.{cut-in-two, stays-over}
 use Rattle.list_proposing.specs.Stands.{positionOf}
 use Rattle.list_proposing.specs.declared.Stand.{Stand}
-use Rattle.list_run.specs.Follow.{judgeFollow, FollowResult, endingNumber, followedTo, endingOf, ranOf, followIf, resumeIn}
+use Rattle.list_refusals.specs.Judging.{judgeFollow}
+use Rattle.list_following.specs.Follow.{FollowResult, endingNumber, followedTo, endingOf, ranOf, followIf, resumeIn}
 use Rattle.list_run.specs.Cutting.{joinedTo, Cut}
-use Rattle.list_run.specs.declared.Followed.the-variants as followed
+use Rattle.list_following.specs.declared.Followed.the-variants as followed
 
 -- 0 is a run that goes on, any other number one that is over
 goes-on : (c : Course) → endingNumber (endingOf c) ≡ 0 → c ≡ goesOn

@@ -1,3 +1,3 @@
--- Laws of a run on a lent memory, and a run in two calls.
-pub mod Following
+-- That a run runs as its packed cells do, and a run in two calls.
+pub mod Packed
 pub mod Cutting

@@ -6,9 +6,9 @@ use Prim.Native.Nat.{ℕ, _+_}
 use Rattle.machine.specs.declared.Table.{Table}
 use Rattle.areas.specs.declared.Areas.{Areas}
 use Rattle.list_proposing.specs.declared.Stand.{Stand}
-use Rattle.list_run.specs.declared.Followed.{Followed}
-use Rattle.list_run.specs.declared.Followed.the-variants as followed
-use Rattle.list_run.specs.Follow.{FollowResult, followedTo, resumeOf}
+use Rattle.list_following.specs.declared.Followed.{Followed}
+use Rattle.list_following.specs.declared.Followed.the-variants as followed
+use Rattle.list_following.specs.Follow.{FollowResult, followedTo, resumeOf}
 
 -- an answer, with the items and cycles of the call before it
 abbrev pub withCounts : ℕ → ℕ → Followed → Followed

@@ -38,7 +38,8 @@ use Rattle.list_machine.specs.declared.Outside.the-variants.{WritesImage, NoEnt
 use Rattle.list_machine.specs.ListMachine.{Position, Carried, on, stopped, outside, isImmediate, pushOf, thrownTo, actedTo, movedTo, enteredAt, operandAt, effectAs, effectAt, writesImage, registersAt, handlerAt, handledBy, handled, thrown, followed, acted, carriedBy, carryOut}
 use Rattle.list_machine.specs.Runs.{Course, goesOn, stoppedBy, stoodOutside, Run, furtherBy, furtherIn, further, runOf, resuming}
 use Rattle.list_proposing.specs.Stands.{positionOf}
-use Rattle.list_run.specs.Follow.{judgeBegin, judgeImage, judgeFollow, followIf, resumeIn, standAt}
+use Rattle.list_refusals.specs.Judging.{judgeBegin, judgeImage, judgeFollow}
+use Rattle.list_following.specs.Follow.{followIf, resumeIn, standAt}
 use Rattle.area_laws.specs.Staying.{storesOf}
 use Rattle.area_laws.proofs.Untouched.{Spare, actions-leave, throw-leaves, throwing-leaves}
 use Rattle.table_laws.specs.Keeping.{Keeps, ItemsKeep, ListKeeps, ResumeKeeps, FollowKeeps}

@@ -23,7 +23,7 @@ use Rattle.processor.specs.Answers.{Given, startAnswer, cycleAnswer, runAnswer}
 use Rattle.pack_layout.specs.Listing.{Listing}
 use Rattle.list_machine.specs.Runs.{Run, runOf}
 use Rattle.list_proposing.specs.declared.Stand.{Stand}
-use Rattle.list_run.specs.Follow.{resumeIn, resumeOf, followOf}
+use Rattle.list_following.specs.Follow.{resumeIn, resumeOf, followOf}
 
 -- which accesses write
 abbrev pub isWrite : Access → Bool

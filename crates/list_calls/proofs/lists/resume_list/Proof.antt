@@ -1,4 +1,4 @@
--- `resume_list` meets its contract: the answer of crate `list_run`, told.
+-- `resume_list` meets its contract: the answer of crate `list_following`, told.
 use lib.ListN.{length}
 use Rattle.calls.specs.Lending.{areasIn}
 use Rattle.list_calls.specs.Lists.{standGiven}

@@ -1,5 +1,5 @@
 -- `list_run` meets its contract, and runs as the packed cells do.
-use Rattle.list_run.proofs.Following.{as-packed}
+use Rattle.list_run.proofs.Packed.{as-packed}
 use borrow.Author.Needs.{needs}
 use Rattle.list_run.proofs.follow.list_run.Statement.{statement}
 use Rattle.list_run.proofs.follow.list_run.Tie as tie

@@ -1,20 +1,18 @@
--- A run of the list machine on a lent memory: what refuses it, what it leaves, and the number and values of each answer. Document 01, Listings, and
--- the order of its refusals.
+-- A run of the list machine on a lent memory: what it leaves, and the number and values of each answer. Document 01, Listings.
 use mathlib.Core.Bool.{Bool, false}
 use mathlib.Core.List.{List}
 use Prim.{Unit}
 use Prim.Native.Nat.{ℕ}
 use lib.ListN.{length}
-use Rattle.cell.specs.Refusals.{refusalNumber, after}
+use Rattle.cell.specs.Refusals.{refusalNumber}
 use Rattle.cell.specs.declared.Judged.{Judged}
 use Rattle.cell.specs.declared.Judged.the-variants as judged
 use Rattle.machine.specs.declared.Table.{Table}
 use Rattle.machine.specs.declared.Machine.{Machine}
-use Rattle.areas.specs.Bounds.{judgeBounded, machineOf}
+use Rattle.areas.specs.Bounds.{machineOf}
 use Rattle.areas.specs.declared.Areas.{Areas}
 use Rattle.cycles.specs.Counts.{begun}
-use Rattle.pack_layout.specs.Listing.{Listing, listed, judgedArrays}
-use Rattle.pack_layout.specs.Packing.{imageCells, judgedPlace}
+use Rattle.pack_layout.specs.Listing.{Listing, listed}
 use Rattle.list_machine.specs.Outsides.{outsideNumber}
 use Rattle.list_machine.specs.ListMachine.{Position}
 use Rattle.list_machine.specs.Runs.{Course, goesOn, stoppedBy, stoodOutside, Run, runOf, resuming}
@@ -25,20 +23,9 @@ use Rattle.list_items.specs.Outcomes.{runAs}
 use Rattle.list_items.specs.declared.Ending.{Ending}
 use Rattle.list_items.specs.declared.Ending.the-variants as ending
 use Rattle.list_items.specs.declared.ItemRun.{ItemRun}
-use Rattle.list_run.specs.declared.Followed.{Followed}
-use Rattle.list_run.specs.declared.Followed.the-variants as followed
-
--- before the layout: -4101, -4102, -4111 and -4112, then the input list
-unfoldable pub judgeBegin : ℕ → ℕ → Areas → Table → List ℕ → List ℕ → Judged
-judgeBegin len order areas table kinds operands = after (judgeBounded len order areas table) (judgedArrays kinds operands)
-
--- once the size of the image is known: -4104 and -4110, then room, the caller's judgement of what else was lent. No image is asked for in the memory
-unfoldable pub judgeImage : ℕ → ℕ → Judged → Judged
-judgeImage base cells room = after (judgedPlace base cells) room
-
-unfoldable pub judgeFollow : ℕ → ℕ → Areas → Table → List ℕ → List ℕ → ℕ → Judged → Judged
-judgeFollow len order areas table kinds operands base room =
-    after (judgeBegin len order areas table kinds operands) (judgeImage base (imageCells (listed kinds operands)) room)
+use Rattle.list_refusals.specs.Judging.{judgeFollow}
+use Rattle.list_following.specs.declared.Followed.{Followed}
+use Rattle.list_following.specs.declared.Followed.the-variants as followed
 
 -- how a run stands, as a number: 0, all items asked for were carried out; 1, stopped by a reason; 2, outside
 abbrev pub endingNumber : Ending → ℕ

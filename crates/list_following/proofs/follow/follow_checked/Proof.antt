@@ -3,10 +3,10 @@ use mathlib.Core.Path.{refl, sym, _∙_}
 use denote.Ref.{now}
 use Rattle.pack_layout.specs.Listing.{listed}
 use Rattle.pack_prepare.proofs.Checking.{cells-most}
-use Rattle.list_run.proofs.Following.{image-settled, image-refused, image-ran}
+use Rattle.list_following.proofs.Following.{image-settled, image-refused, image-ran}
 use borrow.Author.Needs.{needs}
-use Rattle.list_run.proofs.follow.follow_checked.Statement.{statement}
-use Rattle.list_run.proofs.follow.follow_checked.Tie as tie
+use Rattle.list_following.proofs.follow.follow_checked.Statement.{statement}
+use Rattle.list_following.proofs.follow.follow_checked.Tie as tie
 
 settle-table-requires : tie.Need-settle-table-requires
 settle-table-requires c κs = search needs

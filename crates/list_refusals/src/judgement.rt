@@ -1,7 +1,7 @@
 // What refuses a run of the list machine, in document 01's order.
 ghost use mathlib.Core.Path.{_≡_};
 ghost use Prim.Native.Nat.{_≤_};
-ghost use Rattle.list_run.specs.Follow as follows;
+ghost use Rattle.list_refusals.specs.Judging as judging;
 use areas::Areas;
 use areas::judging::judge_bounded;
 use cell::Address;
@@ -20,7 +20,7 @@ pub fn judge_begin(
     kinds: &[u8],
     operands: &[u32],
 ) -> Judged
-    ensures { λ r. ⌜ r ≡ follows.judgeBegin length order areas table (now (kinds .entry)) (now (operands .entry)) ⌝ }
+    ensures { λ r. ⌜ r ≡ judging.judgeBegin length order areas table (now (kinds .entry)) (now (operands .entry)) ⌝ }
 {
     match judge_bounded(length, order, areas, table) {
         Judged::Refused(r) => Judged::Refused(r),
@@ -31,7 +31,7 @@ pub fn judge_begin(
 // What is judged once the size of the image is known; room is the caller's judgement of what else was lent.
 pub fn judge_image(base: Address, cells: CellCount, room: Judged) -> Judged
     requires { ⌜ cells .0 ≤ 8192 ⌝ }
-    ensures { λ r. ⌜ r ≡ follows.judgeImage (base .0) (cells .0) room ⌝ }
+    ensures { λ r. ⌜ r ≡ judging.judgeImage (base .0) (cells .0) room ⌝ }
 {
     match judge_place(base, cells) {
         Judged::Refused(r) => Judged::Refused(r),

@@ -3,10 +3,10 @@ use mathlib.Core.Path.{sym, _∙_}
 use native.Mathlib.Omega.{arith}
 use lib.ListN.{length}
 use Rattle.pack_prepare.proofs.Checking.{items-most}
-use Rattle.list_run.proofs.Following.{begin-lent, begin-areas, begin-fits, begin-checked, begin-refused, begin-passed}
+use Rattle.list_following.proofs.Following.{begin-lent, begin-areas, begin-fits, begin-checked, begin-refused, begin-passed}
 use borrow.Author.Needs.{needs}
-use Rattle.list_run.proofs.follow.follow_within.Statement.{statement}
-use Rattle.list_run.proofs.follow.follow_within.Tie as tie
+use Rattle.list_following.proofs.follow.follow_within.Statement.{statement}
+use Rattle.list_following.proofs.follow.follow_within.Tie as tie
 
 judge-begin-requires : tie.Need-judge-begin-requires
 judge-begin-requires c κs = search needs

@@ -1,9 +1,9 @@
 -- `judge_begin` meets its contract.
 use mathlib.Core.Path.{sym, _∙_}
-use Rattle.list_run.specs.Follow as follows
+use Rattle.list_refusals.specs.Judging as judging
 use borrow.Author.Needs.{needs}
-use Rattle.list_run.proofs.judgement.judge_begin.Statement.{statement}
-use Rattle.list_run.proofs.judgement.judge_begin.Tie as tie
+use Rattle.list_refusals.proofs.judgement.judge_begin.Statement.{statement}
+use Rattle.list_refusals.proofs.judgement.judge_begin.Tie as tie
 
 judge-bounded-requires : tie.Need-judge-bounded-requires
 judge-bounded-requires c κs = search needs
@@ -18,11 +18,11 @@ judge-arrays-requires : tie.Need-judge-arrays-requires
 judge-arrays-requires c κs = search needs
 
 returns : tie.Need-returns
-unfolding follows.judgeBegin
+unfolding judging.judgeBegin
 returns c = rw (sym (c .before .before .before .judge-bounded .ensures) ∙ c .before .r .given .1)
 
 returns-2 : tie.Need-returns-2
-unfolding follows.judgeBegin
+unfolding judging.judgeBegin
 returns-2 c = rw (sym (c .before .before .before .judge-bounded .ensures) ∙ c .before .enum-told .given .1) (c .judge-arrays .ensures)
 
 pub judge-begin-spec : {M : Type 1} → statement M

@@ -1,9 +1,9 @@
 -- `judge_image` meets its contract.
 use mathlib.Core.Path.{sym, _∙_}
-use Rattle.list_run.specs.Follow as follows
+use Rattle.list_refusals.specs.Judging as judging
 use borrow.Author.Needs.{needs}
-use Rattle.list_run.proofs.judgement.judge_image.Statement.{statement}
-use Rattle.list_run.proofs.judgement.judge_image.Tie as tie
+use Rattle.list_refusals.proofs.judgement.judge_image.Statement.{statement}
+use Rattle.list_refusals.proofs.judgement.judge_image.Tie as tie
 
 judge-place-requires : tie.Need-judge-place-requires
 judge-place-requires c κs = search needs
@@ -15,11 +15,11 @@ enum-told : tie.Need-enum-told
 enum-told c = search needs
 
 returns : tie.Need-returns
-unfolding follows.judgeImage
+unfolding judging.judgeImage
 returns c = rw (sym (c .before .before .before .judge-place .ensures) ∙ c .before .r .given .1)
 
 returns-2 : tie.Need-returns-2
-unfolding follows.judgeImage
+unfolding judging.judgeImage
 returns-2 c = rw (sym (c .before .before .judge-place .ensures) ∙ c .enum-told .given .1)
 
 pub judge-image-spec : {M : Type 1} → statement M

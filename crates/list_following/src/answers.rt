@@ -1,6 +1,6 @@
 // The number and the reason of each answer.
 ghost use mathlib.Core.Path.{_≡_};
-ghost use Rattle.list_run.specs.Follow as follows;
+ghost use Rattle.list_following.specs.Follow as follows;
 use list_items::Ending;
 use list_machine::outside_number;
 

@@ -1,0 +1,2 @@
+-- Laws of a run on a lent memory.
+pub mod Following

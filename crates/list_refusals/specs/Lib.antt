@@ -1,0 +1,2 @@
+-- What crate `list_refusals` means: what refuses a run of the list machine.
+pub mod Judging

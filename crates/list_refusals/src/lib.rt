@@ -1,0 +1,2 @@
+// What refuses a run of the list machine.
+pub mod judgement;
