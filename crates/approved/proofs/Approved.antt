@@ -9,8 +9,8 @@ use Rattle.cell.specs.Refusals.{judgeMachine}
 use Rattle.cell.specs.declared.Judged.the-variants.{Passed}
 use Rattle.machine.specs.declared.Table.{Table}
 use Rattle.areas.specs.Areas.{judgeAreas}
-use Rattle.areas.specs.Tables.{judgeTable}
-use Rattle.areas.specs.Bounds.{judgeBounded, machineOf}
+use Rattle.code_tables.specs.Tables.{judgeTable}
+use Rattle.bounds.specs.Bounds.{judgeBounded, machineOf}
 use Rattle.areas.specs.declared.Areas.{Areas}
 use Rattle.pack_layout.specs.Listing.{Listing}
 use Rattle.pack_layout.specs.Packing.{image, imageCells, Legal}

@@ -16,7 +16,7 @@ use Rattle.machine.specs.declared.Access.the-variants.{Stream}
 use Rattle.machine.specs.declared.Machine.{Machine}
 use Rattle.machine.specs.declared.Table.{Table}
 use Rattle.areas.specs.Areas.{filed as withAreas}
-use Rattle.areas.specs.Bounds.{judgeBounded, machineOf, firstSp, firstRp}
+use Rattle.bounds.specs.Bounds.{judgeBounded, machineOf, firstSp, firstRp}
 use Rattle.areas.specs.declared.Areas.{Areas}
 use Rattle.processor.specs.Starting.{fourCells, startOf}
 use Rattle.processor.specs.Answers.{startedTo, startAnswer}

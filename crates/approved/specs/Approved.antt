@@ -11,8 +11,8 @@ use Rattle.cell.specs.declared.Judged.the-variants.{Passed}
 use Rattle.cycles.specs.Counts.{begun}
 use Rattle.machine.specs.declared.Table.{Table}
 use Rattle.areas.specs.Areas.{judgeAreas, filed as withAreas}
-use Rattle.areas.specs.Tables.{judgeTable}
-use Rattle.areas.specs.Bounds.{judgeBounded, machineOf, firstSp, firstRp}
+use Rattle.code_tables.specs.Tables.{judgeTable}
+use Rattle.bounds.specs.Bounds.{judgeBounded, machineOf, firstSp, firstRp}
 use Rattle.areas.specs.declared.Areas.{Areas}
 use Rattle.processor.specs.Answers.{startedTo, startAnswer}
 use Rattle.processor.specs.Starting.{fourCells}

@@ -23,7 +23,7 @@ use Rattle.machine.proofs.CommitLaws.{both-good}
 use Rattle.cycles.specs.Cycles.{cycleOf, cyclesOf}
 use Rattle.cycles.specs.Counts.{begun}
 use Rattle.areas.specs.Areas.{heldUnderData, heldUnderReturn, bytesWith}
-use Rattle.areas.specs.Bounds.{machineOf}
+use Rattle.bounds.specs.Bounds.{machineOf}
 use Rattle.areas.specs.declared.Area.{Area}
 use Rattle.areas.specs.declared.Areas.{Areas}
 use Rattle.area_laws.specs.Staying.{Given, CellOf, CellFor, isNamed, named, storesIn, names, inArea, Off, StackWritesStay, RunWritesStay}

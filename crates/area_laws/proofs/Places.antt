@@ -15,10 +15,11 @@ use Rattle.machine.specs.declared.Access.{Access}
 use Rattle.machine.specs.declared.Access.the-variants.{DataRead, DataWrite, ReturnRead, ReturnWrite, NamedRead, NamedWrite, Stream, Push}
 use Rattle.machine.proofs.CommitLaws.{good-placed}
 use Rattle.areas.specs.Areas.{heldUnderData, heldUnderReturn, Placed}
-use Rattle.areas.specs.Bounds.{spanOf, machineOf}
+use Rattle.bounds.specs.Bounds.{spanOf, machineOf}
 use Rattle.areas.specs.declared.Area.{Area}
 use Rattle.areas.specs.declared.Areas.{Areas}
-use Rattle.areas.proofs.AreaLaws.{Taken, taken, areas-pass}
+use Rattle.areas.proofs.AreaLaws.{Taken, taken}
+use Rattle.bounds.proofs.BoundLaws.{areas-pass}
 use Rattle.area_laws.specs.Staying.{Given, CellOf, CellFor, PlacesStay}
 
 -- an aligned address within so many cells that end at top is that of one of them

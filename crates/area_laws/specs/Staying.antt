@@ -27,7 +27,7 @@ use Rattle.instruction.specs.declared.Instruction.{Instruction}
 use Rattle.cycles.specs.Cycles.{shifted, cycleOf, cyclesOf}
 use Rattle.cycles.specs.Counts.{begun}
 use Rattle.areas.specs.Areas.{heldUnderData, heldUnderReturn, bytesWith, none}
-use Rattle.areas.specs.Bounds.{judgeBounded, machineOf}
+use Rattle.bounds.specs.Bounds.{judgeBounded, machineOf}
 use Rattle.areas.specs.declared.Area.{Area}
 use Rattle.areas.specs.declared.Areas.{Areas}
 

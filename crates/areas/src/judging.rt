@@ -1,16 +1,12 @@
-// Which areas and which tables are taken.
+// Which areas are taken.
 ghost use mathlib.Core.Path.{_≡_};
 ghost use Prim.Native.Nat.{_≤_};
 ghost use Rattle.areas.specs.Areas as areas;
-ghost use Rattle.areas.specs.Tables as tables;
-ghost use Rattle.areas.specs.Bounds as bounds;
 use crate::Area;
 use crate::Areas;
 use cell::Address;
 use cell::Judged;
 use cell::Refusal;
-use cell::judgement::judge_machine;
-use machine::Table;
 
 // Whether all four numbers are 0.
 pub fn is_none(given: Areas) -> bool
@@ -87,59 +83,4 @@ pub fn judge_areas(length: usize, given: Areas) -> Judged
         return Judged::Refused(Refusal::StackAreas);
     }
     Judged::Passed
-}
-
-// Whether both numbers of a table are 0.
-fn is_none_given(table: Table) -> bool
-    ensures { λ r. ⌜ r ≡ tables.noneGiven table ⌝ }
-{
-    let first = table.first;
-    let end = table.end;
-    first.0 == 0 && end.0 == 0
-}
-
-// Whether a table is unaligned, reversed, over the machine's own cells or past memory.
-fn is_bad_table(length: usize, table: Table) -> bool
-    ensures { λ r. ⌜ r ≡ tables.badTable length table ⌝ }
-{
-    let first = table.first;
-    let end = table.end;
-    if first.0 % 4 != 0 {
-        return true;
-    }
-    if end.0 % 4 != 0 {
-        return true;
-    }
-    if end.0 < first.0 {
-        return true;
-    }
-    if first.0 < 0x10 {
-        return true;
-    }
-    length < end.0 as usize
-}
-
-pub fn judge_table(length: usize, table: Table) -> Judged
-    ensures { λ r. ⌜ r ≡ tables.judgeTable length table ⌝ }
-{
-    if is_none_given(table) {
-        return Judged::Passed;
-    }
-    if is_bad_table(length, table) {
-        return Judged::Refused(Refusal::Table);
-    }
-    Judged::Passed
-}
-
-// What every call that is given areas and a table judges first.
-pub fn judge_bounded(length: usize, order: u8, given: Areas, table: Table) -> Judged
-    ensures { λ r. ⌜ r ≡ bounds.judgeBounded length order given table ⌝ }
-{
-    match judge_machine(length, order) {
-        Judged::Refused(r) => Judged::Refused(r),
-        Judged::Passed => match judge_areas(length, given) {
-            Judged::Refused(r) => Judged::Refused(r),
-            Judged::Passed => judge_table(length, table),
-        },
-    }
 }

@@ -1,5 +1,4 @@
-// Stack areas and the table that an office sets: what they are, their judgement, and the machine that they bound.
-pub mod bounding;
+// Stack areas that an office sets: what they are, and their judgement.
 pub mod judging;
 
 use cell::Address;

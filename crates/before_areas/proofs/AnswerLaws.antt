@@ -13,8 +13,8 @@ use Rattle.machine.specs.declared.Registers.{Registers}
 use Rattle.machine.specs.declared.Ended.{Ended}
 use Rattle.machine.specs.declared.Ended.the-variants.{Went, Threw, Stopped}
 use Rattle.areas.specs.Areas.{noAreas, judgeAreas}
-use Rattle.areas.specs.Tables.{judgeTable}
-use Rattle.areas.specs.Bounds.{judgeBounded, machineOf}
+use Rattle.code_tables.specs.Tables.{judgeTable}
+use Rattle.bounds.specs.Bounds.{judgeBounded, machineOf}
 use Rattle.cycles.specs.Counts.{begun}
 use Rattle.processor.specs.Answers.{startedAs, startIf, startAnswer, cycledAs, cycleIf, cycleAnswer, ranAs, givenOf, runIf, runAnswer}
 use Rattle.pack_layout.specs.Listing.{Listing, listed}

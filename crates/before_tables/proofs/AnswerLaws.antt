@@ -10,8 +10,8 @@ use Rattle.cell.specs.declared.Judged.the-variants.{Passed, Refused}
 use Rattle.cell.proofs.JudgementLaws.{both-pass}
 use Rattle.machine.specs.Places.{noTable}
 use Rattle.areas.specs.Areas.{judgeAreas}
-use Rattle.areas.specs.Tables.{judgeTable}
-use Rattle.areas.specs.Bounds.{judgeBounded, machineOf, firstSp, firstRp}
+use Rattle.code_tables.specs.Tables.{judgeTable}
+use Rattle.bounds.specs.Bounds.{judgeBounded, machineOf, firstSp, firstRp}
 use Rattle.areas.specs.declared.Areas.{Areas}
 use Rattle.areas.specs.declared.RegisterFile.{RegisterFile}
 use Rattle.cycles.specs.Counts.{begun}

@@ -7,7 +7,7 @@ use Rattle.cell.specs.Refusals.{after, judgeMachine}
 use Rattle.cell.specs.declared.Judged.{Judged}
 use Rattle.cell.specs.declared.Judged.the-variants.{Passed, Refused}
 use Rattle.areas.specs.Areas.{judgeAreas}
-use Rattle.areas.specs.Bounds.{firstSp, firstRp}
+use Rattle.bounds.specs.Bounds.{firstSp, firstRp}
 use Rattle.areas.specs.declared.Areas.{Areas}
 use Rattle.areas.specs.declared.RegisterFile.{RegisterFile}
 use Rattle.cycles.specs.Counts.{begun}

@@ -14,9 +14,9 @@ use Rattle.machine.specs.declared.Machine.{Machine}
 use Rattle.machine.specs.Places.{Fits}
 use Rattle.machine.specs.declared.Table.{Table}
 use Rattle.areas.specs.Areas.{judgeAreas}
-use Rattle.areas.specs.Bounds.{judgeBounded, machineOf}
+use Rattle.bounds.specs.Bounds.{judgeBounded, machineOf}
 use Rattle.areas.specs.declared.Areas.{Areas}
-use Rattle.areas.proofs.AreaLaws.{lent, areas-pass, passed-fits}
+use Rattle.bounds.proofs.BoundLaws.{lent, areas-pass, passed-fits}
 use Rattle.pack_layout.specs.Listing.{Listing, listed, judgedArrays, Checked}
 use Rattle.pack_layout.specs.Packing.{imageCells, judgedPlace}
 use Rattle.pack_prepare.proofs.Checking.{arrays-checked}

@@ -9,7 +9,7 @@ use Rattle.cell.specs.declared.Judged.{Judged}
 use Rattle.cell.specs.declared.Judged.the-variants as judged
 use Rattle.machine.specs.declared.Table.{Table}
 use Rattle.machine.specs.declared.Machine.{Machine}
-use Rattle.areas.specs.Bounds.{machineOf}
+use Rattle.bounds.specs.Bounds.{machineOf}
 use Rattle.areas.specs.declared.Areas.{Areas}
 use Rattle.cycles.specs.Counts.{begun}
 use Rattle.pack_layout.specs.Listing.{Listing, listed}

@@ -10,7 +10,7 @@ ghost use Rattle.list_refusals.specs.Judging as judging;
 ghost use Rattle.list_following.specs.Follow as follows;
 use crate::Followed;
 use areas::Areas;
-use areas::bounding::machine_of;
+use bounds::bounding::machine_of;
 use cell::Address;
 use cell::Judged;
 use list_items::running::run_items;

@@ -11,7 +11,7 @@ use Rattle.machine.specs.declared.Ended.{Ended}
 use Rattle.machine.specs.declared.Ended.the-variants.{Went, Threw, Stopped}
 use Rattle.machine.specs.declared.Table.{Table}
 use Rattle.areas.specs.Areas.{filed}
-use Rattle.areas.specs.Bounds.{judgeBounded, machineOf}
+use Rattle.bounds.specs.Bounds.{judgeBounded, machineOf}
 use Rattle.areas.specs.declared.Areas.{Areas}
 use Rattle.areas.specs.declared.RegisterFile.{RegisterFile}
 use Rattle.cycles.specs.Cycles.{cyclesOf}

@@ -7,7 +7,7 @@ use lib.ListN.{replicate}
 use Rattle.cell.specs.Memory.{cellAt, storeCell}
 use Rattle.machine.specs.Places.{noTable}
 use Rattle.areas.specs.Areas.{noAreas, areasOf}
-use Rattle.areas.specs.Bounds.{machineOf}
+use Rattle.bounds.specs.Bounds.{machineOf}
 use Rattle.areas.specs.declared.Areas.{Areas}
 use Rattle.pack_layout.specs.Listing.{listed}
 use Rattle.list_machine.specs.declared.Outside.the-variants.{WritesImage, NoEntry, NoHandler, PastEnd}

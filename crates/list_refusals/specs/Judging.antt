@@ -4,7 +4,7 @@ use Prim.Native.Nat.{ℕ}
 use Rattle.cell.specs.Refusals.{after}
 use Rattle.cell.specs.declared.Judged.{Judged}
 use Rattle.machine.specs.declared.Table.{Table}
-use Rattle.areas.specs.Bounds.{judgeBounded}
+use Rattle.bounds.specs.Bounds.{judgeBounded}
 use Rattle.areas.specs.declared.Areas.{Areas}
 use Rattle.pack_layout.specs.Listing.{listed, judgedArrays}
 use Rattle.pack_layout.specs.Packing.{imageCells, judgedPlace}

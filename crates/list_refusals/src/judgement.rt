@@ -3,7 +3,7 @@ ghost use mathlib.Core.Path.{_≡_};
 ghost use Prim.Native.Nat.{_≤_};
 ghost use Rattle.list_refusals.specs.Judging as judging;
 use areas::Areas;
-use areas::judging::judge_bounded;
+use bounds::judging::judge_bounded;
 use cell::Address;
 use cell::CellCount;
 use cell::Judged;

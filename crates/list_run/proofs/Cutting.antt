@@ -10,7 +10,7 @@ use Rattle.cell.proofs.JudgementLaws.{refusal-some}
 use Rattle.cell.specs.declared.Judged.{Judged}
 use Rattle.cell.specs.declared.Judged.the-variants.{Passed, Refused}
 use Rattle.machine.specs.declared.Machine.{Machine}
-use Rattle.areas.specs.Bounds.{machineOf}
+use Rattle.bounds.specs.Bounds.{machineOf}
 use Rattle.pack_layout.specs.Listing.{Listing, listed}
 use Rattle.list_machine.specs.Runs.{Course, goesOn, stoppedBy, stoodOutside, isOver, Run, runOf, resuming}
 use Rattle.list_machine.proofs.Lengths.{run-long}

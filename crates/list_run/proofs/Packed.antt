@@ -11,7 +11,7 @@ use Rattle.cell.specs.declared.Judged.{Judged}
 use Rattle.cell.specs.declared.Judged.the-variants.{Passed, Refused}
 use Rattle.cell.proofs.JudgementLaws.{both-pass}
 use Rattle.machine.specs.declared.Table.{Table}
-use Rattle.areas.specs.Bounds.{machineOf}
+use Rattle.bounds.specs.Bounds.{machineOf}
 use Rattle.areas.specs.declared.Areas.{Areas}
 use Rattle.pack_layout.specs.Listing.{listed}
 use Rattle.pack_layout.specs.Packing.{imageCells, judgedPlace}

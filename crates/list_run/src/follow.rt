@@ -2,7 +2,7 @@
 ghost use mathlib.Core.Path.{_≡_};
 ghost use mathlib.Core.Bool.{false};
 ghost use lib.ListN.{length};
-ghost use Rattle.areas.specs.Bounds.{machineOf};
+ghost use Rattle.bounds.specs.Bounds.{machineOf};
 ghost use Rattle.pack_layout.specs.Listing.{listed};
 ghost use Rattle.list_following.specs.Follow as follows;
 use areas::Areas;

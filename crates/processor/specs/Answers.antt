@@ -15,7 +15,7 @@ use Rattle.machine.specs.declared.Exception.the-variants.{Range, Alignment, Dat
 use Rattle.machine.specs.declared.Ended.{Ended}
 use Rattle.machine.specs.declared.Ended.the-variants.{Went, Threw, Stopped}
 use Rattle.areas.specs.Areas.{noAreas, filed}
-use Rattle.areas.specs.Bounds.{judgeBounded, machineOf, firstSp, firstRp}
+use Rattle.bounds.specs.Bounds.{judgeBounded, machineOf, firstSp, firstRp}
 use Rattle.areas.specs.declared.Areas.{Areas}
 use Rattle.areas.specs.declared.RegisterFile.{RegisterFile}
 use Rattle.cycles.specs.Cycles.{cycleOf, cyclesOf}

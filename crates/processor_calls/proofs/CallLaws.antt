@@ -5,7 +5,7 @@ use Prim.Native.Nat.{ℕ, _≤_}
 use lib.ListN.{length}
 use Rattle.cell.specs.declared.Judged.the-variants.{Passed}
 use Rattle.machine.specs.declared.Table.{Table}
-use Rattle.areas.specs.Bounds.{judgeBounded}
+use Rattle.bounds.specs.Bounds.{judgeBounded}
 use Rattle.areas.specs.declared.Areas.{Areas}
 use Rattle.calls.specs.Lending.{areasAt, withRoom}
 use Rattle.calls.proofs.LendingLaws.{roomy, areas-there}

@@ -7,7 +7,7 @@ use Rattle.cell.specs.Refusals.{refusalNumber}
 use Rattle.cell.specs.declared.Judged.{Judged}
 use Rattle.cell.specs.declared.Judged.the-variants as judged
 use Rattle.machine.specs.declared.Table.{Table}
-use Rattle.areas.specs.Bounds.{judgeBounded}
+use Rattle.bounds.specs.Bounds.{judgeBounded}
 use Rattle.areas.specs.declared.Areas.{Areas}
 use Rattle.areas.specs.declared.RegisterFile.{RegisterFile}
 use Rattle.processor.specs.Answers.{startNumber, startReason, startRegisters, startAnswer, cycleNumber, cycleReason, cycleRegisters, cycleAnswer, runNumber, runReason, runRegisters, runCount, Given, runAnswer}

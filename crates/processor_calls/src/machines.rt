@@ -4,7 +4,7 @@ ghost use Prim.Native.Nat.{_≤_};
 ghost use lib.ListN.{length};
 ghost use Rattle.processor_calls.specs.Machines as machines;
 use areas::Areas;
-use areas::judging::judge_bounded;
+use bounds::judging::judge_bounded;
 use calls::lending::areas_in;
 use calls::lending::with_room;
 use calls::lending::write_one;

@@ -11,7 +11,7 @@ use Rattle.cell.specs.declared.Judged.the-variants as judged
 use Rattle.cell.proofs.MemoryLaws.{cell-frame, alike-trans}
 use Rattle.throws.specs.Throws.{handlerCell, memoryCell, badCell, addressCell}
 use Rattle.machine.specs.declared.Machine.{Machine}
-use Rattle.areas.specs.Bounds.{judgeBounded, machineOf, firstSp, firstRp}
+use Rattle.bounds.specs.Bounds.{judgeBounded, machineOf, firstSp, firstRp}
 use Rattle.cycles.specs.Cycles.{cycleOf}
 use Rattle.cycles.specs.Counts.{begun, doneOf}
 use Rattle.processor.specs.Starting.{fourCells, startOf}

@@ -26,7 +26,7 @@ use Rattle.machine.specs.declared.Access.the-variants.{Push}
 use Rattle.machine.specs.declared.Exception.{Exception}
 use Rattle.machine.specs.declared.Ended.{Ended}
 use Rattle.machine.specs.declared.Ended.the-variants.{Went, Threw, Stopped}
-use Rattle.areas.specs.Bounds.{judgeBounded, machineOf}
+use Rattle.bounds.specs.Bounds.{judgeBounded, machineOf}
 use Rattle.instruction.specs.Dispatch.{decodeOf, OperandClass, next, plain, taking, operandClass}
 use Rattle.pack_layout.specs.Listing.{Listing, listed, judgedArrays}
 use Rattle.pack_layout.specs.Layout.{formAt}

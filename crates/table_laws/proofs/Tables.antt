@@ -29,10 +29,11 @@ use Rattle.instruction.specs.Taking.{takingAt, operandOf, afterOf}
 use Rattle.instruction.specs.Dispatch.{OperandClass, next, plain, taking, operandClass, decodeOf}
 use Rattle.instruction.specs.declared.Instruction.{Instruction}
 use Rattle.cycles.specs.Cycles.{shifted, cyclesOf}
-use Rattle.areas.specs.Tables.{noneGiven, ownCells}
-use Rattle.areas.specs.Bounds.{judgeBounded, machineOf}
+use Rattle.code_tables.specs.Tables.{noneGiven, ownCells}
+use Rattle.bounds.specs.Bounds.{judgeBounded, machineOf}
 use Rattle.areas.specs.declared.Areas.{Areas}
-use Rattle.areas.proofs.AreaLaws.{kept, table-pass}
+use Rattle.code_tables.proofs.TableLaws.{kept}
+use Rattle.bounds.proofs.BoundLaws.{table-pass}
 use Rattle.area_laws.specs.Staying.{storesOf, storesBy, storesIn}
 use Rattle.area_laws.proofs.Untouched.{Spare, SparesPush, cycles-leave}
 use Rattle.table_laws.specs.Keeping.{isWrite, Keeps, PlacesSpare, CyclesKeep}

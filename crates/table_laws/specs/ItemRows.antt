@@ -7,7 +7,7 @@ use lib.ListN.{replicate}
 use Rattle.cell.specs.Memory.{storeCell}
 use Rattle.machine.specs.Places.{tableOf}
 use Rattle.machine.specs.declared.Table.{Table}
-use Rattle.areas.specs.Bounds.{machineOf}
+use Rattle.bounds.specs.Bounds.{machineOf}
 use Rattle.pack_layout.specs.Listing.{listed}
 use Rattle.list_machine.specs.declared.Outside.the-variants.{WritesImage, NoHandler}
 use Rattle.list_machine.specs.Runs.{goesOn, stoppedBy, stoodOutside, Run, runOf, beginning}

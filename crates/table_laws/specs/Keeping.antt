@@ -15,7 +15,7 @@ use Rattle.throws.specs.Throws.{CycleState}
 use Rattle.machine.specs.declared.Table.{Table}
 use Rattle.machine.specs.declared.Access.{Access}
 use Rattle.machine.specs.declared.Access.the-variants.{DataRead, DataWrite, ReturnRead, ReturnWrite, NamedRead, NamedWrite, Stream, Push}
-use Rattle.areas.specs.Bounds.{judgeBounded, machineOf}
+use Rattle.bounds.specs.Bounds.{judgeBounded, machineOf}
 use Rattle.areas.specs.declared.Areas.{Areas}
 use Rattle.areas.specs.declared.RegisterFile.{RegisterFile}
 use Rattle.cycles.specs.Cycles.{cyclesOf}

@@ -7,8 +7,8 @@ use Rattle.cell.specs.Division.{symmetricOf, flooredOf}
 use Rattle.cell.specs.Shift.{asr8}
 use Rattle.cell.specs.Refusals.{judgeMachine}
 use Rattle.areas.specs.Areas.{judgeAreas}
-use Rattle.areas.specs.Tables.{judgeTable}
-use Rattle.areas.specs.Bounds.{judgeBounded}
+use Rattle.code_tables.specs.Tables.{judgeTable}
+use Rattle.bounds.specs.Bounds.{judgeBounded}
 use Rattle.machine.specs.Places.{placeOf, fetchOf, fetchByteOf}
 use Rattle.throws.specs.Exceptions.{exceptionOf}
 use Rattle.machine.specs.Effects.{rollStores}

@@ -13,7 +13,7 @@ use Rattle.machine.specs.declared.Machine.{Machine}
 use Rattle.machine.specs.declared.Access.{Access}
 use Rattle.machine.specs.declared.Access.the-variants.{DataRead, DataWrite, ReturnRead, ReturnWrite, NamedRead, NamedWrite, Stream, Push}
 use Rattle.areas.specs.Areas.{areasOf}
-use Rattle.areas.specs.Bounds.{machineOf}
+use Rattle.bounds.specs.Bounds.{machineOf}
 use Rattle.areas.specs.declared.Areas.{Areas}
 use Rattle.processor.specs.Answers.{StartAnswer, startAnswer, CycleAnswer, RunAnswer, givenOf, runAnswer}
 use Rattle.worked.specs.Rows.{Claim, Row, numbers, lists}

@@ -3,7 +3,7 @@ use mathlib.Core.Path.{sym, _∙_}
 use denote.Ref.{now}
 use lib.ListN.{length}
 use native.Mathlib.Omega.{arith}
-use Rattle.areas.proofs.AreaLaws.{lent, areas-pass, passed-fits}
+use Rattle.bounds.proofs.BoundLaws.{lent, areas-pass, passed-fits}
 use Rattle.cycles.proofs.RunLaws.{one-cycle}
 use Rattle.processor.specs.Answers as answers
 use borrow.Author.Needs.{needs}

@@ -3,7 +3,7 @@ use mathlib.Core.Path.{sym, _∙_}
 use native.Mathlib.Omega.{arith}
 use denote.Ref.{now}
 use lib.ListN.{length}
-use Rattle.areas.proofs.AreaLaws.{lent, areas-pass, passed-fits}
+use Rattle.bounds.proofs.BoundLaws.{lent, areas-pass, passed-fits}
 use Rattle.processor.specs.Answers as answers
 use borrow.Author.Needs.{needs}
 use Rattle.processor.proofs.entry.start.Statement.{statement}

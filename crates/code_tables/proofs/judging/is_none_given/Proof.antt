@@ -1,6 +1,6 @@
 -- `is_none_given` meets its contract.
-use Rattle.areas.proofs.judging.is_none_given.Statement.{statement}
-use Rattle.areas.proofs.judging.is_none_given.Tie as tie
+use Rattle.code_tables.proofs.judging.is_none_given.Statement.{statement}
+use Rattle.code_tables.proofs.judging.is_none_given.Tie as tie
 use borrow.Author.Tests.{eq-eqb, ne-eqb}
 
 returns : tie.Need-returns

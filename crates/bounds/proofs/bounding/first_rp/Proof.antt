@@ -1,14 +1,11 @@
--- `first_sp` meets its contract.
+-- `first_rp` meets its contract.
 use mathlib.Core.Path.{sym, _∙_}
 use borrow.Author.Needs.{needs}
-use Rattle.areas.proofs.bounding.first_sp.Statement.{statement}
-use Rattle.areas.proofs.bounding.first_sp.Tie as tie
+use Rattle.bounds.proofs.bounding.first_rp.Statement.{statement}
+use Rattle.bounds.proofs.bounding.first_rp.Tie as tie
 
 is-none-requires : tie.Need-is-none-requires
 is-none-requires c κs = search needs
-
-sub-result : tie.Need-sub-result
-sub-result c = search needs
 
 cast-result : tie.Need-cast-result
 cast-result c = search needs
@@ -19,5 +16,5 @@ returns c = rw (sym (c .before .is-none .ensures) ∙ c .if1 .taken)
 returns-2 : tie.Need-returns-2
 returns-2 c = rw (sym (c .before .before .before .is-none .ensures) ∙ c .before .before .if1 .left)
 
-pub first-sp-spec : {M : Type 1} → statement M
-first-sp-spec = tie.close (tie.spec is-none-requires sub-result cast-result returns returns-2)
+pub first-rp-spec : {M : Type 1} → statement M
+first-rp-spec = tie.close (tie.spec is-none-requires cast-result returns returns-2)

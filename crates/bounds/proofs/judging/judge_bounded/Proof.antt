@@ -1,8 +1,8 @@
 -- `judge_bounded` meets its contract.
 use borrow.Author.Needs.{needs}
-use Rattle.areas.proofs.judging.judge_bounded.Statement.{statement}
-use Rattle.areas.proofs.judging.judge_bounded.Tie as tie
-use Rattle.areas.specs.Bounds as bounds
+use Rattle.bounds.proofs.judging.judge_bounded.Statement.{statement}
+use Rattle.bounds.proofs.judging.judge_bounded.Tie as tie
+use Rattle.bounds.specs.Bounds as bounds
 use mathlib.Core.Path.{sym, _∙_}
 
 judge-machine-requires : tie.Need-judge-machine-requires

@@ -8,10 +8,10 @@ use Rattle.machine.specs.Places.{spanAt, unbounded}
 use Rattle.machine.specs.declared.Span.{Span}
 use Rattle.machine.specs.declared.Table.{Table}
 use Rattle.machine.specs.declared.Machine.{Machine}
 use Rattle.areas.specs.Areas.{heldUnderData, heldUnderReturn, none, judgeAreas}
-use Rattle.areas.specs.Tables.{judgeTable}
+use Rattle.code_tables.specs.Tables.{judgeTable}
 use Rattle.areas.specs.declared.Area.{Area}
 use Rattle.areas.specs.declared.Areas.{Areas}
 
 -- the cells of an area and those held under it
 abbrev pub spanOf : ℕ → Area → Span

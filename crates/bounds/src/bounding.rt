@@ -2,11 +2,11 @@
 ghost use mathlib.Core.Path.{_≡_};
 ghost use Prim.Native.Nat.{_≤_};
 ghost use Rattle.cell.specs.declared.Judged.the-variants as judged;
 ghost use Rattle.areas.specs.Areas as areas;
-ghost use Rattle.areas.specs.Bounds as bounds;
-use crate::Area;
-use crate::Areas;
-use crate::judging::is_none;
+ghost use Rattle.bounds.specs.Bounds as bounds;
+use areas::Area;
+use areas::Areas;
+use areas::judging::is_none;
 use cell::Address;
 use cell::CellCount;
 use machine::Machine;

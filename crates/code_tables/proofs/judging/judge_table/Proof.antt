@@ -1,8 +1,8 @@
 -- `judge_table` meets its contract.
 use borrow.Author.Needs.{needs}
-use Rattle.areas.proofs.judging.judge_table.Statement.{statement}
-use Rattle.areas.proofs.judging.judge_table.Tie as tie
-use Rattle.areas.specs.Tables as tables
+use Rattle.code_tables.proofs.judging.judge_table.Statement.{statement}
+use Rattle.code_tables.proofs.judging.judge_table.Tie as tie
+use Rattle.code_tables.specs.Tables as tables
 use mathlib.Core.Path.{sym, _∙_}
 
 is-none-given-requires : tie.Need-is-none-given-requires

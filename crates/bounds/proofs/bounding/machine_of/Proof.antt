@@ -1,8 +1,8 @@
 -- `machine_of` meets its contract: without areas the whole memory, else the areas that were taken.
 use borrow.Author.Needs.{needs}
-use Rattle.areas.proofs.bounding.machine_of.Statement.{statement}
-use Rattle.areas.proofs.bounding.machine_of.Tie as tie
+use Rattle.bounds.proofs.bounding.machine_of.Statement.{statement}
+use Rattle.bounds.proofs.bounding.machine_of.Tie as tie
 use Rattle.areas.proofs.AreaLaws.{taken}
 use native.Mathlib.Omega.{arith}
 use mathlib.Core.Path.{sym, _∙_}
 

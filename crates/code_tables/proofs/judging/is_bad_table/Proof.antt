@@ -1,7 +1,7 @@
 -- `is_bad_table` meets its contract.
 use borrow.Author.Needs.{needs}
-use Rattle.areas.proofs.judging.is_bad_table.Statement.{statement}
-use Rattle.areas.proofs.judging.is_bad_table.Tie as tie
+use Rattle.code_tables.proofs.judging.is_bad_table.Statement.{statement}
+use Rattle.code_tables.proofs.judging.is_bad_table.Tie as tie
 use borrow.Author.Tests.{eq-eqb, ne-eqb, lt-ltb, le-ltb}
 
 returns : tie.Need-returns

@@ -1,0 +1,2 @@
+-- The laws of what bounds a machine.
+pub mod BoundLaws

@@ -1,0 +1,2 @@
+-- What crate `bounds` means.
+pub mod Bounds

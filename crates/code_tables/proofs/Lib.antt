@@ -1,0 +1,2 @@
+-- The laws of a table.
+pub mod TableLaws

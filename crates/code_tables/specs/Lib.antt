@@ -1,0 +1,2 @@
+-- What crate `code_tables` means.
+pub mod Tables

@@ -1,0 +1,2 @@
+// The judgement of the table that an office sets.
+pub mod judging;
