@@ -18,9 +18,9 @@ use Rattle.machine.specs.declared.Table.{Table}
 use Rattle.areas.specs.Areas.{filed as withAreas}
 use Rattle.bounds.specs.Bounds.{judgeBounded, machineOf, firstSp, firstRp}
 use Rattle.areas.specs.declared.Areas.{Areas}
-use Rattle.processor.specs.Starting.{fourCells, startOf}
-use Rattle.processor.specs.Answers.{startedTo, startAnswer}
-use Rattle.processor.specs.declared.Started.the-variants.{Ready}
+use Rattle.processor_start.specs.Starting.{fourCells, startOf}
+use Rattle.processor_start.specs.Answers.{startedTo, startAnswer}
+use Rattle.processor_start.specs.declared.Started.the-variants.{Ready}
 use Rattle.pack_layout.specs.Listing.{Listing}
 use Rattle.pack_layout.specs.Packing.{imageCells, Legal}
 use Rattle.pack_layout.proofs.Listing.{some-item}

@@ -14,9 +14,9 @@ use Rattle.areas.specs.Areas.{judgeAreas, filed as withAreas}
 use Rattle.code_tables.specs.Tables.{judgeTable}
 use Rattle.bounds.specs.Bounds.{judgeBounded, machineOf, firstSp, firstRp}
 use Rattle.areas.specs.declared.Areas.{Areas}
-use Rattle.processor.specs.Answers.{startedTo, startAnswer}
-use Rattle.processor.specs.Starting.{fourCells}
-use Rattle.processor.specs.declared.Started.the-variants.{Ready}
+use Rattle.processor_start.specs.Answers.{startedTo, startAnswer}
+use Rattle.processor_start.specs.Starting.{fourCells}
+use Rattle.processor_start.specs.declared.Started.the-variants.{Ready}
 use Rattle.pack_layout.specs.Listing.{Listing, listed}
 use Rattle.pack_layout.specs.File.{filed, fileBase}
 use Rattle.packer.specs.Pack.{PackResult, packOf}

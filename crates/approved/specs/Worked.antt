@@ -7,7 +7,8 @@ use lib.Seq.{sets}
 use Rattle.machine.specs.Places.{tableOf}
 use Rattle.machine.specs.declared.Table.{Table}
 use Rattle.areas.specs.Areas.{noAreas}
-use Rattle.processor.specs.Answers.{StartAnswer, startAnswer, RunAnswer, givenOf, runAnswer}
+use Rattle.processor_start.specs.Answers.{StartAnswer, startAnswer}
+use Rattle.processor.specs.Answers.{RunAnswer, givenOf, runAnswer}
 use Rattle.packer.specs.Pack.{PackResult, packOf}
 use Rattle.module.specs.Answers.{SaveResult, saveOf, LoadResult, loadOf}
 use Rattle.module_laws.specs.Theorems.{savedFile}

@@ -16,7 +16,8 @@ use Rattle.areas.specs.Areas.{noAreas, judgeAreas}
 use Rattle.code_tables.specs.Tables.{judgeTable}
 use Rattle.bounds.specs.Bounds.{judgeBounded, machineOf}
 use Rattle.cycles.specs.Counts.{begun}
-use Rattle.processor.specs.Answers.{startedAs, startIf, startAnswer, cycledAs, cycleIf, cycleAnswer, ranAs, givenOf, runIf, runAnswer}
+use Rattle.processor_start.specs.Answers.{startedAs, startIf, startAnswer}
+use Rattle.processor.specs.Answers.{cycledAs, cycleIf, cycleAnswer, ranAs, givenOf, runIf, runAnswer}
 use Rattle.pack_layout.specs.Listing.{Listing, listed}
 use Rattle.list_machine.specs.Runs.{resuming}
 use Rattle.list_proposing.specs.Stands.{positionOf}

@@ -14,7 +14,7 @@ use Rattle.instruction.specs.Dispatch.{OperandClass, next, plain, taking, opera
 use Rattle.instruction.specs.declared.Instruction.{Instruction}
 use Rattle.cycles.specs.Cycles.{shifted, cycleOf, advanced, advance, cyclesOf}
 use Rattle.cycles.specs.Counts.{begun, doneOf}
-use Rattle.processor.specs.Starting.{startOf}
+use Rattle.processor_start.specs.Starting.{startOf}
 use Rattle.processor_laws.proofs.CycleLength.{execute-length, advance-keeps-length}
 use Rattle.before_tables.proofs.PlainLaws.{same-plain}
 use Rattle.before_tables.proofs.TakingLaws.{same-taking-at}

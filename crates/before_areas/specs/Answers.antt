@@ -12,9 +12,10 @@ use Rattle.machine.specs.declared.Ended.the-variants.{Went, Threw, Stopped}
 use Rattle.areas.specs.Areas.{noAreas, filed}
 use Rattle.areas.specs.declared.RegisterFile.{RegisterFile}
 use Rattle.cycles.specs.Counts.{begun}
-use Rattle.processor.specs.Answers.{StartAnswer, startedTo, CycleAnswer, cycledTo, RunAnswer, ranTo}
-use Rattle.processor.specs.declared.Started.{Started}
-use Rattle.processor.specs.declared.Started.the-variants as started
+use Rattle.processor_start.specs.Answers.{StartAnswer, startedTo}
+use Rattle.processor.specs.Answers.{CycleAnswer, cycledTo, RunAnswer, ranTo}
+use Rattle.processor_start.specs.declared.Started.{Started}
+use Rattle.processor_start.specs.declared.Started.the-variants as started
 use Rattle.processor.specs.declared.Cycled.{Cycled}
 use Rattle.processor.specs.declared.Cycled.the-variants as cycled
 use Rattle.processor.specs.declared.Ran.{Ran}

@@ -7,8 +7,8 @@ use Rattle.cell.specs.Refusals.{judgeMachine, refusalNumber}
 use Rattle.cell.specs.declared.Judged.{Judged}
 use Rattle.cell.specs.declared.Judged.the-variants as judged
 use Rattle.machine.specs.declared.Registers.{Registers}
-use Rattle.processor.specs.declared.Started.{Started}
-use Rattle.processor.specs.declared.Started.the-variants as started
+use Rattle.processor_start.specs.declared.Started.{Started}
+use Rattle.processor_start.specs.declared.Started.the-variants as started
 use Rattle.processor.specs.declared.Cycled.{Cycled}
 use Rattle.processor.specs.declared.Cycled.the-variants as cycled
 use Rattle.processor.specs.declared.Ran.{Ran}

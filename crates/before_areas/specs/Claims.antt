@@ -12,8 +12,9 @@ use Rattle.machine.specs.declared.Registers.{Registers}
 use Rattle.cycles.specs.Cycles.{cycleOf, cyclesOf}
 use Rattle.cycles.specs.Counts.{begun, doneOf}
 use Rattle.areas.specs.Areas.{noAreas}
-use Rattle.processor.specs.Starting.{startOf}
-use Rattle.processor.specs.Answers.{startAnswer, cycleAnswer, givenOf, runAnswer}
+use Rattle.processor_start.specs.Starting.{startOf}
+use Rattle.processor_start.specs.Answers.{startAnswer}
+use Rattle.processor.specs.Answers.{cycleAnswer, givenOf, runAnswer}
 use Rattle.pack_layout.specs.Listing.{Listing}
 use Rattle.list_machine.specs.Runs.{Run, runOf}
 use Rattle.list_proposing.specs.declared.Stand.{Stand}

@@ -15,7 +15,8 @@ use Rattle.bounds.specs.Bounds.{judgeBounded, machineOf, firstSp, firstRp}
 use Rattle.areas.specs.declared.Areas.{Areas}
 use Rattle.areas.specs.declared.RegisterFile.{RegisterFile}
 use Rattle.cycles.specs.Counts.{begun}
-use Rattle.processor.specs.Answers.{startIf, startAnswer, cycleIf, cycleAnswer, givenOf, runIf, runAnswer}
+use Rattle.processor_start.specs.Answers.{startIf, startAnswer}
+use Rattle.processor.specs.Answers.{cycleIf, cycleAnswer, givenOf, runIf, runAnswer}
 use Rattle.pack_layout.specs.Listing.{Listing, listed}
 use Rattle.list_machine.specs.Runs.{resuming}
 use Rattle.list_proposing.specs.Stands.{positionOf}

@@ -11,7 +11,7 @@ use Rattle.instruction.specs.Dispatch.{OperandClass, next, plain, taking, opera
 use Rattle.instruction.specs.declared.Instruction.{Instruction}
 use Rattle.cycles.specs.Cycles.{shifted, cycleOf, advanced, advance, cyclesOf}
 use Rattle.cycles.specs.Counts.{doneOf}
-use Rattle.processor.specs.Starting.{startOf}
+use Rattle.processor_start.specs.Starting.{startOf}
 use Rattle.before_tables.specs.Throws.{exceptionBefore}
 use Rattle.before_tables.specs.Cycles.{executedBefore, cycleBefore, advancedBefore, advanceBefore, cyclesBefore, doneBefore, startBefore}
 use Rattle.before_tables.specs.Claims.{Taken, untabled, before, SameStart, SameCycle, SameCycles, SameDone}

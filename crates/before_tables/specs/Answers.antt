@@ -11,8 +11,9 @@ use Rattle.bounds.specs.Bounds.{firstSp, firstRp}
 use Rattle.areas.specs.declared.Areas.{Areas}
 use Rattle.areas.specs.declared.RegisterFile.{RegisterFile}
 use Rattle.cycles.specs.Counts.{begun}
-use Rattle.processor.specs.Answers.{StartAnswer, startedTo, startedAs, CycleAnswer, cycledTo, cycledAs, RunAnswer, ranTo, runFor}
-use Rattle.processor.specs.declared.Started.the-variants as started
+use Rattle.processor_start.specs.Answers.{StartAnswer, startedTo, startedAs}
+use Rattle.processor.specs.Answers.{CycleAnswer, cycledTo, cycledAs, RunAnswer, ranTo, runFor}
+use Rattle.processor_start.specs.declared.Started.the-variants as started
 use Rattle.processor.specs.declared.Cycled.the-variants as cycled
 use Rattle.processor.specs.declared.Ran.the-variants as ran
 use Rattle.pack_layout.specs.Listing.{Listing, listed, judgedArrays}

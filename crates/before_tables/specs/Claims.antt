@@ -19,8 +19,9 @@ use Rattle.areas.specs.declared.Areas.{Areas}
 use Rattle.areas.specs.declared.RegisterFile.{RegisterFile}
 use Rattle.cycles.specs.Cycles.{cycleOf, cyclesOf}
 use Rattle.cycles.specs.Counts.{doneOf}
-use Rattle.processor.specs.Starting.{startOf}
-use Rattle.processor.specs.Answers.{startAnswer, cycleAnswer, givenOf, runAnswer}
+use Rattle.processor_start.specs.Starting.{startOf}
+use Rattle.processor_start.specs.Answers.{startAnswer}
+use Rattle.processor.specs.Answers.{cycleAnswer, givenOf, runAnswer}
 use Rattle.pack_layout.specs.Listing.{Listing}
 use Rattle.list_machine.specs.ListMachine.{Position, carryOut}
 use Rattle.list_machine.specs.Runs.{Run, runOf}

@@ -12,12 +12,12 @@ use cell::Judged;
 use cell::judgement::refusal_number;
 use processor::entry::cycle;
 use processor::entry::run;
-use processor::entry::start;
 use processor_calls::machines::judge_call;
 use processor_calls::machines::judge_with;
 use processor_calls::machines::tell_cycled;
 use processor_calls::machines::tell_ran;
 use processor_calls::machines::tell_started;
+use processor_start::entry::start;
 
 #[no_mangle]
 pub extern "C" fn beetle_start(

@@ -1,3 +1,2 @@
 -- What crate `processor` means.
-pub mod Starting
 pub mod Answers

@@ -1,16 +1,9 @@
-// The processor: start, cycle and run.
+// The processor: cycle and run.
 pub mod entry;
 
 use areas::RegisterFile;
 use cell::Refusal;
 use machine::Exception;
-
-// What start answers. A refusal stands for zero registers.
-pub enum Started {
-    Refused(Refusal),
-    Ready(RegisterFile),
-    Stopped(RegisterFile, u32),
-}
 
 // What a cycle answers. A refusal stands for the registers as given.
 pub enum Cycled {

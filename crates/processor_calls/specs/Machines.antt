@@ -10,9 +10,10 @@ use Rattle.machine.specs.declared.Table.{Table}
 use Rattle.bounds.specs.Bounds.{judgeBounded}
 use Rattle.areas.specs.declared.Areas.{Areas}
 use Rattle.areas.specs.declared.RegisterFile.{RegisterFile}
-use Rattle.processor.specs.Answers.{startNumber, startReason, startRegisters, startAnswer, cycleNumber, cycleReason, cycleRegisters, cycleAnswer, runNumber, runReason, runRegisters, runCount, Given, runAnswer}
-use Rattle.processor.specs.declared.Started.{Started}
-use Rattle.processor.specs.declared.Started.the-variants as started
+use Rattle.processor_start.specs.Answers.{startNumber, startReason, startRegisters, startAnswer}
+use Rattle.processor.specs.Answers.{cycleNumber, cycleReason, cycleRegisters, cycleAnswer, runNumber, runReason, runRegisters, runCount, Given, runAnswer}
+use Rattle.processor_start.specs.declared.Started.{Started}
+use Rattle.processor_start.specs.declared.Started.the-variants as started
 use Rattle.processor.specs.declared.Cycled.{Cycled}
 use Rattle.processor.specs.declared.Cycled.the-variants as cycled
 use Rattle.processor.specs.declared.Ran.{Ran}

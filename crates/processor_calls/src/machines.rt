@@ -15,7 +15,7 @@ use cell::judgement::refusal_number;
 use machine::Table;
 use processor::Cycled;
 use processor::Ran;
-use processor::Started;
+use processor_start::Started;
 
 pub fn judge_call(
     length: usize,

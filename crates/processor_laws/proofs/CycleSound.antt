@@ -20,7 +20,7 @@ use Rattle.instruction.specs.declared.OperandForm.the-variants.{InCell, Immedia
 use Rattle.instruction.specs.declared.Instruction.{Instruction}
 use Rattle.instruction.specs.Dispatch.{OperandClass, next, plain, taking, operandClass, taken, executed, executeOf, decodeOf}
 use Rattle.cycles.specs.Cycles.{shifted, cycleOf, advanced, advance, cyclesOf}
-use Rattle.processor.specs.Starting.{fourCells, startOf}
+use Rattle.processor_start.specs.Starting.{fourCells, startOf}
 use Rattle.processor_laws.specs.Soundness.{Sound, SoundStepped, SoundState}
 use Rattle.processor_laws.proofs.NumberBounds.{sum-below, asr8-below}
 use Rattle.processor_laws.proofs.PlainBounds.{plain-bounded}

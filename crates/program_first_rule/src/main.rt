@@ -6,9 +6,9 @@ use cell::CellCount;
 use libc::STDOUT_FILENO;
 use machine::Table;
 use processor::Ran;
-use processor::Started;
 use processor::entry::run;
-use processor::entry::start;
+use processor_start::Started;
+use processor_start::entry::start;
 use program_print::print_digits;
 
 fn main() {

@@ -14,8 +14,9 @@ use Rattle.machine.specs.declared.Machine.{Machine}
 use Rattle.bounds.specs.Bounds.{judgeBounded, machineOf, firstSp, firstRp}
 use Rattle.cycles.specs.Cycles.{cycleOf}
 use Rattle.cycles.specs.Counts.{begun, doneOf}
-use Rattle.processor.specs.Starting.{fourCells, startOf}
-use Rattle.processor.specs.Answers.{machineIn, judgeRun, startIf, startAnswer, cycleIf, cycleAnswer, runIf, runAnswer}
+use Rattle.processor_start.specs.Starting.{fourCells, startOf}
+use Rattle.processor_start.specs.Answers.{startIf, startAnswer}
+use Rattle.processor.specs.Answers.{machineIn, judgeRun, cycleIf, cycleAnswer, runIf, runAnswer}
 use Rattle.area_laws.proofs.Untouched.{next-leaves, cycle-leaves}
 use Rattle.table_laws.specs.Keeping.{Keeps, StartKeeps, CycleKeeps, RunKeeps}
 use Rattle.table_laws.proofs.Tables.{Starts, push-misses, cycle-misses, keeps, cycles-keep}

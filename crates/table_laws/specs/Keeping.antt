@@ -19,7 +19,8 @@ use Rattle.bounds.specs.Bounds.{judgeBounded, machineOf}
 use Rattle.areas.specs.declared.Areas.{Areas}
 use Rattle.areas.specs.declared.RegisterFile.{RegisterFile}
 use Rattle.cycles.specs.Cycles.{cyclesOf}
-use Rattle.processor.specs.Answers.{Given, startAnswer, cycleAnswer, runAnswer}
+use Rattle.processor_start.specs.Answers.{startAnswer}
+use Rattle.processor.specs.Answers.{Given, cycleAnswer, runAnswer}
 use Rattle.pack_layout.specs.Listing.{Listing}
 use Rattle.list_machine.specs.Runs.{Run, runOf}
 use Rattle.list_proposing.specs.declared.Stand.{Stand}

@@ -19,9 +19,10 @@ use Rattle.instruction.specs.Counting.{plusEnds}
 use Rattle.instruction.specs.Taking.{takingOf}
 use Rattle.instruction.specs.Dispatch.{decodeOf, executeOf}
 use Rattle.cycles.specs.Cycles.{cycleOf, advance, cyclesOf}
-use Rattle.processor.specs.Starting.{startOf}
+use Rattle.processor_start.specs.Starting.{startOf}
 use Rattle.cycles.specs.Counts.{doneOf}
-use Rattle.processor.specs.Answers.{startAnswer, cycleAnswer, runAnswer}
+use Rattle.processor_start.specs.Answers.{startAnswer}
+use Rattle.processor.specs.Answers.{cycleAnswer, runAnswer}
 use Rattle.pack_layout.specs.Kinds.{classOf}
 use Rattle.pack_layout.specs.Bytes.{fits, pack}
 use Rattle.pack_layout.specs.Listing.{any, entry, judgedFrom, judgedListing, judgedArrays}

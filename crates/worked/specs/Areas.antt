@@ -6,7 +6,8 @@ use Rattle.machine.specs.Places.{noTable}
 use Rattle.areas.specs.Areas.{areasOf, filed}
 use Rattle.areas.specs.declared.Areas.{Areas}
 use Rattle.areas.specs.declared.RegisterFile.{RegisterFile}
-use Rattle.processor.specs.Answers.{StartAnswer, startAnswer, CycleAnswer, cycleAnswer, RunAnswer, givenOf, runAnswer}
+use Rattle.processor_start.specs.Answers.{StartAnswer, startAnswer}
+use Rattle.processor.specs.Answers.{CycleAnswer, cycleAnswer, RunAnswer, givenOf, runAnswer}
 use Rattle.worked.specs.Rows.{Row, numbers, lists}
 use Rattle.worked.specs.Processor.{blank}
 use Rattle.worked.specs.Cycling.{small, setUp, holding, registersAt, cycled, moved, goes, throws, raises, stops}

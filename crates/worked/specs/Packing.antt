@@ -4,7 +4,8 @@ use Prim.Native.Nat.{ℕ, _+_}
 use Rattle.cell.specs.Memory.{storeCell}
 use Rattle.machine.specs.Places.{noTable}
 use Rattle.areas.specs.Areas.{noAreas}
-use Rattle.processor.specs.Answers.{StartAnswer, startAnswer, RunAnswer, givenOf, runAnswer}
+use Rattle.processor_start.specs.Answers.{StartAnswer, startAnswer}
+use Rattle.processor.specs.Answers.{RunAnswer, givenOf, runAnswer}
 use Rattle.pack_layout.specs.Worked as packed
 use Rattle.worked.specs.Rows.{Row, numbers, lists}
 use Rattle.worked.specs.Processor.{blank}

@@ -5,7 +5,8 @@ use lib.ListN.{replicate}
 use Rattle.cell.specs.Memory.{cellAt, storeCell}
 use Rattle.machine.specs.Places.{noTable}
 use Rattle.areas.specs.Areas.{noAreas, filed}
-use Rattle.processor.specs.Answers.{StartAnswer, startAnswer, CycleAnswer, cycleAnswer}
+use Rattle.processor_start.specs.Answers.{StartAnswer, startAnswer}
+use Rattle.processor.specs.Answers.{CycleAnswer, cycleAnswer}
 use Rattle.worked.specs.Rows.{Row, numbers, lists}
 
 -- a memory of 400h bytes, all 0

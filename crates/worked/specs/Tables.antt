@@ -15,7 +15,8 @@ use Rattle.machine.specs.declared.Access.the-variants.{DataRead, DataWrite, Ret
 use Rattle.areas.specs.Areas.{areasOf}
 use Rattle.bounds.specs.Bounds.{machineOf}
 use Rattle.areas.specs.declared.Areas.{Areas}
-use Rattle.processor.specs.Answers.{StartAnswer, startAnswer, CycleAnswer, RunAnswer, givenOf, runAnswer}
+use Rattle.processor_start.specs.Answers.{StartAnswer, startAnswer}
+use Rattle.processor.specs.Answers.{CycleAnswer, RunAnswer, givenOf, runAnswer}
 use Rattle.worked.specs.Rows.{Claim, Row, numbers, lists}
 use Rattle.worked.specs.Cycling.{small, setUp, holding, registersAt, cycled, moved, goes, throws, raises, stops}
 

@@ -1,7 +1,7 @@
 -- `started_as` meets its contract, by how the last cycle ended.
 use borrow.Author.Needs.{needs}
-use Rattle.processor.proofs.entry.started_as.Statement.{statement}
-use Rattle.processor.proofs.entry.started_as.Tie as tie
+use Rattle.processor_start.proofs.entry.started_as.Statement.{statement}
+use Rattle.processor_start.proofs.entry.started_as.Tie as tie
 
 enum-told : tie.Need-enum-told
 enum-told c = search needs

@@ -1,8 +1,8 @@
 -- `begin` meets its contract: the four cells, then NEXT.
 use borrow.Author.Needs.{needs}
-use Rattle.processor.proofs.entry.begin.Statement.{statement}
-use Rattle.processor.proofs.entry.begin.Tie as tie
-use Rattle.processor.specs.Starting as starting
+use Rattle.processor_start.proofs.entry.begin.Statement.{statement}
+use Rattle.processor_start.proofs.entry.begin.Tie as tie
+use Rattle.processor_start.specs.Starting as starting
 
 cast-length : tie.Need-cast-length
 cast-length c = search needs

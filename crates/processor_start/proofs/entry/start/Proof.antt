@@ -4,10 +4,10 @@ use native.Mathlib.Omega.{arith}
 use denote.Ref.{now}
 use lib.ListN.{length}
 use Rattle.bounds.proofs.BoundLaws.{lent, areas-pass, passed-fits}
-use Rattle.processor.specs.Answers as answers
+use Rattle.processor_start.specs.Answers as answers
 use borrow.Author.Needs.{needs}
-use Rattle.processor.proofs.entry.start.Statement.{statement}
-use Rattle.processor.proofs.entry.start.Tie as tie
+use Rattle.processor_start.proofs.entry.start.Statement.{statement}
+use Rattle.processor_start.proofs.entry.start.Tie as tie
 
 judge-bounded-requires : tie.Need-judge-bounded-requires
 judge-bounded-requires c κs = search needs

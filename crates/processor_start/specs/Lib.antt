@@ -1,0 +1,3 @@
+-- What crate `processor_start` means.
+pub mod Starting
+pub mod Answers
