@@ -15,7 +15,8 @@ use Rattle.areas.specs.declared.Areas.{Areas}
 use Rattle.pack_layout.specs.Listing.{Listing}
 use Rattle.pack_layout.specs.Packing.{image, imageCells, Legal}
 use Rattle.packer.specs.Pack.{PackResult}
-use Rattle.module.specs.Answers.{saveOf, loadOf}
+use Rattle.module_loading.specs.Answers.{loadOf}
+use Rattle.module_saving.specs.Answers.{saveOf}
 use Rattle.module_laws.specs.Theorems.{savedFile}
 use Rattle.module_judging.proofs.ConditionLaws.{good-machine}
 use Rattle.module_laws.proofs.Theorems.{saved-loads}

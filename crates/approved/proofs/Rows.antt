@@ -32,8 +32,9 @@ use Rattle.packer.specs.Judgement.{judgeOrder, judgeRoom, judgePack}
 use Rattle.packer.specs.Pack.{packOf}
 use Rattle.module_judging.specs.Format.{countOf, headerOf, moduleOf}
 use Rattle.module_judging.specs.Grounds.{judgeLoad, judgeSave}
-use Rattle.module.specs.Copies.{copied}
-use Rattle.module.specs.Answers.{loadOf, saveOf}
+use Rattle.module_copying.specs.Copies.{copied}
+use Rattle.module_loading.specs.Answers.{loadOf}
+use Rattle.module_saving.specs.Answers.{saveOf}
 use Rattle.approved.specs.Worked.{ways, expected}
 
 pub from-least-first : ways 0 ≡ replicate 2 expected

@@ -23,7 +23,8 @@ use Rattle.packer.specs.Pack.{PackResult, packOf}
 use Rattle.pack_files.specs.Files.{packFileOf}
 use Rattle.short_judging.specs.ShortFile.{shortBase, shortListing}
 use Rattle.short_packing.specs.Packing.{packShortOf}
-use Rattle.module.specs.Answers.{saveOf, LoadResult, loadOf}
+use Rattle.module_loading.specs.Answers.{LoadResult, loadOf}
+use Rattle.module_saving.specs.Answers.{saveOf}
 use Rattle.module_judging.specs.Conditions.{GoodPlace}
 use Rattle.module_laws.specs.Theorems.{savedFile}
 use Rattle.list_machine.specs.Runs.{runOf, beginning}

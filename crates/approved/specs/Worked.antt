@@ -10,7 +10,8 @@ use Rattle.areas.specs.Areas.{noAreas}
 use Rattle.processor_start.specs.Answers.{StartAnswer, startAnswer}
 use Rattle.processor.specs.Answers.{RunAnswer, givenOf, runAnswer}
 use Rattle.packer.specs.Pack.{PackResult, packOf}
-use Rattle.module.specs.Answers.{SaveResult, saveOf, LoadResult, loadOf}
+use Rattle.module_loading.specs.Answers.{LoadResult, loadOf}
+use Rattle.module_saving.specs.Answers.{SaveResult, saveOf}
 use Rattle.module_laws.specs.Theorems.{savedFile}
 
 abbrev pub blank : List ℕ

@@ -3,7 +3,7 @@ use mathlib.Core.Path.{_≡_}
 use mathlib.Core.List.{List}
 use Prim.Native.Nat.{ℕ, _≤_}
 use Rattle.module_judging.specs.Format.{countOf}
-use Rattle.module.proofs.AnswerLaws.{first-whole}
+use Rattle.module_loading.proofs.AnswerLaws.{first-whole}
 use Rattle.calls.specs.Modules.{loadCall, loadFirstCall}
 
 pub first-call-whole : (order : ℕ) (m file : List ℕ) (a k : ℕ) (out : List ℕ) → countOf file ≤ k

@@ -6,11 +6,12 @@ use Rattle.cell.specs.Refusals.{refusalNumber}
 use Rattle.cell.specs.declared.Judged.{Judged}
 use Rattle.cell.specs.declared.Judged.the-variants as judged
 use Rattle.module_judging.specs.Grounds.{judgeLoad, judgeSave}
-use Rattle.module.specs.Answers.{LoadResult, loadOf, loadFirstOf, saveOf}
-use Rattle.module.specs.declared.Loaded.{Loaded}
-use Rattle.module.specs.declared.Loaded.the-variants as loaded
-use Rattle.module.specs.declared.Saved.{Saved}
-use Rattle.module.specs.declared.Saved.the-variants as saved
+use Rattle.module_loading.specs.Answers.{LoadResult, loadOf, loadFirstOf}
+use Rattle.module_saving.specs.Answers.{saveOf}
+use Rattle.module_loading.specs.declared.Loaded.{Loaded}
+use Rattle.module_loading.specs.declared.Loaded.the-variants as loaded
+use Rattle.module_saving.specs.declared.Saved.{Saved}
+use Rattle.module_saving.specs.declared.Saved.the-variants as saved
 use Rattle.calls.specs.Lending.{written, withRoom}
 
 -- what is left in `out`, and the number answered

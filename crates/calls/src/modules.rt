@@ -5,8 +5,8 @@ ghost use lib.ListN.{length};
 ghost use Rattle.calls.specs.Modules as modules;
 use crate::lending::write_one;
 use cell::judgement::refusal_number;
-use module::Loaded;
-use module::Saved;
+use module_loading::Loaded;
+use module_saving::Saved;
 
 pub fn note_loaded(answer: Loaded, out: &mut [u32]) -> u32
     requires { ⌜ 1 ≤ length (now out) ⌝ }

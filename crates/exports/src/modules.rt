@@ -8,10 +8,10 @@ use cell::Address;
 use cell::CellCount;
 use cell::Judged;
 use cell::judgement::refusal_number;
-use module::loading::load_first;
-use module::saving::save_object;
 use module_judging::judgement::judge_load;
 use module_judging::judgement::judge_save;
+use module_loading::loading::load_first;
+use module_saving::saving::save_object;
 
 #[no_mangle]
 pub extern "C" fn beetle_load_first(

@@ -9,8 +9,8 @@ use Rattle.cell.specs.Memory.{cellAt, Bytewise}
 use Rattle.cell.proofs.BytesLaws.{join-bytes}
 use Rattle.module_judging.specs.Format.{title, orderOf, countOf, codeOf, headerOf, moduleOf}
 use Rattle.module_judging.specs.Conditions.{GoodFile}
-use Rattle.module.proofs.AnswerLaws.{header-length}
-use Rattle.module.proofs.SameLaws.{cell-bytes}
+use Rattle.module_saving.proofs.AnswerLaws.{header-length}
+use Rattle.module_copying.proofs.SameLaws.{cell-bytes}
 
 module _ (order : ℕ) (m : List ℕ) (b l : ℕ) where
   pub module-length : b + 4 * l ≤ length m → length (moduleOf order m b l) ≡ 12 + 4 * l

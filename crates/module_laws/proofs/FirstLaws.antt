@@ -11,11 +11,11 @@ use Rattle.cell.specs.declared.Judged.the-variants as judged
 use Rattle.module_judging.specs.Format.{orderOf, countOf, codeOf}
 use Rattle.module_judging.specs.Grounds.{judgeLoad}
 use Rattle.module_judging.proofs.ConditionLaws.{load-good}
-use Rattle.module.specs.Copies.{copied}
-use Rattle.module.specs.Answers.{loadIf, loadOf, loadFirstOf}
-use Rattle.module.proofs.CopyLaws.{copied-length}
-use Rattle.module.proofs.PlaceLaws.{placed-before, placed-from, placed-after, turned, turned-length, turned-first, copied-placed}
-use Rattle.module.proofs.AnswerLaws.{first-whole}
+use Rattle.module_copying.specs.Copies.{copied}
+use Rattle.module_loading.specs.Answers.{loadIf, loadOf, loadFirstOf}
+use Rattle.module_copying.proofs.CopyLaws.{copied-length}
+use Rattle.module_copying.proofs.PlaceLaws.{placed-before, placed-from, placed-after, turned, turned-length, turned-first, copied-placed}
+use Rattle.module_loading.proofs.AnswerLaws.{first-whole}
 use Rattle.module_laws.proofs.Theorems.{accepted-exactly, load-memory, first-loads}
 use Rattle.module_laws.specs.Firsts.{cellsFrom, HaltedAfter, FirstCells, AllCells, storedFrom, RestByCells, LoadedFurther}
 

@@ -11,19 +11,20 @@ use Rattle.cell.specs.Refusals.{GoodMachine}
 use Rattle.cell.proofs.JudgementLaws.{refusal-some}
 use Rattle.cell.specs.declared.Judged.{Judged}
 use Rattle.cell.specs.declared.Judged.the-variants as judged
-use Rattle.module.specs.declared.Loaded.the-variants as loaded
-use Rattle.module.specs.declared.Saved.the-variants.{Bytes}
+use Rattle.module_loading.specs.declared.Loaded.the-variants as loaded
+use Rattle.module_saving.specs.declared.Saved.the-variants.{Bytes}
 use Rattle.module_judging.specs.Format.{orderOf, countOf, codeOf, headerOf, moduleOf}
 use Rattle.module_judging.specs.Grounds.{judgeLoad, judgeSave}
-use Rattle.module.specs.Copies.{copied}
-use Rattle.module.specs.Answers.{LoadResult, loadedTo, loadIf, loadOf, loadFirstOf, saveIf, savedTo, saveOf}
+use Rattle.module_copying.specs.Copies.{copied}
+use Rattle.module_loading.specs.Answers.{LoadResult, loadedTo, loadIf, loadOf, loadFirstOf}
+use Rattle.module_saving.specs.Answers.{saveIf, savedTo, saveOf}
 use Rattle.module_judging.specs.Conditions.{GoodPlace, Loadable, Savable}
 use Rattle.module_laws.specs.Theorems.{AcceptedExactly, SavedExactly, savedFile, SameCells, SavedLoads, LoadedSaves}
 use Rattle.module_laws.specs.Firsts.{SavedLoadsFirst}
-use Rattle.module.proofs.AnswerLaws.{first-whole}
+use Rattle.module_loading.proofs.AnswerLaws.{first-whole}
 use Rattle.module_judging.proofs.ConditionLaws.{load-good, good-load, save-good, good-save}
-use Rattle.module.proofs.CopyLaws.{copied-length, copied-apart, copied-cell}
-use Rattle.module.proofs.SameLaws.{copied-same, drop-bytewise, take-bytewise}
+use Rattle.module_copying.proofs.CopyLaws.{copied-length, copied-apart, copied-cell}
+use Rattle.module_copying.proofs.SameLaws.{copied-same, drop-bytewise, take-bytewise}
 use Rattle.module_laws.proofs.FileLaws.{module-length, module-code, module-order, module-count, module-good, module-cell, header-back}
 
 load-passed : (order : ℕ) (m file : List ℕ) (a n : ℕ) (j : Judged) → loadIf j order m file a n .number ≡ 0 → j ≡ judged.Passed

@@ -8,7 +8,8 @@ use Rattle.cell.specs.Memory.{cellAt, storeCell, Bytewise}
 use Rattle.cell.specs.Refusals.{GoodMachine}
 use Rattle.module_judging.specs.Format.{orderOf, countOf, codeOf}
 use Rattle.module_judging.specs.Conditions.{GoodPlace}
-use Rattle.module.specs.Answers.{LoadResult, loadOf, loadFirstOf, saveOf}
+use Rattle.module_loading.specs.Answers.{LoadResult, loadOf, loadFirstOf}
+use Rattle.module_saving.specs.Answers.{saveOf}
 use Rattle.module_laws.specs.Theorems.{savedFile, SameCells}
 
 -- the bytes of one memory on the n cells from byte address a on, and of another, the lent one, elsewhere

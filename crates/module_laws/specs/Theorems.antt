@@ -6,9 +6,10 @@ use Prim.Native.Nat.{ℕ, _+_, _*_, _≤_, _<_}
 use lib.ListN.{length, take, drop}
 use Rattle.cell.specs.Memory.{cellAt, Alike, Bytewise}
 use Rattle.cell.specs.Refusals.{GoodMachine}
-use Rattle.module.specs.declared.Saved.the-variants.{Bytes}
+use Rattle.module_saving.specs.declared.Saved.the-variants.{Bytes}
 use Rattle.module_judging.specs.Format.{orderOf, countOf}
-use Rattle.module.specs.Answers.{LoadResult, loadOf, SaveResult, savedTo, saveOf}
+use Rattle.module_loading.specs.Answers.{LoadResult, loadOf}
+use Rattle.module_saving.specs.Answers.{SaveResult, savedTo, saveOf}
 use Rattle.module_judging.specs.Conditions.{GoodPlace, Loadable, Savable}
 
 -- both ways

@@ -4,9 +4,9 @@ mod printing;
 
 use cell::Address;
 use cell::CellCount;
-use module::loading::load_first;
-use module::loading::load_object;
-use module::saving::save_object;
+use module_loading::loading::load_first;
+use module_loading::loading::load_object;
+use module_saving::saving::save_object;
 use printing::print_front;
 use printing::print_label;
 use printing::print_loaded;

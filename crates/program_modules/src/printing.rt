@@ -3,12 +3,12 @@ use io::print_decimal;
 use io::print_hex;
 use io::write_all;
 use libc::STDOUT_FILENO;
-use module::Loaded;
-use module::Saved;
-use module::answers::load_count;
-use module::answers::load_number;
-use module::answers::save_count;
-use module::answers::save_number;
+use module_loading::Loaded;
+use module_loading::answers::load_count;
+use module_loading::answers::load_number;
+use module_saving::Saved;
+use module_saving::answers::save_count;
+use module_saving::answers::save_number;
 use program_print::print_number;
 
 pub fn print_label(name: &[u8], n: usize) {

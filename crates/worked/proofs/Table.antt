@@ -32,8 +32,8 @@ use Rattle.pack_layout.specs.Rounds.{rounds, settle, settled}
 use Rattle.pack_layout.specs.Packing.{marks, image}
 use Rattle.module_judging.specs.Format.{countOf}
 use Rattle.module_judging.specs.Grounds.{judgeLoad}
-use Rattle.module.specs.Copies.{copied}
-use Rattle.module.specs.Answers.{loadOf, loadFirstOf}
+use Rattle.module_copying.specs.Copies.{copied}
+use Rattle.module_loading.specs.Answers.{loadOf, loadFirstOf}
 use Rattle.worked.specs.Rows.{tableHolds}
 use Rattle.worked.specs.Table.{table}
 

@@ -1,7 +1,7 @@
 -- The rows on modules: one cell of 55h is loaded, between machines of the two byte orders; a load of two cells halts.
 use mathlib.Core.List.{List, [], _∷_, _++_}
 use Prim.Native.Nat.{ℕ}
-use Rattle.module.specs.Rows.{loaded55, bytes55, paper55, haltedAfter, haltedBytes}
+use Rattle.module_loading.specs.Rows.{loaded55, bytes55, paper55, haltedAfter, haltedBytes}
 use Rattle.worked.specs.Rows.{Row, numbers, lists}
 
 -- a load told to halt after k cells: how many went in, and the bytes there

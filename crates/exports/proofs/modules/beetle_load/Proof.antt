@@ -3,7 +3,7 @@ use borrow.Author.Needs.{needs}
 use mathlib.Core.Path.{_∙_}
 use native.Mathlib.Omega.{arith}
 use Rattle.cell.specs.Memory as mem
-use Rattle.module.proofs.AnswerLaws.{count-below}
+use Rattle.module_loading.proofs.AnswerLaws.{count-below}
 use Rattle.calls.proofs.ModuleLaws.{first-call-whole}
 use Rattle.exports.proofs.modules.beetle_load.Statement.{statement}
 use Rattle.exports.proofs.modules.beetle_load.Tie as tie

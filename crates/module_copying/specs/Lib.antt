@@ -1,0 +1,2 @@
+-- What crate `module_copying` means: the copy of the cells.
+pub mod Copies

@@ -1,0 +1,2 @@
+// The cells of a module, copied from one byte order to another.
+pub mod copying;

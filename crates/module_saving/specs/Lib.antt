@@ -1,0 +1,2 @@
+-- What crate `module_saving` means: what a save leaves and answers.
+pub mod Answers
