@@ -16,7 +16,7 @@ use Rattle.areas.specs.declared.Areas.{Areas}
 use Rattle.pack_layout.specs.Listing.{listed}
 use Rattle.pack_layout.specs.Packing.{imageCells, judgedPlace}
 use Rattle.list_proposing.specs.declared.Stand.{Stand}
-use Rattle.list_items.specs.declared.ItemRun.{ItemRun}
+use Rattle.list_counting.specs.declared.ItemRun.{ItemRun}
 use Rattle.list_refusals.specs.Judging.{judgeBegin, judgeImage, judgeFollow}
 use Rattle.list_following.specs.Follow.{FollowResult, followedTo, followIf, resumeIn}
 use Rattle.list_following.specs.declared.Followed.{Followed}

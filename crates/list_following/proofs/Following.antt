@@ -25,10 +25,10 @@ use Rattle.list_tables.specs.Tables.{Rows, Settled}
 use Rattle.list_tables.specs.declared.Image.{Image}
 use Rattle.list_proposing.specs.Stands.{positionOf}
 use Rattle.list_proposing.specs.declared.Stand.{Stand}
-use Rattle.list_items.specs.Outcomes.{courseOf, runAs}
-use Rattle.list_items.specs.declared.Ending.{Ending}
-use Rattle.list_items.specs.declared.Ending.the-variants as ending
-use Rattle.list_items.specs.declared.ItemRun.{ItemRun}
+use Rattle.list_counting.specs.Outcomes.{courseOf, runAs}
+use Rattle.list_counting.specs.declared.Ending.{Ending}
+use Rattle.list_counting.specs.declared.Ending.the-variants as ending
+use Rattle.list_counting.specs.declared.ItemRun.{ItemRun}
 use Rattle.list_refusals.specs.Judging.{judgeBegin, judgeImage, judgeFollow}
 use Rattle.list_following.specs.Follow.{FollowResult, followedTo, endingOf, ranOf, followIf, resumeIn}
 use Rattle.list_following.specs.declared.Followed.the-variants as followed

@@ -13,31 +13,19 @@ use Rattle.bounds.specs.Bounds.{machineOf}
 use Rattle.areas.specs.declared.Areas.{Areas}
 use Rattle.cycles.specs.Counts.{begun}
 use Rattle.pack_layout.specs.Listing.{Listing, listed}
-use Rattle.list_machine.specs.Outsides.{outsideNumber}
 use Rattle.list_machine.specs.ListMachine.{Position}
 use Rattle.list_machine.specs.Runs.{Course, goesOn, stoppedBy, stoodOutside, Run, runOf, resuming}
 use Rattle.list_machine.specs.Demand3.{Holds, firstRegisters, Agree}
 use Rattle.list_proposing.specs.Stands.{positionOf}
 use Rattle.list_proposing.specs.declared.Stand.{Stand}
-use Rattle.list_items.specs.Outcomes.{runAs}
-use Rattle.list_items.specs.declared.Ending.{Ending}
-use Rattle.list_items.specs.declared.Ending.the-variants as ending
-use Rattle.list_items.specs.declared.ItemRun.{ItemRun}
+use Rattle.list_counting.specs.Endings.{endingNumber, endingReason}
+use Rattle.list_counting.specs.Outcomes.{runAs}
+use Rattle.list_counting.specs.declared.Ending.{Ending}
+use Rattle.list_counting.specs.declared.Ending.the-variants as ending
+use Rattle.list_counting.specs.declared.ItemRun.{ItemRun}
 use Rattle.list_refusals.specs.Judging.{judgeFollow}
 use Rattle.list_following.specs.declared.Followed.{Followed}
 use Rattle.list_following.specs.declared.Followed.the-variants as followed
-
--- how a run stands, as a number: 0, all items asked for were carried out; 1, stopped by a reason; 2, outside
-abbrev pub endingNumber : Ending → ℕ
-endingNumber ending.GoesOn = 0
-endingNumber (ending.Stopped x) = 1
-endingNumber (ending.Outside why) = 2
-
--- the reason of a stop, the number of the reason to stand outside, else 0
-abbrev pub endingReason : Ending → ℕ
-endingReason ending.GoesOn = 0
-endingReason (ending.Stopped x) = x
-endingReason (ending.Outside why) = outsideNumber why
 
 -- the number of each answer, and its values: a refusal leaves the stand as it was given, with no items and no cycles
 abbrev pub followNumber : Followed → ℕ

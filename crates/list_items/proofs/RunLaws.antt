@@ -21,12 +21,12 @@ use Rattle.list_tables.specs.declared.Image.{Image}
 use Rattle.list_tables.proofs.TableLaws.{open-is}
 use Rattle.list_proposing.specs.Stands.{positionOf}
 use Rattle.list_proposing.specs.declared.Stand.{Stand}
-use Rattle.list_items.specs.Outcomes.{carriedAs, Left, left, leaves, memoryAfter, courseOf, runAs, begun, counted, isOver}
-use Rattle.list_items.specs.declared.Carried as code
-use Rattle.list_items.specs.declared.Carried.the-variants.{On, Stopped, Outside}
-use Rattle.list_items.specs.declared.Ending.{Ending}
-use Rattle.list_items.specs.declared.Ending.the-variants as ending
-use Rattle.list_items.specs.declared.ItemRun.{ItemRun}
+use Rattle.list_counting.specs.Outcomes.{carriedAs, Left, left, leaves, memoryAfter, courseOf, runAs, begun, counted, isOver}
+use Rattle.list_counting.specs.declared.Carried as code
+use Rattle.list_counting.specs.declared.Carried.the-variants.{On, Stopped, Outside}
+use Rattle.list_counting.specs.declared.Ending.{Ending}
+use Rattle.list_counting.specs.declared.Ending.the-variants as ending
+use Rattle.list_counting.specs.declared.ItemRun.{ItemRun}
 
 module _ (machine : Machine) (base : ℕ) (l : Listing) where
   -- one item more, by what it came to

@@ -18,7 +18,8 @@ use Rattle.list_machine.proofs.Cutting.{cut-in-two, stays-over}
 use Rattle.list_proposing.specs.Stands.{positionOf}
 use Rattle.list_proposing.specs.declared.Stand.{Stand}
 use Rattle.list_refusals.specs.Judging.{judgeFollow}
-use Rattle.list_following.specs.Follow.{FollowResult, endingNumber, followedTo, endingOf, ranOf, followIf, resumeIn}
+use Rattle.list_counting.specs.Endings.{endingNumber}
+use Rattle.list_following.specs.Follow.{FollowResult, followedTo, endingOf, ranOf, followIf, resumeIn}
 use Rattle.list_run.specs.Cutting.{joinedTo, Cut}
 use Rattle.list_following.specs.declared.Followed.the-variants as followed
 

@@ -18,7 +18,7 @@ use Rattle.pack_layout.specs.Packing.{imageCells, judgedPlace}
 use Rattle.list_machine.specs.Runs.{Run, runOf, resuming}
 use Rattle.list_machine.proofs.Simulation.{demand3}
 use Rattle.list_proposing.specs.Stands.{positionOf}
-use Rattle.list_items.specs.declared.ItemRun.{ItemRun}
+use Rattle.list_counting.specs.declared.ItemRun.{ItemRun}
 use Rattle.list_refusals.specs.Judging.{judgeBegin, judgeImage, judgeFollow}
 use Rattle.list_following.specs.Follow.{FollowResult, followedTo, standAt, ranOf, followIf, resumeIn, followOf, AsPacked}
 use Rattle.list_following.specs.declared.Followed.{Followed}

@@ -3,7 +3,7 @@ use mathlib.Core.Path.{ap, _∙_}
 use native.Mathlib.Omega.{arith}
 use denote.Ref.{now}
 use Rattle.list_tables.proofs.TableLaws.{in-rows, is-near, image-near, next-near}
-use Rattle.list_items.specs.Outcomes.{leaves}
+use Rattle.list_counting.specs.Outcomes.{leaves}
 use Rattle.list_items.proofs.CarryLaws.{carry-is}
 use borrow.Author.Needs.{needs}
 use Rattle.list_items.proofs.carrying.carry_out.Statement.{statement}

@@ -1,7 +1,7 @@
 -- `count_item` meets its contract.
 use borrow.Author.Needs.{needs}
-use Rattle.list_items.proofs.running.count_item.Statement.{statement}
-use Rattle.list_items.proofs.running.count_item.Tie as tie
+use Rattle.list_counting.proofs.counting.count_item.Statement.{statement}
+use Rattle.list_counting.proofs.counting.count_item.Tie as tie
 
 enum-known-c : tie.Need-enum-known-c
 enum-known-c c = search needs

@@ -1,8 +1,8 @@
 -- `begin_run` meets its contract.
 use borrow.Author.Tests.{lt-ltb, le-ltb}
 use borrow.Author.Needs.{needs}
-use Rattle.list_items.proofs.running.begin_run.Statement.{statement}
-use Rattle.list_items.proofs.running.begin_run.Tie as tie
+use Rattle.list_counting.proofs.counting.begin_run.Statement.{statement}
+use Rattle.list_counting.proofs.counting.begin_run.Tie as tie
 
 cast-if1 : tie.Need-cast-if1
 cast-if1 c = search needs

@@ -9,11 +9,11 @@ use Rattle.list_machine.specs.ListMachine as lists
 use Rattle.list_machine.specs.Runs as runs
 use Rattle.list_proposing.specs.Stands.{positionOf}
 use Rattle.list_proposing.specs.declared.Stand.{Stand}
-use Rattle.list_items.specs.declared.Carried.{Carried}
-use Rattle.list_items.specs.declared.Carried.the-variants.{On, Stopped, Outside}
-use Rattle.list_items.specs.declared.Ending.{Ending}
-use Rattle.list_items.specs.declared.Ending.the-variants as ending
-use Rattle.list_items.specs.declared.ItemRun.{ItemRun}
+use Rattle.list_counting.specs.declared.Carried.{Carried}
+use Rattle.list_counting.specs.declared.Carried.the-variants.{On, Stopped, Outside}
+use Rattle.list_counting.specs.declared.Ending.{Ending}
+use Rattle.list_counting.specs.declared.Ending.the-variants as ending
+use Rattle.list_counting.specs.declared.ItemRun.{ItemRun}
 
 -- what an item comes to, with the memory m
 abbrev pub carriedAs : List ℕ → Carried → lists.Carried

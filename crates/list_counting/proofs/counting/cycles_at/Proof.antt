@@ -1,8 +1,8 @@
 -- `cycles_at` meets its contract.
 use mathlib.Core.Path.{sym, _∙_}
 use borrow.Author.Needs.{needs}
-use Rattle.list_items.proofs.running.cycles_at.Statement.{statement}
-use Rattle.list_items.proofs.running.cycles_at.Tie as tie
+use Rattle.list_counting.proofs.counting.cycles_at.Statement.{statement}
+use Rattle.list_counting.proofs.counting.cycles_at.Tie as tie
 
 opens-cell-requires : tie.Need-opens-cell-requires
 opens-cell-requires c κs = search needs

@@ -1,0 +1,3 @@
+-- What crate `list_counting` means.
+pub mod Outcomes
+pub mod Endings

@@ -1,2 +1,0 @@
--- What crate `list_items` means.
-pub mod Outcomes
