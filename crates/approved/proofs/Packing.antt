@@ -14,7 +14,7 @@ use Rattle.pack_layout.specs.File.{fileBase, fileCount, fileKinds, fileOperands
 use Rattle.pack_layout.specs.Output.{bytesOf, written}
 use Rattle.pack_layout.specs.Packing.{image, imageCells, judgedPlace, Legal}
 use Rattle.pack_layout.proofs.Packing.{size-is}
-use Rattle.packer.specs.Judgement.{judgeOrder, judgeAll, judgePack}
+use Rattle.pack_refusals.specs.Judgement.{judgeOrder, judgeAll, judgePack}
 use Rattle.packer.specs.Pack.{PackResult, packIf, packOf}
 use Rattle.pack_files.specs.Files.{judgePackFile, packFileOf}
 use Rattle.short_judging.specs.ShortFile.{shortBase, shortKinds, shortOperands}

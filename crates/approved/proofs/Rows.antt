@@ -28,7 +28,7 @@ use Rattle.pack_layout.specs.Image.{word, cells}
 use Rattle.pack_layout.specs.Rounds.{rounds, settle, settled}
 use Rattle.pack_layout.specs.Packing.{marks, image}
 use Rattle.pack_layout.specs.Output.{bytesOf}
-use Rattle.packer.specs.Judgement.{judgeOrder, judgeRoom, judgePack}
+use Rattle.pack_refusals.specs.Judgement.{judgeOrder, judgeRoom, judgePack}
 use Rattle.packer.specs.Pack.{packOf}
 use Rattle.module_judging.specs.Format.{countOf, headerOf, moduleOf}
 use Rattle.module_judging.specs.Grounds.{judgeLoad, judgeSave}

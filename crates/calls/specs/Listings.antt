@@ -5,7 +5,7 @@ use lib.ListN.{length}
 use Rattle.cell.specs.Refusals.{refusalNumber}
 use Rattle.cell.specs.declared.Judged.{Judged}
 use Rattle.cell.specs.declared.Judged.the-variants as judged
-use Rattle.packer.specs.Judgement.{judgePack}
+use Rattle.pack_refusals.specs.Judgement.{judgePack}
 use Rattle.packer.specs.Pack.{PackResult, packOf}
 use Rattle.packer.specs.declared.Packed.{Packed}
 use Rattle.packer.specs.declared.Packed.the-variants as packed

@@ -9,7 +9,7 @@ use cell::Judged;
 use cell::judgement::refusal_number;
 use pack_files::file::judge_pack_file;
 use pack_files::file::pack_file;
-use packer::judgement::judge_pack;
+use pack_refusals::judgement::judge_pack;
 use packer::pack::pack;
 
 #[no_mangle]

@@ -22,9 +22,9 @@ use Rattle.pack_layout.specs.Packing.{imageCells, judgedPlace}
 use Rattle.pack_judging.proofs.Reading.{length-of}
 use Rattle.packer.specs.declared.Packed.{Packed}
 use Rattle.packer.specs.declared.Packed.the-variants as packed
-use Rattle.packer.specs.Judgement.{judgeOrder, judgeRoom, judgePack}
+use Rattle.pack_refusals.specs.Judgement.{judgeOrder, judgeRoom, judgePack}
 use Rattle.packer.specs.Pack.{packCount, PackResult, packedTo, packOf}
-use Rattle.packer.proofs.Judging.{all-room}
+use Rattle.pack_refusals.proofs.Judging.{all-room}
 use Rattle.packer.proofs.Answering.{if-room}
 use Rattle.pack_files.specs.Files.{Header, manyItems, judgeHeader, judgePackFile, packFileOf}
 

@@ -8,7 +8,7 @@ use Rattle.cell.specs.Refusals.{Ground, judge, inOrder}
 use Rattle.cell.specs.declared.Refusal.the-variants.{ItemCount}
 use Rattle.cell.specs.declared.Judged.{Judged}
 use Rattle.pack_layout.specs.File.{filed, fileCount, fileBase, judgedLength, judgedFile}
-use Rattle.packer.specs.Judgement.{judgeOrder, judgeAll}
+use Rattle.pack_refusals.specs.Judgement.{judgeOrder, judgeAll}
 use Rattle.packer.specs.Pack.{PackResult, packIf}
 
 -- a file that is as long as its count of items says, with at most 4,096 of them

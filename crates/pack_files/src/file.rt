@@ -11,9 +11,9 @@ use pack_judging::file::cell_at;
 use pack_judging::file::judge_length;
 use pack_judging::file::read_operands;
 use pack_layout::MOST_ITEMS;
+use pack_refusals::judgement::judge_order;
+use pack_refusals::judgement::judge_pack;
 use packer::Packed;
-use packer::judgement::judge_order;
-use packer::judgement::judge_pack;
 use packer::pack::pack;
 
 // The byte order, the file's length and its count of items, with which the packing of a file begins.

@@ -15,9 +15,9 @@ use Rattle.pack_layout.specs.Packing.{image, imageCells}
 use Rattle.pack_layout.specs.Output.{written}
 use Rattle.packer.specs.declared.Packed.{Packed}
 use Rattle.packer.specs.declared.Packed.the-variants as packed
-use Rattle.packer.specs.Judgement.{judgeInput, judgeImage, judgePack}
+use Rattle.pack_refusals.specs.Judgement.{judgeInput, judgeImage, judgePack}
 use Rattle.packer.specs.Pack.{packCount, PackResult, packedTo, packIf, packOf}
-use Rattle.packer.proofs.Judging.{pack-halves, all-room}
+use Rattle.pack_refusals.proofs.Judging.{pack-halves, all-room}
 
 -- an image of cells that were counted, refused or written
 module _ (order base : ℕ) (l : Listing) (out : List ℕ) (cells : CellCount) (e : cells ≡ cellCount (imageCells l)) where

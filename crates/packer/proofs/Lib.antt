@@ -1,3 +1,2 @@
--- Laws of the judgement and the answer of a packing.
-pub mod Judging
+-- Laws of the answer of a packing.
 pub mod Answering

@@ -1,3 +1,2 @@
--- What crate `packer` means: what refuses a packing, and what it leaves and answers.
-pub mod Judgement
+-- What crate `packer` means: what a packing leaves and answers.
 pub mod Pack

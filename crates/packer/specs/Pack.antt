@@ -12,7 +12,7 @@ use Rattle.pack_layout.specs.Packing.{image, imageCells}
 use Rattle.pack_layout.specs.Output.{written}
 use Rattle.packer.specs.declared.Packed.{Packed}
 use Rattle.packer.specs.declared.Packed.the-variants as packed
-use Rattle.packer.specs.Judgement.{judgePack}
+use Rattle.pack_refusals.specs.Judgement.{judgePack}
 
 -- the number and the count of each answer: 0 and the cells of the image, or the refusal's number and 0
 abbrev pub packNumber : Packed → ℕ

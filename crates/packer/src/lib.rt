@@ -1,6 +1,5 @@
 // The packer: a listing becomes cells. Listing files are packed in `pack_files`.
 pub mod answers;
-pub mod judgement;
 pub mod pack;
 
 use cell::CellCount;

@@ -3,17 +3,17 @@ ghost use mathlib.Core.Path.{_≡_};
 ghost use lib.ListN.{length};
 ghost use Rattle.pack_layout.specs.Listing.{listed, Checked};
 ghost use Rattle.pack_layout.specs.Packing.{imageCells};
-ghost use Rattle.packer.specs.Judgement as judgement;
+ghost use Rattle.pack_refusals.specs.Judgement as judgement;
 ghost use Rattle.packer.specs.Pack as answers;
 ghost use Rattle.pack_prepare.specs.Prepared.{Places};
 use crate::Packed;
-use crate::judgement::judge_image;
-use crate::judgement::judge_input;
 use cell::Address;
 use cell::Judged;
 use pack_image::write::write_image;
 use pack_layout::MOST_ITEMS;
 use pack_prepare::prepare::prepare;
+use pack_refusals::judgement::judge_image;
+use pack_refusals::judgement::judge_input;
 
 // A listing that the input list passed, with the working arrays lent.
 fn pack_checked(

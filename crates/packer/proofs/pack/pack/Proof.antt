@@ -5,7 +5,7 @@ use Rattle.packer.proofs.pack.pack.Tie as tie
 use mathlib.Core.Path.{sym, _∙_}
 use native.Mathlib.Omega.{arith}
 use Rattle.pack_prepare.proofs.Checking.{items-most}
-use Rattle.packer.proofs.Judging.{input-checked}
+use Rattle.pack_refusals.proofs.Judging.{input-checked}
 use Rattle.packer.proofs.Answering.{pack-refused, pack-packed}
 
 judge-input-requires : tie.Need-judge-input-requires

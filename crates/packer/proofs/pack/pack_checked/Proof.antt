@@ -7,7 +7,7 @@ use lib.ListN.{length}
 use Rattle.pack_layout.specs.Listing.{listed}
 use Rattle.packer.proofs.Answering.{image-refused, image-packed}
 use Rattle.pack_prepare.proofs.Checking.{cells-most}
-use Rattle.packer.proofs.Judging.{counted-fits}
+use Rattle.pack_refusals.proofs.Judging.{counted-fits}
 
 prepare-requires : tie.Need-prepare-requires
 prepare-requires c κs = search needs

@@ -17,7 +17,7 @@ use Rattle.pack_layout.specs.Listing.{Listing, listed, judgedArrays, Checked}
 use Rattle.pack_layout.specs.Packing.{imageCells, judgedPlace}
 use Rattle.pack_layout.proofs.Packing.{base-of}
 use Rattle.pack_prepare.proofs.Checking.{arrays-checked}
-use Rattle.packer.specs.Judgement.{judgeOrder, judgeRoom, judgeInput, judgeImage, judgeAll, judgePack}
+use Rattle.pack_refusals.specs.Judgement.{judgeOrder, judgeRoom, judgeInput, judgeImage, judgeAll, judgePack}
 
 -- four judgements in order: where the first two refuse, they decide; where they pass, the last two do
 halves : (a b c d : Judged) → inOrder (a ∷ b ∷ c ∷ d ∷ []) ≡ after (inOrder (a ∷ b ∷ [])) (inOrder (c ∷ d ∷ []))

@@ -1,7 +1,7 @@
 // What refuses a packing, in document 01's order.
 ghost use mathlib.Core.Path.{_≡_};
 ghost use Prim.Native.Nat.{_≤_};
-ghost use Rattle.packer.specs.Judgement as judgement;
+ghost use Rattle.pack_refusals.specs.Judgement as judgement;
 use cell::Address;
 use cell::CellCount;
 use cell::Judged;

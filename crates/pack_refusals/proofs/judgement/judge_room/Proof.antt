@@ -1,9 +1,9 @@
 -- `packer::judgement::judge_room` meets its contract. Assumes nothing.
 use borrow.Author.Needs.{needs}
-use Rattle.packer.proofs.judgement.judge_room.Statement.{statement}
-use Rattle.packer.proofs.judgement.judge_room.Tie as tie
+use Rattle.pack_refusals.proofs.judgement.judge_room.Statement.{statement}
+use Rattle.pack_refusals.proofs.judgement.judge_room.Tie as tie
 use borrow.Author.Tests.{lt-ltb, le-ltb}
-use Rattle.packer.specs.Judgement as judgement
+use Rattle.pack_refusals.specs.Judgement as judgement
 
 cast-if1 : tie.Need-cast-if1
 cast-if1 c = search needs

@@ -1,10 +1,10 @@
 -- `packer::judgement::judge_input` meets its contract. Assumes nothing.
 use borrow.Author.Needs.{needs}
-use Rattle.packer.proofs.judgement.judge_input.Statement.{statement}
-use Rattle.packer.proofs.judgement.judge_input.Tie as tie
+use Rattle.pack_refusals.proofs.judgement.judge_input.Statement.{statement}
+use Rattle.pack_refusals.proofs.judgement.judge_input.Tie as tie
 use mathlib.Core.Path.{sym, _∙_}
-use Rattle.packer.proofs.Judging.{last-one}
-use Rattle.packer.specs.Judgement as judgement
+use Rattle.pack_refusals.proofs.Judging.{last-one}
+use Rattle.pack_refusals.specs.Judgement as judgement
 
 judge-order-requires : tie.Need-judge-order-requires
 judge-order-requires c κs = search needs

@@ -1,10 +1,10 @@
 -- `packer::judgement::judge_pack` meets its contract. Assumes nothing.
 use borrow.Author.Needs.{needs}
-use Rattle.packer.proofs.judgement.judge_pack.Statement.{statement}
-use Rattle.packer.proofs.judgement.judge_pack.Tie as tie
+use Rattle.pack_refusals.proofs.judgement.judge_pack.Statement.{statement}
+use Rattle.pack_refusals.proofs.judgement.judge_pack.Tie as tie
 use mathlib.Core.Path.{sym, _∙_}
 use Rattle.pack_prepare.proofs.Checking.{cells-most}
-use Rattle.packer.proofs.Judging.{input-checked, pack-halves, pack-counted}
+use Rattle.pack_refusals.proofs.Judging.{input-checked, pack-halves, pack-counted}
 
 judge-input-requires : tie.Need-judge-input-requires
 judge-input-requires c κs = search needs

@@ -1,8 +1,8 @@
 -- `packer::judgement::judge_order` meets its contract. Assumes nothing.
-use Rattle.packer.proofs.judgement.judge_order.Statement.{statement}
-use Rattle.packer.proofs.judgement.judge_order.Tie as tie
+use Rattle.pack_refusals.proofs.judgement.judge_order.Statement.{statement}
+use Rattle.pack_refusals.proofs.judgement.judge_order.Tie as tie
 use borrow.Author.Tests.{lt-ltb, le-ltb}
-use Rattle.packer.specs.Judgement as judgement
+use Rattle.pack_refusals.specs.Judgement as judgement
 
 returns : tie.Need-returns
 unfolding judgement.judgeOrder

@@ -1,10 +1,10 @@
 -- `packer::judgement::judge_image` meets its contract. Assumes nothing.
 use borrow.Author.Needs.{needs}
-use Rattle.packer.proofs.judgement.judge_image.Statement.{statement}
-use Rattle.packer.proofs.judgement.judge_image.Tie as tie
+use Rattle.pack_refusals.proofs.judgement.judge_image.Statement.{statement}
+use Rattle.pack_refusals.proofs.judgement.judge_image.Tie as tie
 use mathlib.Core.Path.{sym, _∙_}
-use Rattle.packer.proofs.Judging.{last-one}
-use Rattle.packer.specs.Judgement as judgement
+use Rattle.pack_refusals.proofs.Judging.{last-one}
+use Rattle.pack_refusals.specs.Judgement as judgement
 
 judge-place-requires : tie.Need-judge-place-requires
 judge-place-requires c κs = search needs

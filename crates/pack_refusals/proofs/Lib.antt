@@ -1,0 +1,2 @@
+-- Laws of the judgement of a packing.
+pub mod Judging

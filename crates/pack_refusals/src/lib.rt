@@ -1,0 +1,2 @@
+// What refuses a packing.
+pub mod judgement;
