@@ -19,7 +19,7 @@ use Rattle.processor.specs.Answers.{givenOf}
 use Rattle.list_following.specs.Follow.{FollowResult}
 use Rattle.list_following.specs.declared.Followed.{Followed}
 use Rattle.list_following.specs.declared.Followed.the-variants as followed
-use Rattle.calls.specs.Lending.{areasIn}
+use Rattle.lent_arrays.specs.Lending.{areasIn}
 use Rattle.processor_calls.specs.Machines.{judgeCall, startTold, cycleTold, runTold, startIf, startCall, cycleIf, cycleCall, runIf, runCall}
 use Rattle.list_calls.specs.Lists.{toldBy, judgeLent, standGiven, resumeCall}
 use Rattle.before_areas.specs.Cycles.{startBefore, cycleBefore, cyclesBefore, doneBefore}

@@ -16,7 +16,7 @@ use Rattle.processor.specs.declared.Ran.the-variants as ran
 use Rattle.list_following.specs.Follow.{FollowResult}
 use Rattle.list_following.specs.declared.Followed.{Followed}
 use Rattle.list_following.specs.declared.Followed.the-variants as followed
-use Rattle.calls.specs.Lending.{written, withRoom}
+use Rattle.lent_arrays.specs.Lending.{written, withRoom}
 use Rattle.processor_calls.specs.Machines.{Told, told, Called, called}
 use Rattle.list_calls.specs.Lists.{standGiven}
 use Rattle.before_areas.specs.Answers.{startAnswerBefore, cycleAnswerBefore, runAnswerBefore, resumeBefore}

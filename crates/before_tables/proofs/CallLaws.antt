@@ -9,7 +9,7 @@ use Rattle.cell.specs.declared.Judged.the-variants.{Passed, Refused}
 use Rattle.machine.specs.Places.{noTable}
 use Rattle.areas.specs.declared.Areas.{Areas}
 use Rattle.processor.specs.Answers.{givenOf}
-use Rattle.calls.specs.Lending.{areasIn, registersOf}
+use Rattle.lent_arrays.specs.Lending.{areasIn, registersOf}
 use Rattle.processor_calls.specs.Machines.{judgeCall, startIf, startCall, cycleIf, cycleCall, runIf, runCall}
 use Rattle.list_calls.specs.Lists.{judgeLent, standGiven, resumeCall}
 use Rattle.before_tables.specs.Calls.{judgeCallBefore, judgeWithBefore, startCallIf, startCallBefore, cycleCallIf, cycleCallBefore, runCallIf, runCallBefore, resumeCallBefore}

@@ -7,7 +7,7 @@ use Rattle.cell.specs.Refusals.{refusalNumber}
 use Rattle.cell.specs.declared.Judged.{Judged}
 use Rattle.cell.specs.declared.Judged.the-variants as judged
 use Rattle.areas.specs.declared.Areas.{Areas}
-use Rattle.calls.specs.Lending.{areasIn, registersOf, withRoom}
+use Rattle.lent_arrays.specs.Lending.{areasIn, registersOf, withRoom}
 use Rattle.processor_calls.specs.Machines.{startTold, cycleTold, runTold, Called, called}
 use Rattle.list_calls.specs.Lists.{listTold, judgeLent, standGiven}
 use Rattle.before_tables.specs.Answers.{judgeBoundedBefore, startAnswerBefore, cycleAnswerBefore, runAnswerBefore, resumeInBefore}

@@ -1,4 +1,3 @@
 -- What crate `calls` means.
-pub mod Lending
 pub mod Modules
 pub mod Listings

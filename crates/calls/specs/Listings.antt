@@ -10,7 +10,7 @@ use Rattle.packer.specs.Pack.{PackResult, packOf}
 use Rattle.packer.specs.declared.Packed.{Packed}
 use Rattle.packer.specs.declared.Packed.the-variants as packed
 use Rattle.pack_files.specs.Files.{judgePackFile, packFileOf}
-use Rattle.calls.specs.Lending.{written, withRoom}
+use Rattle.lent_arrays.specs.Lending.{written, withRoom}
 use Rattle.calls.specs.Modules.{Noted, noted, Moved, moved}
 
 -- 0 and the cells, or a refusal's number with nothing written

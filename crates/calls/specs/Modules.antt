@@ -12,7 +12,7 @@ use Rattle.module_loading.specs.declared.Loaded.{Loaded}
 use Rattle.module_loading.specs.declared.Loaded.the-variants as loaded
 use Rattle.module_saving.specs.declared.Saved.{Saved}
 use Rattle.module_saving.specs.declared.Saved.the-variants as saved
-use Rattle.calls.specs.Lending.{written, withRoom}
+use Rattle.lent_arrays.specs.Lending.{written, withRoom}
 
 -- what is left in `out`, and the number answered
 pub record Noted : Type 0 where

@@ -4,8 +4,8 @@ ghost use Prim.Native.Nat.{_≤_};
 ghost use lib.ListN.{length};
 ghost use Rattle.calls.specs.Modules as modules;
 ghost use Rattle.calls.specs.Listings as listings;
-use crate::lending::write_one;
 use cell::judgement::refusal_number;
+use lent_arrays::lending::write_one;
 use packer::Packed;
 
 pub fn note_packed(answer: Packed, out: &mut [u32]) -> u32

@@ -3,8 +3,8 @@ ghost use mathlib.Core.Path.{_≡_};
 ghost use Prim.Native.Nat.{_≤_};
 ghost use lib.ListN.{length};
 ghost use Rattle.calls.specs.Modules as modules;
-use crate::lending::write_one;
 use cell::judgement::refusal_number;
+use lent_arrays::lending::write_one;
 use module_loading::Loaded;
 use module_saving::Saved;
 

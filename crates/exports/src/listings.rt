@@ -2,11 +2,11 @@
 ghost use mathlib.Core.Path.{_≡_};
 ghost use Rattle.calls.specs.Modules as modules;
 ghost use Rattle.calls.specs.Listings as listings;
-use calls::lending::with_room;
 use calls::listings::note_packed;
 use cell::Address;
 use cell::Judged;
 use cell::judgement::refusal_number;
+use lent_arrays::lending::with_room;
 use pack_files::file::judge_pack_file;
 use pack_files::file::pack_file;
 use pack_refusals::judgement::judge_pack;

@@ -5,8 +5,8 @@ ghost use lib.Dec.{eqb};
 ghost use Rattle.machine.specs.Places.{tableOf};
 ghost use Rattle.processor_calls.specs.Machines as machines;
 ghost use Rattle.list_calls.specs.Lists as lists;
-use calls::lending::make_table;
 use cell::Address;
+use lent_arrays::lending::make_table;
 use list_calls::lists::resume_list;
 use pack_layout::ItemNumber;
 

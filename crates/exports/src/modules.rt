@@ -1,13 +1,13 @@
 // The calls for object modules. Each judges first, and writes nothing that was lent where it refuses.
 ghost use mathlib.Core.Path.{_≡_};
 ghost use Rattle.calls.specs.Modules as modules;
-use calls::lending::with_room;
 use calls::modules::note_loaded;
 use calls::modules::note_saved;
 use cell::Address;
 use cell::CellCount;
 use cell::Judged;
 use cell::judgement::refusal_number;
+use lent_arrays::lending::with_room;
 use module_judging::judgement::judge_load;
 use module_judging::judgement::judge_save;
 use module_loading::loading::load_first;

@@ -21,10 +21,10 @@ use Rattle.list_refusals.specs.Judging.{judgeBegin, judgeImage, judgeFollow}
 use Rattle.list_following.specs.Follow.{FollowResult, followedTo, followIf, resumeIn}
 use Rattle.list_following.specs.declared.Followed.{Followed}
 use Rattle.list_following.specs.declared.Followed.the-variants as followed
-use Rattle.calls.specs.Lending.{areasIn, withRoom}
+use Rattle.lent_arrays.specs.Lending.{areasIn, withRoom}
 use Rattle.processor_calls.specs.Machines.{told, called}
 use Rattle.list_calls.specs.Lists.{listTold, answerTold, judgeLent, Room, standGiven, resumeCall}
-use Rattle.calls.proofs.LendingLaws.{roomy}
+use Rattle.lent_arrays.proofs.LendingLaws.{roomy}
 
 lent-roomy : (pointers out : ℕ) → judgeLent pointers out ≡ Passed → (6 ≤ pointers) × (5 ≤ out)
 unfolding judgeLent

@@ -11,7 +11,7 @@ use Rattle.list_proposing.specs.declared.Stand.{Stand}
 use Rattle.list_following.specs.Follow.{FollowResult, followedTo, standAt, resumeIn}
 use Rattle.list_following.specs.declared.Followed.{Followed}
 use Rattle.list_following.specs.declared.Followed.the-variants as followed
-use Rattle.calls.specs.Lending.{written, areaList, areasAt, areasIn, withRoom}
+use Rattle.lent_arrays.specs.Lending.{written, areaList, areasAt, areasIn, withRoom}
 use Rattle.processor_calls.specs.Machines.{Told, told, Called}
 
 -- `pointers` takes SP, RP and the areas as they were given; `out` the reason, the item reached, the items done, and the low and high half of the cycles counted

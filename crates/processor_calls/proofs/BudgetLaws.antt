@@ -19,10 +19,10 @@ use Rattle.processor.specs.declared.Ran.{Ran}
 use Rattle.processor.specs.declared.Ran.the-variants as ran
 use Rattle.processor_laws.specs.Budgets.{withBudget, carriedOn, laterStop}
 use Rattle.processor_laws.proofs.BudgetLaws.{its-registers, run-keeps-length, number-is, Accepted, accepted, cut-budget, larger-budget}
-use Rattle.calls.specs.Lending.{written, registersOf, registerList}
+use Rattle.lent_arrays.specs.Lending.{written, registersOf, registerList}
 use Rattle.processor_calls.specs.Machines.{Told, told, judgeWith, runTold, asRead, runIf, runCall}
 use Rattle.processor_calls.specs.Budgets.{withCycles, CutCall, LargerCall}
-use Rattle.calls.proofs.LendingLaws.{written-length}
+use Rattle.lent_arrays.proofs.LendingLaws.{written-length}
 use Rattle.processor_calls.proofs.CallLaws.{call-roomy, with-passed}
 
 -- what is told of a run in two calls is what is told of the one

@@ -7,8 +7,8 @@ use Rattle.cell.specs.declared.Judged.the-variants.{Passed}
 use Rattle.machine.specs.declared.Table.{Table}
 use Rattle.bounds.specs.Bounds.{judgeBounded}
 use Rattle.areas.specs.declared.Areas.{Areas}
-use Rattle.calls.specs.Lending.{areasAt, withRoom}
-use Rattle.calls.proofs.LendingLaws.{roomy, areas-there}
+use Rattle.lent_arrays.specs.Lending.{areasAt, withRoom}
+use Rattle.lent_arrays.proofs.LendingLaws.{roomy, areas-there}
 use Rattle.processor_calls.specs.Machines.{judgeCall, judgeWith}
 
 pub call-passed : (len order : ℕ) (areas : Areas) (table : Table) (registers out needed : ℕ) → judgeCall len order areas table registers out needed ≡ Passed

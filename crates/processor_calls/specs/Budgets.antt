@@ -6,7 +6,7 @@ use Prim.Native.Nat.{ℕ, _+_, _≤_}
 use lib.ListN.{getD}
 use Rattle.processor.specs.Answers.{Given}
 use Rattle.processor_laws.specs.Budgets.{withBudget, carriedOn}
-use Rattle.calls.specs.Lending.{written}
+use Rattle.lent_arrays.specs.Lending.{written}
 use Rattle.processor_calls.specs.Machines.{Called, called, runCall}
 
 -- what a call left and answered, with the b cycles that were done before added to its count, the second number of `out`

@@ -18,7 +18,7 @@ use Rattle.processor.specs.declared.Cycled.{Cycled}
 use Rattle.processor.specs.declared.Cycled.the-variants as cycled
 use Rattle.processor.specs.declared.Ran.{Ran}
 use Rattle.processor.specs.declared.Ran.the-variants as ran
-use Rattle.calls.specs.Lending.{written, areasIn, registersOf, registerList, withRoom}
+use Rattle.lent_arrays.specs.Lending.{written, areasIn, registersOf, registerList, withRoom}
 
 -- what is left in `registers` and `out`, and the number answered
 pub record Told : Type 0 where

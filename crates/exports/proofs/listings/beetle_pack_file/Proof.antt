@@ -3,7 +3,7 @@ use borrow.Author.Needs.{needs}
 use Rattle.exports.proofs.listings.beetle_pack_file.Statement.{statement}
 use Rattle.exports.proofs.listings.beetle_pack_file.Tie as tie
 use lib.ListN.{length}
-use Rattle.calls.proofs.LendingLaws.{roomy}
+use Rattle.lent_arrays.proofs.LendingLaws.{roomy}
 use Rattle.calls.specs.Listings as listings
 use mathlib.Core.Path.{_∙_, sym}
 

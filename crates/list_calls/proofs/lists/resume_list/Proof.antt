@@ -1,6 +1,6 @@
 -- `resume_list` meets its contract: the answer of crate `list_following`, told.
 use lib.ListN.{length}
-use Rattle.calls.specs.Lending.{areasIn}
+use Rattle.lent_arrays.specs.Lending.{areasIn}
 use Rattle.list_calls.specs.Lists.{standGiven}
 use Rattle.list_calls.proofs.ListLaws.{has-room, list-noted}
 use borrow.Author.Needs.{needs}

@@ -1,8 +1,8 @@
 -- `with_room` meets its contract, by the judgement so far and the size.
 use borrow.Author.Needs.{needs}
 use borrow.Author.Tests.{lt-ltb, le-ltb}
-use Rattle.calls.proofs.lending.with_room.Statement.{statement}
-use Rattle.calls.proofs.lending.with_room.Tie as tie
+use Rattle.lent_arrays.proofs.lending.with_room.Statement.{statement}
+use Rattle.lent_arrays.proofs.lending.with_room.Tie as tie
 
 enum-known-judged : tie.Need-enum-known-judged
 enum-known-judged c = search needs

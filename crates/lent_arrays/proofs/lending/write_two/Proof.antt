@@ -2,8 +2,8 @@
 use borrow.Author.Needs.{needs}
 use mathlib.Core.List.{[], _∷_}
 use lib.Seq.{sets-eq}
-use Rattle.calls.proofs.lending.write_two.Statement.{statement}
-use Rattle.calls.proofs.lending.write_two.Tie as tie
+use Rattle.lent_arrays.proofs.lending.write_two.Statement.{statement}
+use Rattle.lent_arrays.proofs.lending.write_two.Tie as tie
 
 slice-write-lent : tie.Need-slice-write-lent
 slice-write-lent c = search needs

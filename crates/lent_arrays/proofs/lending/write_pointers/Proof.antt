@@ -2,11 +2,11 @@
 use lib.ListN.{length-set}
 use native.Mathlib.Omega.{arith}
 use mathlib.Core.List.{_∷_}
-use Rattle.calls.specs.Lending.{areaList}
+use Rattle.lent_arrays.specs.Lending.{areaList}
 use lib.Seq.{sets-eq}
 use borrow.Author.Needs.{needs}
-use Rattle.calls.proofs.lending.write_pointers.Statement.{statement}
-use Rattle.calls.proofs.lending.write_pointers.Tie as tie
+use Rattle.lent_arrays.proofs.lending.write_pointers.Statement.{statement}
+use Rattle.lent_arrays.proofs.lending.write_pointers.Tie as tie
 
 slice-write-lent : tie.Need-slice-write-lent
 slice-write-lent c = search needs

@@ -1,11 +1,11 @@
 -- `write_registers` meets its contract.
 use lib.ListN.{length-set}
 use native.Mathlib.Omega.{arith}
-use Rattle.calls.specs.Lending.{registerList}
+use Rattle.lent_arrays.specs.Lending.{registerList}
 use lib.Seq.{sets-eq}
 use borrow.Author.Needs.{needs}
-use Rattle.calls.proofs.lending.write_registers.Statement.{statement}
-use Rattle.calls.proofs.lending.write_registers.Tie as tie
+use Rattle.lent_arrays.proofs.lending.write_registers.Statement.{statement}
+use Rattle.lent_arrays.proofs.lending.write_registers.Tie as tie
 
 slice-write-lent : tie.Need-slice-write-lent
 slice-write-lent c = search needs

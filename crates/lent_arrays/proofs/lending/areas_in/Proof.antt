@@ -1,8 +1,8 @@
 -- `areas_in` meets its contract.
 use borrow.Author.Tests.{lt-ltb, le-ltb}
 use borrow.Author.Needs.{needs}
-use Rattle.calls.proofs.lending.areas_in.Statement.{statement}
-use Rattle.calls.proofs.lending.areas_in.Tie as tie
+use Rattle.lent_arrays.proofs.lending.areas_in.Statement.{statement}
+use Rattle.lent_arrays.proofs.lending.areas_in.Tie as tie
 
 add-if1 : tie.Need-add-if1
 add-if1 c = search needs

@@ -1,7 +1,7 @@
 -- `read_registers` meets its contract.
 use borrow.Author.Needs.{needs}
-use Rattle.calls.proofs.lending.read_registers.Statement.{statement}
-use Rattle.calls.proofs.lending.read_registers.Tie as tie
+use Rattle.lent_arrays.proofs.lending.read_registers.Statement.{statement}
+use Rattle.lent_arrays.proofs.lending.read_registers.Tie as tie
 
 read-areas-requires : tie.Need-read-areas-requires
 read-areas-requires c κs = search needs

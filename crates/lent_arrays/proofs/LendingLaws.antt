@@ -11,7 +11,7 @@ use Rattle.cell.specs.declared.Refusal.the-variants.{ShortOutput}
 use Rattle.cell.specs.declared.Judged.{Judged}
 use Rattle.cell.specs.declared.Judged.the-variants.{Passed}
 use Rattle.cell.proofs.JudgementLaws.{both-pass, one-clear}
-use Rattle.calls.specs.Lending.{written, areasAt, areasIn, shortArray, withRoom}
+use Rattle.lent_arrays.specs.Lending.{written, areasAt, areasIn, shortArray, withRoom}
 
 pub record Roomy (j : Judged) (size needed : ℕ) : Type 0 where
   pub passed : j ≡ Passed

@@ -5,7 +5,7 @@ ghost use Prim.Native.Nat.{_+_, _≤_};
 ghost use lib.ListN.{length};
 ghost use Rattle.machine.specs.Places.{tableOf};
 ghost use Rattle.areas.specs.Areas.{areasOf};
-ghost use Rattle.calls.specs.Lending as lending;
+ghost use Rattle.lent_arrays.specs.Lending as lending;
 use areas::Area;
 use areas::Areas;
 use areas::RegisterFile;

@@ -1,0 +1,2 @@
+-- What crate `lent_arrays` means.
+pub mod Lending
