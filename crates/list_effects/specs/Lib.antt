@@ -1,3 +1,2 @@
 -- What crate `list_effects` means.
-pub mod Shapes
 pub mod Looping

@@ -3,8 +3,7 @@ ghost use lib.ListN.{length};
 ghost use Rattle.machine.specs.Places as places;
 ghost use Rattle.instruction.specs.Taking as taking;
 ghost use Rattle.instruction.specs.declared.OperandForm.the-variants as form;
-ghost use Rattle.list_effects.specs.Shapes as shapes;
-use crate::Shape;
+ghost use Rattle.list_shapes.specs.Shapes as shapes;
 use crate::looping::propose_loop;
 use crate::looping::propose_plus_loop;
 use flow::control::branch;
@@ -12,6 +11,7 @@ use flow::control::call;
 use flow::control::question_branch;
 use flow::literals::literal;
 use instruction::OperandForm;
+use list_shapes::Shape;
 use machine::Machine;
 use machine::Registers;
 

@@ -13,8 +13,8 @@ use Rattle.instruction.specs.Dispatch.{decodeOf, OperandClass, next, plain, tak
 use Rattle.pack_layout.specs.Listing.{Listing, listed}
 use Rattle.pack_layout.specs.Packing.{epValue, behind}
 use Rattle.list_machine.specs.ListMachine.{Position, operandAt, effectAs, effectAt, carriedBy, carryOut}
-use Rattle.list_effects.specs.Shapes.{shapeSp, shapeRp, shapeStores, shapeThen, shapeEffect}
-use Rattle.list_effects.specs.declared.Shape.{Shape}
+use Rattle.list_shapes.specs.Shapes.{shapeSp, shapeRp, shapeStores, shapeThen, shapeEffect}
+use Rattle.list_shapes.specs.declared.Shape.{Shape}
 use Rattle.list_effects.proofs.Alone.{Alone, raises, plain-alone, taking-alone}
 use Rattle.list_tables.specs.Tables.{immediateIn, rows, entryBelow, Settled}
 use Rattle.list_tables.specs.declared.Image.{Image}

@@ -25,8 +25,8 @@ use Rattle.machine.specs.declared.Access.the-variants.{Push}
 use Rattle.machine.specs.declared.Then.{Then}
 use Rattle.pack_layout.specs.declared.Entry.{Entry}
 use Rattle.list_machine.specs.declared.Outside.the-variants.{WritesImage}
-use Rattle.list_effects.specs.Shapes.{shapeStores, shapeThen, shapeFault}
-use Rattle.list_effects.specs.declared.Shape.{Shape}
+use Rattle.list_shapes.specs.Shapes.{shapeStores, shapeThen, shapeFault}
+use Rattle.list_shapes.specs.declared.Shape.{Shape}
 use Rattle.list_judging.specs.Ways.{handlerWay, handlerAfter, pushWay, throwWay, intentThen, intentBy, intentOf}
 use Rattle.list_judging.specs.declared.Way.{Way}
 use Rattle.list_judging.specs.declared.Way.the-variants as way

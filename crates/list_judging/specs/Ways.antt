@@ -26,8 +26,8 @@ use Rattle.pack_layout.specs.declared.Entry.the-variants.{Item, Nothing}
 use Rattle.list_machine.specs.declared.Outside.{Outside}
 use Rattle.list_machine.specs.declared.Outside.the-variants.{WritesImage, NoEntry, NoHandler, PastEnd}
 use Rattle.list_machine.specs.ListMachine as lists
-use Rattle.list_effects.specs.Shapes.{shapeStores, shapeThen, shapeFault}
-use Rattle.list_effects.specs.declared.Shape.{Shape}
+use Rattle.list_shapes.specs.Shapes.{shapeStores, shapeThen, shapeFault}
+use Rattle.list_shapes.specs.declared.Shape.{Shape}
 use Rattle.list_judging.specs.declared.Way.{Way}
 use Rattle.list_judging.specs.declared.Way.the-variants as way
 use Rattle.list_judging.specs.declared.Cause.{Cause}

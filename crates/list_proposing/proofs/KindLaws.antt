@@ -17,7 +17,7 @@ use Rattle.pack_layout.specs.Packing.{distance, addressOf, behind}
 use Rattle.pack_layout.proofs.KindLaws.{literal-is, branch-among, one-among}
 use Rattle.list_machine.specs.ListMachine.{Position, effectAs, effectAt, registersAt}
 use Rattle.list_machine.proofs.Opcodes.{plain-decodes}
-use Rattle.list_effects.specs.Shapes.{takingKind}
+use Rattle.list_shapes.specs.Shapes.{takingKind}
 
 -- 00h is no kind
 pub plain-some : (k : ℕ) → kinds.classOf k ≡ class.Plain → 1 ≤ k

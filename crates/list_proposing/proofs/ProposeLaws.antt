@@ -19,8 +19,8 @@ use Rattle.pack_layout.specs.declared.Class.the-variants as class
 use Rattle.pack_layout.specs.Listing.{listed}
 use Rattle.pack_layout.specs.Packing.{distance, addressOf, behind}
 use Rattle.list_machine.specs.ListMachine.{registersAt, effectAt}
-use Rattle.list_effects.specs.Shapes.{takingKind, Proposed}
-use Rattle.list_effects.specs.declared.Shape.{Shape}
+use Rattle.list_shapes.specs.Shapes.{takingKind, Proposed}
+use Rattle.list_shapes.specs.declared.Shape.{Shape}
 use Rattle.list_tables.specs.Tables.{placeIn, nextIn, behindIn, Settled}
 use Rattle.list_tables.specs.declared.Image.{Image}
 use Rattle.list_tables.proofs.TableLaws.{room, place-low, behind-room, next-is, behind-is, target-in, target-is}

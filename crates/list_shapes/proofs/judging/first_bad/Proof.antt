@@ -1,7 +1,7 @@
 -- `first_bad` meets its contract.
 use borrow.Author.Needs.{needs}
-use Rattle.list_effects.proofs.judging.first_bad.Statement.{statement}
-use Rattle.list_effects.proofs.judging.first_bad.Tie as tie
+use Rattle.list_shapes.proofs.judging.first_bad.Statement.{statement}
+use Rattle.list_shapes.proofs.judging.first_bad.Tie as tie
 
 enum-told : tie.Need-enum-told
 enum-told c = search needs

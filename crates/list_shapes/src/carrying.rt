@@ -3,7 +3,7 @@ ghost use mathlib.Core.Path.{_≡_};
 ghost use lib.ListN.{length};
 ghost use Rattle.machine.specs.Places as places;
 ghost use Rattle.machine.specs.Commits as commits;
-ghost use Rattle.list_effects.specs.Shapes as shapes;
+ghost use Rattle.list_shapes.specs.Shapes as shapes;
 use crate::Shape;
 use commits::commit::commit_byte;
 use commits::commit::commit_maybe;

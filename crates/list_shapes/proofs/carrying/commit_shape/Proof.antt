@@ -1,7 +1,7 @@
 -- `commit_shape` meets its contract, shape by shape.
 use borrow.Author.Needs.{needs}
-use Rattle.list_effects.proofs.carrying.commit_shape.Statement.{statement}
-use Rattle.list_effects.proofs.carrying.commit_shape.Tie as tie
+use Rattle.list_shapes.proofs.carrying.commit_shape.Statement.{statement}
+use Rattle.list_shapes.proofs.carrying.commit_shape.Tie as tie
 
 enum-known-shape : tie.Need-enum-known-shape
 enum-known-shape c = search needs

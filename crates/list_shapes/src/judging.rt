@@ -8,7 +8,7 @@ ghost use lib.ListN.{length};
 ghost use Rattle.machine.specs.Places as places;
 ghost use Rattle.machine.specs.Effects as effects;
 ghost use Rattle.machine.specs.Commits as commits;
-ghost use Rattle.list_effects.specs.Shapes as shapes;
+ghost use Rattle.list_shapes.specs.Shapes as shapes;
 use crate::Shape;
 use cell::Address;
 use cell::CellCount;

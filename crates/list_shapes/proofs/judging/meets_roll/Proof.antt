@@ -1,7 +1,7 @@
 -- `meets_roll` meets its contract: the cells that are moved are one range of bytes.
 use borrow.Author.Needs.{needs}
-use Rattle.list_effects.proofs.judging.meets_roll.Statement.{statement}
-use Rattle.list_effects.proofs.judging.meets_roll.Tie as tie
+use Rattle.list_shapes.proofs.judging.meets_roll.Statement.{statement}
+use Rattle.list_shapes.proofs.judging.meets_roll.Tie as tie
 use borrow.Author.Tests.{lt-ltb, le-ltb}
 
 cast-meets : tie.Need-cast-meets

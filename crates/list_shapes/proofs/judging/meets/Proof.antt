@@ -1,7 +1,7 @@
 -- `meets` meets its contract.
 use borrow.Author.Needs.{needs}
-use Rattle.list_effects.proofs.judging.meets.Statement.{statement}
-use Rattle.list_effects.proofs.judging.meets.Tie as tie
+use Rattle.list_shapes.proofs.judging.meets.Statement.{statement}
+use Rattle.list_shapes.proofs.judging.meets.Tie as tie
 use borrow.Author.Tests.{lt-ltb, le-ltb}
 
 cast-result : tie.Need-cast-result

@@ -1,7 +1,7 @@
 -- `check_write` meets its contract: one place is checked.
 use borrow.Author.Needs.{needs}
-use Rattle.list_effects.proofs.judging.check_write.Statement.{statement}
-use Rattle.list_effects.proofs.judging.check_write.Tie as tie
+use Rattle.list_shapes.proofs.judging.check_write.Statement.{statement}
+use Rattle.list_shapes.proofs.judging.check_write.Tie as tie
 use mathlib.Core.Path.{sym, _∙_}
 use Rattle.machine.specs.Commits as commits
 use Rattle.machine.proofs.CommitLaws.{first-good}

@@ -1,9 +1,9 @@
 -- `then_of` meets its contract, shape by shape.
 use borrow.Author.Needs.{needs}
-use Rattle.list_effects.proofs.judging.then_of.Statement.{statement}
-use Rattle.list_effects.proofs.judging.then_of.Tie as tie
+use Rattle.list_shapes.proofs.judging.then_of.Statement.{statement}
+use Rattle.list_shapes.proofs.judging.then_of.Tie as tie
 use mathlib.Core.Path.{sym, ap}
-use Rattle.list_effects.specs.Shapes as shapes
+use Rattle.list_shapes.specs.Shapes as shapes
 
 enum-known-shape : tie.Need-enum-known-shape
 enum-known-shape c = search needs

@@ -1,12 +1,12 @@
 -- `check_places` meets its contract, shape by shape.
 use borrow.Author.Needs.{needs}
-use Rattle.list_effects.proofs.judging.check_places.Statement.{statement}
-use Rattle.list_effects.proofs.judging.check_places.Tie as tie
+use Rattle.list_shapes.proofs.judging.check_places.Statement.{statement}
+use Rattle.list_shapes.proofs.judging.check_places.Tie as tie
 use mathlib.Core.Path.{sym, _∙_}
 use Rattle.machine.specs.Commits as commits
 use Rattle.machine.proofs.CommitLaws.{first-good}
 use mathlib.Core.Path.{ap₂}
-use Rattle.list_effects.proofs.WritesLaws.{places-more}
+use Rattle.list_shapes.proofs.WritesLaws.{places-more}
 
 enum-told : tie.Need-enum-told
 enum-told c = search needs

@@ -15,8 +15,8 @@ use Rattle.machine.specs.declared.Machine.{Machine}
 use Rattle.machine.specs.declared.Access.the-variants.{DataWrite, ReturnWrite}
 use Rattle.machine.specs.declared.Then.{Then}
 use Rattle.instruction.specs.Taking.{Taking, branch, questionBranch, call, loop, plusLoop, literal}
-use Rattle.list_effects.specs.declared.Shape.{Shape}
-use Rattle.list_effects.specs.declared.Shape.the-variants.{None, One, Maybe, Two, Three, Byte, Roll, TwoReturns}
+use Rattle.list_shapes.specs.declared.Shape.{Shape}
+use Rattle.list_shapes.specs.declared.Shape.the-variants.{None, One, Maybe, Two, Three, Byte, Roll, TwoReturns}
 
 abbrev pub shapeSp : Shape → ℕ
 shapeSp (None e) = e .sp

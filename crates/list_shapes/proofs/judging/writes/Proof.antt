@@ -1,13 +1,13 @@
 -- `writes` meets its contract, shape by shape.
 use borrow.Author.Needs.{needs}
-use Rattle.list_effects.proofs.judging.writes.Statement.{statement}
-use Rattle.list_effects.proofs.judging.writes.Tie as tie
+use Rattle.list_shapes.proofs.judging.writes.Statement.{statement}
+use Rattle.list_shapes.proofs.judging.writes.Tie as tie
 use mathlib.Core.Path.{sym, _∙_}
 use Rattle.machine.specs.Commits as commits
-use Rattle.list_effects.proofs.WritesLaws.{rolled-touches}
+use Rattle.list_shapes.proofs.WritesLaws.{rolled-touches}
 use mathlib.Core.Path.{ap₂}
 use mathlib.Core.Bool.{_||_, or-false}
-use Rattle.list_effects.proofs.WritesLaws.{touches-more, touches-one}
+use Rattle.list_shapes.proofs.WritesLaws.{touches-more, touches-one}
 use denote.Ref.{now}
 
 enum-told : tie.Need-enum-told

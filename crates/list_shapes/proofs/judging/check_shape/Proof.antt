@@ -1,7 +1,7 @@
 -- `check_shape` meets its contract.
 use borrow.Author.Needs.{needs}
-use Rattle.list_effects.proofs.judging.check_shape.Statement.{statement}
-use Rattle.list_effects.proofs.judging.check_shape.Tie as tie
+use Rattle.list_shapes.proofs.judging.check_shape.Statement.{statement}
+use Rattle.list_shapes.proofs.judging.check_shape.Tie as tie
 
 then-of-requires : tie.Need-then-of-requires
 then-of-requires c κs = search needs

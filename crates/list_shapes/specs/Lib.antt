@@ -1,0 +1,2 @@
+-- What crate `list_shapes` means.
+pub mod Shapes
