@@ -2,10 +2,10 @@
 ghost use mathlib.Core.Path.{_≡_};
 ghost use Rattle.calls.specs.Modules as modules;
 ghost use Rattle.short_calls.specs.Shorts as shorts;
-use calls::lending::with_room;
 use calls::listings::note_packed;
 use cell::Judged;
 use cell::judgement::refusal_number;
+use lent_arrays::lending::with_room;
 use short_calls::notes::no_place;
 use short_calls::notes::note_converted;
 use short_files::lengthen::judge_lengthen;

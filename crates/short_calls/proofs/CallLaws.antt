@@ -1,14 +1,14 @@
 -- A call with a place in `out`, and one without.
 -- Assumes nothing.
-use mathlib.Core.Path.{_≡_, refl, sym, ap, _∙_}
-use mathlib.Core.List.{List, [], _∷_}
+use mathlib.Core.Path.{_≡_, refl, ap, _∙_}
+use mathlib.Core.List.{List}
 use Prim.Native.Nat.{ℕ, _≤_, _<_}
 use borrow.Author.Tests.{lt-ltb, le-ltb}
 use lib.ListN.{length}
 use Rattle.cell.specs.declared.Judged.{Judged}
 use Rattle.cell.specs.declared.Judged.the-variants.{Passed, Refused}
-use Rattle.calls.specs.Lending.{withRoom}
-use Rattle.calls.specs.Modules.{Noted, noted, Moved, moved}
+use Rattle.lent_arrays.specs.Lending.{withRoom}
+use Rattle.calls.specs.Modules.{Noted, noted, moved}
 use Rattle.short_files.specs.declared.Converted.{Converted}
 use Rattle.short_files.specs.Converted.{ConvertResult, convertedTo, convertIf, judgeShorten, judgeLengthen, shortenOf, lengthenOf}
 use Rattle.short_calls.specs.Shorts.{convertNoted, told, convertIf as callIf, shortenCall, lengthenCall, noPlace}

@@ -6,7 +6,7 @@ use Rattle.cell.specs.Refusals.{refusalNumber}
 use Rattle.cell.specs.declared.Refusal.the-variants.{ShortOutput}
 use Rattle.cell.specs.declared.Judged.{Judged}
 use Rattle.cell.specs.declared.Judged.the-variants as judged
-use Rattle.calls.specs.Lending.{written, withRoom}
+use Rattle.lent_arrays.specs.Lending.{written, withRoom}
 use Rattle.calls.specs.Listings.{packIf}
 use Rattle.calls.specs.Modules.{Noted, noted, Moved, moved}
 use Rattle.short_files.specs.Converted.{ConvertResult, judgeShorten, judgeLengthen, shortenOf, lengthenOf}

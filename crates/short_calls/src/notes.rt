@@ -4,10 +4,10 @@ ghost use Prim.Native.Nat.{_≤_};
 ghost use lib.ListN.{length};
 ghost use Rattle.calls.specs.Modules as modules;
 ghost use Rattle.short_calls.specs.Shorts as shorts;
-use calls::lending::write_one;
 use cell::Judged;
 use cell::Refusal;
 use cell::judgement::refusal_number;
+use lent_arrays::lending::write_one;
 use short_files::Converted;
 
 pub fn note_converted(answer: Converted, out: &mut [u32]) -> u32

@@ -1,6 +1,6 @@
 -- Judgements and answers.
 -- Assumes nothing.
-use mathlib.Core.Path.{_≡_, refl, sym, ap, _∙_}
+use mathlib.Core.Path.{_≡_, _∙_}
 use mathlib.Core.List.{List, [], _∷_, _++_}
 use Prim.Native.Nat.{ℕ, _+_, _*_, _≤_, _<_}
 use native.Mathlib.Omega.{arith}
@@ -19,7 +19,7 @@ use Rattle.short_judging.specs.Judging.{keptCount, judgedShort}
 use Rattle.short_judging.proofs.Parts.{file-count, short-count}
 use Rattle.short_judging.proofs.Passing.{file-good, short-good}
 use Rattle.short_files.specs.declared.Converted.the-variants as converted
-use Rattle.short_files.specs.Converted.{ConvertResult, convertedTo, convertIf, noRoom, judgeRoom, shortened, lengthened, judgeShorten, judgeLengthen, shortenOf, lengthenOf}
+use Rattle.short_files.specs.Converted.{convertedTo, convertIf, noRoom, judgeRoom, shortened, lengthened}
 use Rattle.short_files.proofs.Lengths.{long-length, short-length}
 
 -- a file that its input list refuses

@@ -12,7 +12,7 @@ use Rattle.cell.proofs.StoreLaws.{store-sets}
 use Rattle.pack_layout.specs.declared.Class.{Class}
 use Rattle.pack_layout.specs.File.{leastFirst, fileCount, filed}
 use Rattle.pack_layout.specs.Kinds.{classOf}
-use Rattle.short_judging.specs.Operands.{hasOperand, operandsBefore, inTurn}
+use Rattle.short_judging.specs.Operands.{hasOperand, operandsBefore}
 use Rattle.short_judging.specs.ShortFile.{shortCount, shortKind, shortOperand, shortListing}
 use Rattle.short_judging.proofs.Parts.{file-kind, file-operand, short-kind, short-count, short-operand}
 use Rattle.short_files.specs.Files.{operandBytes, keptBytes}

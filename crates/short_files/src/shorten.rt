@@ -5,7 +5,6 @@ ghost use Prim.Native.Nat.{_+_, _*_, _≤_};
 ghost use lib.ListN.{length, drop};
 ghost use lib.Seq.{sets};
 ghost use Rattle.pack_layout.specs.File.{fileCount, filed};
-ghost use Rattle.pack_layout.specs.Listing as listing;
 ghost use Rattle.short_judging.specs.Operands.{inTurn};
 ghost use Rattle.short_judging.specs.Judging.{keptCount};
 ghost use Rattle.short_files.specs.Files.{kindByte, keptBytes};

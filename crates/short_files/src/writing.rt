@@ -2,7 +2,6 @@
 ghost use mathlib.Core.Path.{_≡_};
 ghost use Prim.Native.Nat.{_+_, _*_, _≤_};
 ghost use lib.ListN.{length};
-ghost use lib.Seq.{sets};
 ghost use Rattle.cell.specs.Choice.{if};
 ghost use Rattle.cell.specs.Memory.{storeCell};
 ghost use Rattle.pack_layout.specs.Flags.{bit};

@@ -13,6 +13,7 @@ use Rattle.cell.specs.Refusals.{judge, after}
 use Rattle.cell.specs.declared.Refusal.the-variants.{OperandCount}
 use Rattle.cell.specs.declared.Judged.{Judged}
 use Rattle.cell.specs.declared.Judged.the-variants.{Passed, Refused}
+use Rattle.cell.proofs.JudgementLaws.{after-after}
 use Rattle.pack_layout.specs.declared.Class.{Class}
 use Rattle.pack_layout.specs.File.{leastFirst, fileCount, fileKinds, fileOperands, filed, judgedLength, judgedFile}
 use Rattle.pack_layout.specs.Grounds.{itemCount}
@@ -21,7 +22,7 @@ use Rattle.pack_layout.specs.Listing.{Listing, judged, judgedFrom, judgedArrays
 use Rattle.pack_judging.proofs.Reading.{length-of}
 use Rattle.pack_judging.proofs.Steps.{judged-step}
 use Rattle.short_judging.specs.Operands.{hasOperand, operandsBefore}
-use Rattle.short_judging.specs.ShortFile.{shortCount, operandCount, shortKinds, shortKind, shortOperand, shortListing}
+use Rattle.short_judging.specs.ShortFile.{shortCount, operandCount, shortKind, shortOperand, shortListing}
 use Rattle.short_judging.specs.Judging.{otherCount, judgedShort}
 use Rattle.short_judging.proofs.Parts.{file-kind, file-count, file-operand, file-operands, short-kind, short-count, short-operand}
 
@@ -45,19 +46,11 @@ short-item s n i k x c j e h l p o q r =
     (sym (rw (short-operand s i (omega (arith, short-count s (omega arith))), short-kind s i (omega arith), short-count s (omega arith)) refl))
 
 -- the first refusal of the items so far, and of one more
-pub after-after : (a b c : Judged) → after (after a b) c ≡ after a (after b c)
-after-after Passed b c = refl
-after-after (Refused r) b c = refl
-
 pub first-more : (l : Listing) (n i : ℕ) (first here : Judged) → i < n → here ≡ judgedAt l i
     → after (after first here) (judgedFrom l (n - (i + 1)) (i + 1)) ≡ after first (judgedFrom l (n - i) i)
 first-more l n i first here h e =
     after-after first here (judgedFrom l (n - (i + 1)) (i + 1))
     ∙ ap (after first) (ap (λ (j : Judged). after j (judgedFrom l (n - (i + 1)) (i + 1))) e ∙ sym (judged-step l n i h))
-
-pub after-passed : (j : Judged) → after j Passed ≡ j
-after-passed Passed = refl
-after-passed (Refused r) = refl
 
 -- m against the operands that the kinds have, where the size is right
 pub other-refused : (size n m k : ℕ) (j : Judged) → (m ≡ k → ⊥) → Refused OperandCount ≡ after (judge (otherCount size n m k ∷ [])) j

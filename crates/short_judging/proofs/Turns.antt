@@ -1,9 +1,9 @@
 -- Items in turn: one element each, and the operands that they have.
 -- Assumes nothing.
-use mathlib.Core.Path.{_≡_, refl, sym, ap, _∙_}
+use mathlib.Core.Path.{_≡_, refl, _∙_}
 use mathlib.Core.Bool.{Bool, true, false}
-use mathlib.Core.List.{List, [], _∷_, _++_}
-use mathlib.Core.Logic.{inl, inr, ⊎-elim}
+use mathlib.Core.List.{List, [], _∷_}
+use mathlib.Core.Logic.{⊎-elim}
 use Prim.Native.Nat.{ℕ, zero, suc, _+_, _-_, _≤_, _<_}
 use native.Mathlib.Nat.{eq-or-lt-of-le, le-of-suc-le-suc}
 use native.Mathlib.Numerals.{add-one}
@@ -60,3 +60,8 @@ module _ (kind : ℕ → ℕ) where
   operands-grow i n h =
       let e : n - i + i ≡ n = omega arith in
       rw e at (operands-add i (n - i))
+
+  -- an item's operand is among those of the first n items
+  pub operands-room : (i n : ℕ) (c : Class) → i < n → c ≡ classOf (kind i) → operandsBefore kind i + bit (hasOperand c) ≤ operandsBefore kind n
+  operands-room i n c h e =
+      omega (arith, operands-more i (operandsBefore kind i) (bit (hasOperand c)) c e refl refl, operands-grow (i + 1) n (omega arith))

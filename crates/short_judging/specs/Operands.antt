@@ -1,6 +1,6 @@
 -- The operands of a short listing file. Document 02, (l): literals and branches have one each, in item order; no other item has.
 use mathlib.Core.Bool.{Bool, true, false}
-use mathlib.Core.List.{List, [], _∷_, _++_}
+use mathlib.Core.List.{List, [], _++_}
 use Prim.Native.Nat.{ℕ, zero, suc, _+_}
 use Rattle.pack_layout.specs.declared.Class.{Class}
 use Rattle.pack_layout.specs.declared.Class.the-variants.{Plain, Literal, Branch, NoKind}

@@ -1,22 +1,21 @@
 -- -4108 has no place in the input list of a short file.
 -- Assumes nothing.
-use mathlib.Core.Path.{_≡_, refl, sym, ap, _∙_}
+use mathlib.Core.Path.{_≡_, refl, ap, _∙_}
 use mathlib.Core.Bool.{Bool, true, false}
-use mathlib.Core.List.{List, [], _∷_}
-use Prim.Native.Nat.{ℕ, zero, suc, _+_, _*_, _≤_, _<_}
+use mathlib.Core.List.{List}
+use Prim.Native.Nat.{ℕ, zero, suc, _<_}
 use native.Mathlib.Decide.{decLt}
 use native.Mathlib.Omega.{arith}
-use lib.Dec.{leb, eqb, ltb}
+use lib.Dec.{leb}
 use lib.ListN.{length, List·getD-eq-default}
 use Rattle.cell.specs.Choice.{if}
-use Rattle.cell.specs.Refusals.{refusalNumber, judge, after}
-use Rattle.cell.specs.declared.Refusal.{Refusal}
+use Rattle.cell.specs.Refusals.{refusalNumber, after}
 use Rattle.cell.specs.declared.Refusal.the-variants as refusal
 use Rattle.cell.specs.declared.Judged.{Judged}
 use Rattle.cell.specs.declared.Judged.the-variants.{Passed, Refused}
 use Rattle.pack_layout.specs.declared.Class.{Class}
 use Rattle.pack_layout.specs.declared.Class.the-variants as class
-use Rattle.pack_layout.specs.Grounds.{plainOperand, noTarget, itemCount}
+use Rattle.pack_layout.specs.Grounds.{itemCount}
 use Rattle.pack_layout.specs.Kinds.{classOf}
 use Rattle.pack_layout.specs.Listing.{judged, judgedFrom}
 use Rattle.short_judging.specs.Operands.{hasOperand, operandsBefore}

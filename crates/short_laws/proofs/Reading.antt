@@ -2,7 +2,7 @@
 -- Assumes nothing.
 use mathlib.Core.Path.{_≡_, refl, sym, ap, _∙_}
 use mathlib.Core.Bool.{Bool, true, false}
-use mathlib.Core.List.{List, [], _∷_, _++_}
+use mathlib.Core.List.{List, _++_}
 use Prim.Native.Nat.{ℕ, _+_, _*_, _^_, _≤_, _<_}
 use native.Mathlib.Omega.{arith}
 use lib.ListN.{length, getD, length-append}
@@ -15,7 +15,7 @@ use Rattle.pack_layout.specs.Listing.{Listing, listed}
 use Rattle.pack_layout.specs.File.{leastFirst, fileCount, fileBase, fileKinds, fileOperands}
 use Rattle.pack_judging.proofs.Reading.{all-read}
 use Rattle.short_judging.specs.Operands.{hasOperand, operandsBefore, inTurn}
-use Rattle.short_judging.specs.ShortFile.{shortCount, operandCount, shortBase, shortKinds, shortKind, shortOperand, shortOperands}
+use Rattle.short_judging.specs.ShortFile.{shortCount, operandCount, shortBase, shortKinds, shortOperand, shortOperands}
 use Rattle.short_judging.proofs.Turns.{singles-length, operands-most}
 use Rattle.short_judging.proofs.Parts.{short-operand, short-operands}
 use Rattle.short_files.specs.Files.{kindByte, operandBytes, keptBytes, header, shortHeader, longFile, shortFile}

@@ -1,6 +1,6 @@
 -- The rows, computed.
 -- Assumes nothing.
-use mathlib.Core.Path.{_≡_, refl}
+use mathlib.Core.Path.{refl}
 use Rattle.cell.specs.Memory.{cellAt}
 use Rattle.cell.specs.Shift.{asr8}
 use Rattle.pack_layout.specs.Kinds.{classOf}
@@ -12,7 +12,7 @@ use Rattle.pack_layout.specs.Image.{word, cells}
 use Rattle.pack_layout.specs.Output.{bytesOf}
 use Rattle.pack_layout.specs.Packing.{marks, image}
 use Rattle.pack_layout.specs.Rounds.{rounds, settle, settled}
-use Rattle.packer.specs.Judgement.{judgeOrder, judgeRoom}
+use Rattle.pack_refusals.specs.Judgement.{judgeOrder, judgeRoom}
 use Rattle.short_judging.specs.Operands.{operandsBefore, inTurn}
 use Rattle.short_judging.specs.ShortFile.{shortOperand}
 use Rattle.short_judging.specs.Judging.{judgedShort}

@@ -1,14 +1,13 @@
 -- The theorems.
 -- Assumes nothing.
 use mathlib.Core.Path.{_≡_, refl, sym, ap, _∙_}
-use mathlib.Core.Bool.{Bool, true, false}
-use mathlib.Core.List.{List, [], _∷_, _++_}
-use Prim.Native.Nat.{ℕ, _+_, _*_, _^_, _≤_, _<_}
+use mathlib.Core.Bool.{false}
+use mathlib.Core.List.{List, [], _∷_}
+use Prim.Native.Nat.{ℕ, _+_, _*_, _≤_, _<_}
 use native.Mathlib.Omega.{arith}
 use borrow.Author.Tests.{le-ltb}
-use lib.ListN.{length, getD, take, drop}
+use lib.ListN.{length, getD, drop}
 use lib.Seq.{take-at}
-use Rattle.cell.specs.Choice.{if}
 use Rattle.cell.specs.Memory.{Bytewise}
 use Rattle.cell.specs.Refusals.{judge}
 use Rattle.cell.specs.declared.Judged.{Judged}
@@ -17,16 +16,16 @@ use Rattle.cell.proofs.JudgementLaws.{both-pass, refusal-some}
 use Rattle.cell.proofs.MemoryLaws.{cell-below}
 use Rattle.pack_layout.specs.declared.Class.{Class}
 use Rattle.pack_layout.specs.declared.Class.the-variants as class
-use Rattle.pack_layout.specs.File.{leastFirst, fileCount, fileBase, fileKinds, fileOperands, filed, judgedLength, judgedFile}
+use Rattle.pack_layout.specs.File.{fileCount, fileBase, fileKinds, fileOperands, filed, judgedLength, judgedFile}
 use Rattle.pack_layout.specs.Grounds.{unequal}
 use Rattle.pack_layout.specs.Kinds.{classOf}
 use Rattle.pack_layout.specs.Listing.{Listing, listed, judgedFrom, judgedArrays, judgedListing}
 use Rattle.pack_layout.proofs.Listing.{plain-operand, is-kind}
-use Rattle.packer.specs.Judgement.{judgeAll}
+use Rattle.pack_refusals.specs.Judgement.{judgeAll}
 use Rattle.packer.specs.Pack.{PackResult, packIf}
 use Rattle.pack_files.specs.Files.{judgePackFile, packFileOf}
 use Rattle.short_judging.specs.Operands.{hasOperand, operandsBefore}
-use Rattle.short_judging.specs.ShortFile.{shortCount, shortBase, shortKinds, shortKind, shortOperand, shortOperands, shortListing}
+use Rattle.short_judging.specs.ShortFile.{shortCount, shortBase, shortKinds, shortKind, shortOperands, shortListing}
 use Rattle.short_judging.specs.Judging.{judgedShort}
 use Rattle.short_judging.proofs.Parts.{file-count, file-operand, file-operands, short-operands, short-cells, short-count as short-kinds-length}
 use Rattle.short_judging.proofs.Passing.{GoodFile, file-good, good-file, GoodShort, short-good, good-short}

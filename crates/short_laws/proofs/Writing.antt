@@ -2,22 +2,22 @@
 -- Assumes nothing.
 use mathlib.Core.Path.{_≡_, refl, sym, ap, _∙_}
 use mathlib.Core.Bool.{Bool, true, false}
-use mathlib.Core.List.{List, [], _∷_, _++_}
+use mathlib.Core.List.{List, [], _++_}
 use Prim.Native.Nat.{ℕ, _+_, _*_, _≤_, _<_}
 use native.Mathlib.Omega.{arith}
-use lib.ListN.{length, getD, take, drop, take-append-drop, length-drop}
+use lib.ListN.{length, take, drop, take-append-drop, length-drop}
 use lib.Seq.{take-add, take-all, drop-drop}
 use Rattle.cell.specs.Choice.{if}
 use Rattle.cell.specs.Memory.{cellBytes, Bytewise}
 use Rattle.pack_layout.specs.Flags.{bit}
 use Rattle.pack_layout.specs.Kinds.{classOf}
-use Rattle.pack_layout.specs.File.{leastFirst, fileCount, fileBase, fileKinds, fileOperands, filed}
+use Rattle.pack_layout.specs.File.{leastFirst, fileCount, fileBase, fileKinds, filed}
 use Rattle.short_judging.specs.Operands.{hasOperand, operandsBefore, inTurn}
-use Rattle.short_judging.specs.ShortFile.{shortCount, operandCount, shortBase, shortKinds, shortKind, shortOperand, shortListing}
-use Rattle.short_judging.proofs.Turns.{operands-more, operands-grow}
+use Rattle.short_judging.specs.ShortFile.{shortCount, shortBase, shortKinds, shortKind, shortOperand, shortListing}
+use Rattle.short_judging.proofs.Turns.{operands-room}
 use Rattle.short_judging.proofs.Parts.{file-count, file-operand, short-count, short-operand}
 use Rattle.short_judging.proofs.Passing.{GoodFile, GoodShort}
-use Rattle.short_files.specs.Files.{leastBytes, kindByte, operandBytes, keptBytes, longFile, shortFile}
+use Rattle.short_files.specs.Files.{leastBytes, operandBytes, keptBytes, longFile, shortFile}
 use Rattle.short_files.proofs.Lengths.{operands-length, keeps-length}
 use Rattle.short_laws.proofs.Bytes.{bytes-at}
 use Rattle.short_laws.proofs.Turns.{singles-all, laid}
@@ -76,9 +76,8 @@ module _ (s : List ℕ) (low : Bytewise s) where
         ≡ take (length (keptBytes (shortListing s) i)) (drop (length (inTurn (keptBytes (shortListing s)) i)) (drop (12 + shortCount s) s))
     unfolding shortOperand
     short-bytes i h =
-        let k = operands-more (shortKind s) i (operandsBefore (shortKind s) i) (bit (hasOperand (classOf (shortKind s i)))) (classOf (shortKind s i)) refl refl refl in
-        let g = operands-grow (shortKind s) (i + 1) (shortCount s) (omega arith) in
-        go (hasOperand (classOf (shortKind s i))) refl (omega (arith, k, g, good .whole, good .operands))
+        let g = operands-room (shortKind s) i (shortCount s) (classOf (shortKind s i)) h refl in
+        go (hasOperand (classOf (shortKind s i))) refl (omega (arith, g, good .whole, good .operands))
       where
         at : ℕ
         at = 12 + shortCount s + 4 * operandsBefore (shortKind s) i

@@ -1,15 +1,15 @@
 -- A short file that its input list passes is packed as the two arrays that it carries.
 -- Assumes nothing.
 use mathlib.Core.Path.{_≡_, refl, sym, ap, _∙_}
-use mathlib.Core.List.{List, [], _∷_, _++_}
-use Prim.Native.Nat.{ℕ, suc, _+_, _-_, _*_, _≤_, _<_}
+use mathlib.Core.List.{List, [], _∷_}
+use Prim.Native.Nat.{ℕ, _+_, _-_, _*_, _<_}
 use native.Mathlib.Numerals.{add-one}
 use native.Mathlib.Omega.{arith}
 use borrow.Author.Tests.{eq-eqb, ne-eqb, le-ltb}
 use lib.ListN.{length, getD, take, drop, set}
-use lib.Seq.{take-suc, take-set-le, take-suc-set, getD-set-same}
+use lib.Seq.{take-suc-set}
 use Rattle.cell.specs.Choice.{if}
-use Rattle.cell.specs.Refusals.{judge, after, inOrder}
+use Rattle.cell.specs.Refusals.{after, inOrder}
 use Rattle.cell.specs.declared.Refusal.{Refusal}
 use Rattle.cell.specs.declared.Judged.{Judged}
 use Rattle.cell.specs.declared.Judged.the-variants.{Passed, Refused}
@@ -20,13 +20,14 @@ use Rattle.pack_layout.specs.Kinds.{classOf}
 use Rattle.pack_layout.specs.Listing.{judgedFrom, judgedArrays, judgedListing}
 use Rattle.pack_layout.specs.Packing.{imageCells, judgedPlace}
 use Rattle.packer.specs.declared.Packed.the-variants as packed
-use Rattle.packer.specs.Judgement.{judgeOrder, judgeRoom, judgePack}
+use Rattle.pack_refusals.specs.Judgement.{judgeOrder, judgeRoom, judgePack}
+use Rattle.packer.proofs.Answering.{handed-judged, handed-packed}
 use Rattle.packer.specs.Pack.{PackResult, packedTo, packOf}
 use Rattle.short_judging.specs.Operands.{hasOperand, operandsBefore, inTurn}
 use Rattle.short_judging.specs.ShortFile.{shortCount, shortBase, shortKinds, shortKind, shortOperand, shortOperands, shortListing}
 use Rattle.short_judging.specs.Judging.{judgedShort}
 use Rattle.short_judging.proofs.Parts.{short-kind, short-count, short-operands}
-use Rattle.short_judging.proofs.Passing.{GoodShort, short-good}
+use Rattle.short_judging.proofs.Passing.{short-good}
 use Rattle.short_packing.specs.Packing.{judgeInput, judgePackShort, packShortOf}
 
 -- one operand more in front of an array
@@ -70,6 +71,11 @@ module _ (order : ℕ) (s : List ℕ) where
   unfolding judgePackShort judgePack
   judged-same e size = rw (e, arrays-passed s e) refl
 
+  packed-same : judgedShort s ≡ Passed → (out : List ℕ)
+      → packOf order (shortKinds s) (shortOperands s) (shortBase s) out ≡ packShortOf order s out
+  unfolding packOf packShortOf
+  packed-same e out = rw (judged-same e (length out)) refl
+
   pub pack-refused : (out : List ℕ) (r : Refusal) → judgeInput order s ≡ Refused r → packedTo out (packed.Refused r) ≡ packShortOf order s out
   unfolding packShortOf
   pack-refused out r e = rw (input-refused r e (length out))
@@ -77,17 +83,12 @@ module _ (order : ℕ) (s : List ℕ) where
   -- the parts of the file that are handed on
   module _ (p : judgedShort s ≡ Passed) (n base : ℕ) (operands : List ℕ) (e : n ≡ shortCount s) (b : base ≡ shortBase s)
       (o : take (shortCount s) operands ≡ shortOperands s) where
-    kinds-part : take (12 + n - 12) (drop 12 s) ≡ shortKinds s
-    kinds-part = ap (λ (k : ℕ). take k (drop 12 s)) (let t : 12 + n - 12 ≡ shortCount s = omega arith in t)
-
-    operands-part : take (n - 0) operands ≡ shortOperands s
-    operands-part = ap (λ (k : ℕ). take k operands) (let t : n - 0 ≡ shortCount s = omega arith in t) ∙ o
-
     pub parts-judged : (size : ℕ) (j : Judged) → j ≡ judgePack order (take (12 + n - 12) (drop 12 s)) (take (n - 0) operands) base size
         → j ≡ judgePackShort order s size
-    parts-judged size j q = q ∙ rw (kinds-part, operands-part, b) (judged-same p size)
+    parts-judged size j q =
+        q ∙ handed-judged order s 12 n (shortCount s) base (shortBase s) operands (shortOperands s) e b o size ∙ judged-same p size
 
     pub parts-packed : (out : List ℕ) (a : PackResult)
         → a ≡ packOf order (take (12 + n - 12) (drop 12 s)) (take (n - 0) operands) base out → a ≡ packShortOf order s out
-    unfolding packOf packShortOf
-    parts-packed out a q = q ∙ rw (kinds-part, operands-part, b, judged-same p (length out)) refl
+    parts-packed out a q =
+        q ∙ handed-packed order s 12 n (shortCount s) base (shortBase s) operands (shortOperands s) e b o out ∙ packed-same p out

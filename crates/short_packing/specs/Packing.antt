@@ -5,7 +5,7 @@ use Prim.Native.Nat.{ℕ}
 use lib.ListN.{length}
 use Rattle.cell.specs.Refusals.{after}
 use Rattle.cell.specs.declared.Judged.{Judged}
-use Rattle.packer.specs.Judgement.{judgeOrder, judgeAll}
+use Rattle.pack_refusals.specs.Judgement.{judgeOrder, judgeAll}
 use Rattle.packer.specs.Pack.{PackResult, packIf}
 use Rattle.short_judging.specs.ShortFile.{shortBase, shortListing}
 use Rattle.short_judging.specs.Judging.{judgedShort}

@@ -1,43 +1,31 @@
-use Rattle.short_calls.proofs.CallLaws.{lengthen-no-place, lengthen-told}
+-- `exports::shorts::beetle_lengthen` meets its contract.
+-- Assumes nothing.
 use borrow.Author.Needs.{needs}
+use Rattle.short_calls.proofs.CallLaws.{lengthen-no-place, lengthen-told}
 use Rattle.exports.proofs.shorts.beetle_lengthen.Statement.{statement}
 use Rattle.exports.proofs.shorts.beetle_lengthen.Tie as tie
-use Rattle.exports.proofs.shorts.beetle_lengthen.Reads as reads
-use Rattle.exports.proofs.shorts.beetle_lengthen.Lts as lts
-use Rattle.short_calls.proofs.notes.no_place.Reads as no-place-reads
-use Rattle.short_calls.proofs.notes.note_converted.Reads as note-converted-reads
-use Rattle.short_files.proofs.lengthen.judge_lengthen.Reads as judge-lengthen-reads
-use Rattle.short_files.proofs.lengthen.lengthen.Reads as lengthen-reads
 
--- src/shorts.rt:33:25
 judge-lengthen-requires : tie.Need-judge-lengthen-requires
 judge-lengthen-requires c κs = search needs
 
--- src/shorts.rt:33:9
 no-place-requires : tie.Need-no-place-requires
 no-place-requires c κs = search needs
 
--- src/shorts.rt:33:9
 returns : tie.Need-returns
 returns c = lengthen-no-place (c .before .before .before .before .before .before .args .file .now) (c .before .before .before .before .before .before .args .output .now) (c .before .before .before .before .before .before .args .out .now) _ (c .before .judge-lengthen .ensures) _ (c .no-place .ensures) (c .before .before .if1 .taken)
 
--- src/shorts.rt:35:20
 lengthen-requires : tie.Need-lengthen-requires
 lengthen-requires c κs = search needs
 
--- src/shorts.rt:35:5
 note-converted-requires : tie.Need-note-converted-requires
 note-converted-requires c κs = search needs
 
--- src/shorts.rt:28:1
 same-length : tie.Need-same-length
 same-length c = search needs
 
--- src/shorts.rt:28:1
 same-length-2 : tie.Need-same-length-2
 same-length-2 c = search needs
 
--- src/shorts.rt:28:1
 returns-2 : tie.Need-returns-2
 returns-2 c = lengthen-told (c .before .before .before .before .before .before .before .before .before .before .before .before .args .file .now) (c .before .before .before .before .before .before .before .before .before .before .before .before .args .output .now) (c .before .before .before .before .before .before .before .before .before .before .before .before .args .out .now) _ _ _ _ (c .before .before .before .before .before .before .before .before .if1 .left) (c .before .before .before .before .before .before .lengthen .ensures) (c .before .before .note-converted .ensures)
 

@@ -1,43 +1,31 @@
-use Rattle.short_calls.proofs.CallLaws.{shorten-no-place, shorten-told}
+-- `exports::shorts::beetle_shorten` meets its contract.
+-- Assumes nothing.
 use borrow.Author.Needs.{needs}
+use Rattle.short_calls.proofs.CallLaws.{shorten-no-place, shorten-told}
 use Rattle.exports.proofs.shorts.beetle_shorten.Statement.{statement}
 use Rattle.exports.proofs.shorts.beetle_shorten.Tie as tie
-use Rattle.exports.proofs.shorts.beetle_shorten.Reads as reads
-use Rattle.exports.proofs.shorts.beetle_shorten.Lts as lts
-use Rattle.short_calls.proofs.notes.no_place.Reads as no-place-reads
-use Rattle.short_calls.proofs.notes.note_converted.Reads as note-converted-reads
-use Rattle.short_files.proofs.shorten.judge_shorten.Reads as judge-shorten-reads
-use Rattle.short_files.proofs.shorten.shorten.Reads as shorten-reads
 
--- src/shorts.rt:23:25
 judge-shorten-requires : tie.Need-judge-shorten-requires
 judge-shorten-requires c κs = search needs
 
--- src/shorts.rt:23:9
 no-place-requires : tie.Need-no-place-requires
 no-place-requires c κs = search needs
 
--- src/shorts.rt:23:9
 returns : tie.Need-returns
 returns c = shorten-no-place (c .before .before .before .before .before .before .args .file .now) (c .before .before .before .before .before .before .args .output .now) (c .before .before .before .before .before .before .args .out .now) _ (c .before .judge-shorten .ensures) _ (c .no-place .ensures) (c .before .before .if1 .taken)
 
--- src/shorts.rt:25:20
 shorten-requires : tie.Need-shorten-requires
 shorten-requires c κs = search needs
 
--- src/shorts.rt:25:5
 note-converted-requires : tie.Need-note-converted-requires
 note-converted-requires c κs = search needs
 
--- src/shorts.rt:18:1
 same-length : tie.Need-same-length
 same-length c = search needs
 
--- src/shorts.rt:18:1
 same-length-2 : tie.Need-same-length-2
 same-length-2 c = search needs
 
--- src/shorts.rt:18:1
 returns-2 : tie.Need-returns-2
 returns-2 c = shorten-told (c .before .before .before .before .before .before .before .before .before .before .before .before .args .file .now) (c .before .before .before .before .before .before .before .before .before .before .before .before .args .output .now) (c .before .before .before .before .before .before .before .before .before .before .before .before .args .out .now) _ _ _ _ (c .before .before .before .before .before .before .before .before .if1 .left) (c .before .before .before .before .before .before .shorten .ensures) (c .before .before .note-converted .ensures)
 

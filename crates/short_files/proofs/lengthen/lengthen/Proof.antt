@@ -1,32 +1,25 @@
+-- `short_files::lengthen::lengthen` meets its contract.
+-- Assumes nothing.
+use mathlib.Core.Path.{sym, ap, _∙_}
 use Prim.Native.Nat.{ℕ, _+_, _*_}
-use Rattle.short_files.proofs.Answering.{room-passed, lengthened-length, convert-refused, convert-passed}
-use Rattle.short_files.specs.Converted.{lengthened, judgeLengthen, lengthenOf}
+use native.Mathlib.Omega.{arith}
+use borrow.Author.Needs.{needs}
 use Rattle.short_judging.proofs.Passing.{short-good}
 use Rattle.short_judging.specs.Judging.{judgedShort}
-use native.Mathlib.Omega.{arith}
-use mathlib.Core.Path.{_≡_, sym, ap, _∙_}
-use borrow.Author.Needs.{needs}
+use Rattle.short_files.proofs.Answering.{room-passed, lengthened-length, convert-refused, convert-passed}
+use Rattle.short_files.specs.Converted.{lengthened, judgeLengthen, lengthenOf}
 use Rattle.short_files.proofs.lengthen.lengthen.Statement.{statement}
 use Rattle.short_files.proofs.lengthen.lengthen.Tie as tie
-use Rattle.short_files.proofs.lengthen.lengthen.Reads as reads
-use Rattle.short_files.proofs.lengthen.lengthen.Lts as lts
-use Rattle.pack_judging.proofs.file.cell_at.Reads as cell-at-reads
-use Rattle.short_files.proofs.lengthen.judge_lengthen.Reads as judge-lengthen-reads
-use Rattle.short_files.proofs.lengthen.write_long.Reads as write-long-reads
 
--- src/lengthen.rt:68:11
 judge-lengthen-requires : tie.Need-judge-lengthen-requires
 judge-lengthen-requires c κs = search needs
 
--- src/lengthen.rt:69:25
 enum-known-r : tie.Need-enum-known-r
 enum-known-r c = search needs
 
--- src/lengthen.rt:71:30
 enum-told : tie.Need-enum-told
 enum-told c = search needs
 
--- src/lengthen.rt:71:13
 write-long-requires : tie.Need-write-long-requires
 unfolding judgeLengthen
 write-long-requires c κs = let s = c .before .before .before .before .before .before .args .file .now in
@@ -34,37 +27,31 @@ write-long-requires c κs = let s = c .before .before .before .before .before .b
     let g = short-good s (p .0) in
     ((g .most, omega (arith, g .whole, g .operands)), omega (arith, p .1, lengthened-length s (p .0)))
 
--- src/lengthen.rt:72:38
 cell-at-requires : tie.Need-cell-at-requires
 unfolding judgeLengthen
 cell-at-requires c κs = let s = c .before .before .before .before .before .before .before .before .before .args .file .now in
     let p = room-passed (judgedShort s) (lengthened s) _ (sym (c .before .before .before .before .before .before .judge-lengthen .ensures) ∙ c .before .before .before .before .enum-told .given .1) in
     omega (arith, short-good s (p .0) .whole)
 
--- src/lengthen.rt:72:34
 mul-t11 : tie.Need-mul-t11
 unfolding judgeLengthen
 mul-t11 c = let s = c .before .before .before .before .before .before .before .before .before .before .args .file .now in
     let p = room-passed (judgedShort s) (lengthened s) _ (sym (c .before .before .before .before .before .before .before .judge-lengthen .ensures) ∙ c .before .before .before .before .before .enum-told .given .1) in
     omega (arith, short-good s (p .0) .most, c .cell-at .ensures)
 
--- src/lengthen.rt:72:30
 add-t12 : tie.Need-add-t12
 unfolding judgeLengthen
 add-t12 c = let s = c .before .before .before .before .before .before .before .before .before .before .args .file .now in
     let p = room-passed (judgedShort s) (lengthened s) _ (sym (c .before .before .before .before .before .before .before .judge-lengthen .ensures) ∙ c .before .before .before .before .before .enum-told .given .1) in
     omega (arith, short-good s (p .0) .most, c .cell-at .ensures)
 
--- src/lengthen.rt:65:1
 returns : tie.Need-returns
 unfolding lengthenOf
 returns c = convert-refused _ _ _ _ (sym (c .before .before .before .judge-lengthen .ensures) ∙ c .before .r .given .1)
 
--- src/lengthen.rt:65:1
 same-length : tie.Need-same-length
 same-length c = search needs
 
--- src/lengthen.rt:65:1
 returns-2 : tie.Need-returns-2
 unfolding lengthenOf judgeLengthen
 returns-2 c = let s = c .before .before .before .before .before .before .before .before .before .before .args .file .now in

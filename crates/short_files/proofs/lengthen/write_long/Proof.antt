@@ -1,46 +1,35 @@
-use Rattle.short_files.proofs.Written.{long-written}
+-- `short_files::lengthen::write_long` meets its contract.
+-- Assumes nothing.
+use mathlib.Core.Path.{sym, _∙_}
+use native.Mathlib.Omega.{arith}
+use borrow.Author.Needs.{needs}
 use Rattle.short_judging.proofs.Parts.{short-count}
 use Rattle.short_judging.specs.ShortFile.{shortBase, shortListing}
-use native.Mathlib.Omega.{arith}
-use mathlib.Core.Path.{_≡_, sym, ap, _∙_}
-use borrow.Author.Needs.{needs}
+use Rattle.short_files.proofs.Written.{long-written}
 use Rattle.short_files.proofs.lengthen.write_long.Statement.{statement}
 use Rattle.short_files.proofs.lengthen.write_long.Tie as tie
-use Rattle.short_files.proofs.lengthen.write_long.Reads as reads
-use Rattle.short_files.proofs.lengthen.write_long.Lts as lts
-use Rattle.pack_judging.proofs.file.cell_at.Reads as cell-at-reads
-use Rattle.short_files.proofs.lengthen.write_items.Reads as write-items-reads
-use Rattle.short_files.proofs.writing.put.Reads as put-reads
 
--- src/lengthen.rt:44:9
 cell-at-requires : tie.Need-cell-at-requires
 cell-at-requires c κs = search needs
 
--- src/lengthen.rt:45:5
 put-requires : tie.Need-put-requires
 put-requires c κs = search needs
 
--- src/lengthen.rt:46:20
 cell-at-requires-2 : tie.Need-cell-at-requires-2
 cell-at-requires-2 c κs = search needs
 
--- src/lengthen.rt:46:5
 put-requires-2 : tie.Need-put-requires-2
 put-requires-2 c κs = search needs
 
--- src/lengthen.rt:47:23
 cast-write-items : tie.Need-cast-write-items
 cast-write-items c = search needs
 
--- src/lengthen.rt:47:5
 write-items-requires : tie.Need-write-items-requires
 write-items-requires c κs = search needs
 
--- src/lengthen.rt:39:1
 same-length : tie.Need-same-length
 same-length c = search needs
 
--- src/lengthen.rt:39:1
 returns : tie.Need-returns
 returns c = let s = c .before .before .before .before .before .before .before .before .before .before .before .before .before .before .before .before .args .file .now in
     let k = short-count s (omega (arith, c .before .before .before .before .before .before .before .before .before .before .before .before .before .before .before .before .pre .0 .1)) in

@@ -1,72 +1,56 @@
-use Rattle.short_files.proofs.Answering.{room-refused, room-short, room-good, shortened-length, convert-refused, convert-passed}
-use Rattle.short_files.specs.Converted.{shortened, judgeShorten, shortenOf}
+-- `short_files::shorten::shorten` meets its contract.
+-- Assumes nothing.
+use mathlib.Core.Path.{sym}
+use native.Mathlib.Omega.{arith}
+use borrow.Author.Needs.{needs}
+use Rattle.pack_layout.specs.File.{fileCount, filed, judgedFile}
 use Rattle.short_judging.proofs.Passing.{counted-refused, counted-passed, file-good}
 use Rattle.short_judging.proofs.Turns.{operands-most}
-use Rattle.pack_layout.specs.File.{fileCount, filed, judgedFile}
-use Prim.Native.Nat.{ℕ, _+_, _*_}
-use native.Mathlib.Omega.{arith}
-use mathlib.Core.Path.{_≡_, sym, ap, _∙_}
-use borrow.Author.Needs.{needs}
+use Rattle.short_files.proofs.Answering.{room-refused, room-short, room-good, shortened-length, convert-refused, convert-passed}
+use Rattle.short_files.specs.Converted.{shortened, judgeShorten, shortenOf}
 use Rattle.short_files.proofs.shorten.shorten.Statement.{statement}
 use Rattle.short_files.proofs.shorten.shorten.Tie as tie
-use Rattle.short_files.proofs.shorten.shorten.Reads as reads
-use Rattle.short_files.proofs.shorten.shorten.Lts as lts
-use Rattle.pack_judging.proofs.file.cell_at.Reads as cell-at-reads
-use Rattle.short_files.proofs.shorten.short_length.Reads as short-length-reads
-use Rattle.short_files.proofs.shorten.write_short.Reads as write-short-reads
-use Rattle.short_judging.proofs.file.count_operands.Reads as count-operands-reads
 
--- src/shorten.rt:64:11
 count-operands-requires : tie.Need-count-operands-requires
 count-operands-requires c κs = search needs
 
--- src/shorten.rt:65:26
 enum-known-r : tie.Need-enum-known-r
 enum-known-r c = search needs
 
--- src/shorten.rt:66:27
 enum-known-m : tie.Need-enum-known-m
 enum-known-m c = search needs
 
--- src/shorten.rt:67:37
 cell-at-requires : tie.Need-cell-at-requires
 cell-at-requires c κs = let p = counted-passed (c .before .before .before .before .before .before .args .file .now) _ (c .before .before .before .count-operands .ensures) _ (c .before .m .given .1) in omega (arith, file-good (c .before .before .before .before .before .before .args .file .now) (p .0) .whole)
 
--- src/shorten.rt:67:17
 short-length-requires : tie.Need-short-length-requires
 short-length-requires c κs = search needs
 
--- src/shorten.rt:69:17
 returns : tie.Need-returns
 unfolding shortenOf judgeShorten
 returns c = let s = c .before .before .before .before .before .before .before .before .before .args .file .now in
     let p = counted-passed s _ (c .before .before .before .before .before .before .count-operands .ensures) _ (c .before .before .before .before .m .given .1) in
     convert-refused _ _ _ _ (room-short (judgedFile s) (shortened s) _ _ (p .0) (shortened-length s (p .0)) (omega (arith, c .if1 .taken, c .before .short-length .ensures, c .before .before .cell-at .ensures, p .1)))
 
--- src/shorten.rt:71:13
 write-short-requires : tie.Need-write-short-requires
 write-short-requires c κs = let s = c .before .before .before .before .before .before .before .before .before .before .args .file .now in
     let p = counted-passed s _ (c .before .before .before .before .before .before .before .count-operands .ensures) _ (c .before .before .before .before .before .m .given .1) in
     let g = file-good s (p .0) in
     ((g .most, g .whole), (sym (p .1), omega (arith, c .before .if1 .left, c .before .before .short-length .ensures, c .before .before .before .cell-at .ensures)))
 
--- src/shorten.rt:72:30
 cast-t8 : tie.Need-cast-t8
 cast-t8 c = let s = c .before .before .before .before .before .before .before .before .before .before .before .before .before .args .file .now in
     let p = counted-passed s _ (c .before .before .before .before .before .before .before .before .before .before .count-operands .ensures) _ (c .before .before .before .before .before .before .before .before .m .given .1) in
     omega (arith, file-good s (p .0) .most, p .1, operands-most (filed s .kind) (fileCount s), c .before .before .before .before .before .short-length .ensures, c .before .before .before .before .before .before .cell-at .ensures)
 
--- src/shorten.rt:61:1
 returns-2 : tie.Need-returns-2
 unfolding shortenOf judgeShorten
 returns-2 c = let s = c .before .before .before .before .before .before .args .file .now in
     convert-refused _ _ _ _ (room-refused (judgedFile s) (shortened s) _ _ (counted-refused s _ (c .before .before .before .count-operands .ensures) _ (c .before .r .given .1)))
 
--- src/shorten.rt:61:1
 same-length : tie.Need-same-length
 same-length c = search needs
 
--- src/shorten.rt:61:1
 returns-3 : tie.Need-returns-3
 unfolding shortenOf judgeShorten
 returns-3 c = let s = c .before .before .before .before .before .before .before .before .before .before .before .before .before .args .file .now in

@@ -1,25 +1,20 @@
+-- `short_files::shorten::write_items` meets its contract.
+-- Assumes nothing.
+use mathlib.Core.Path.{_≡_, refl, sym, ap, _∙_}
+use Prim.Native.Nat.{_+_, _-_, _*_, _≤_}
+use native.Mathlib.Omega.{arith}
+use borrow.Author.Needs.{needs}
+use lib.ListN.{length, length-set}
+use Rattle.pack_layout.specs.File.{fileCount, filed}
+use Rattle.pack_layout.specs.Kinds.{classOf}
+use Rattle.short_judging.proofs.Parts.{file-kind}
+use Rattle.short_judging.proofs.Turns.{operands-more, operands-most, operands-room, bit-most}
+use Rattle.short_judging.specs.Operands.{hasOperand, operandsBefore}
 use Rattle.short_files.proofs.Items.{shortening, shorten-item}
 use Rattle.short_files.proofs.Filling.{filled-none, filled-length}
 use Rattle.short_files.specs.Files.{keptBytes}
-use Rattle.short_judging.proofs.Parts.{file-kind}
-use Rattle.short_judging.proofs.Turns.{operands-more, operands-most, operands-grow, bit-most}
-use Rattle.short_judging.specs.Operands.{hasOperand, operandsBefore}
-use Rattle.pack_layout.specs.File.{fileCount, filed}
-use Rattle.cell.proofs.MemoryLaws.{store-length}
-use Rattle.pack_layout.specs.Kinds.{classOf}
-use lib.ListN.{length, length-set}
-use borrow.Author.Needs.{needs}
-use native.Mathlib.Omega.{arith}
-use Prim.Native.Nat.{ℕ, _+_, _-_, _*_, _≤_}
-use mathlib.Core.Path.{_≡_, refl, sym, ap, _∙_}
 use Rattle.short_files.proofs.shorten.write_items.Statement.{statement}
 use Rattle.short_files.proofs.shorten.write_items.Tie as tie
-use Rattle.short_files.proofs.shorten.write_items.Reads as reads
-use Rattle.short_files.proofs.shorten.write_items.Lts as lts
-use Rattle.pack_judging.proofs.file.cell_at.Reads as cell-at-reads
-use Rattle.pack_judging.proofs.kinds.class_of.Reads as class-of-reads
-use Rattle.short_files.proofs.writing.put_kept.Reads as put-kept-reads
-use Rattle.short_judging.proofs.operands.operands_of.Reads as operands-of-reads
 
 abbrev Inv-loop : tie.InvT-loop
 Inv-loop file n output₀ at₀ i₀ output at i = (i ≤ n) × (length output ≡ length output₀) × (at ≡ 12 + n + 4 * operandsBefore (filed file .kind) i) × (output ≡ shortening file output₀ n i)
@@ -27,89 +22,68 @@ Inv-loop file n output₀ at₀ i₀ output at i = (i ≤ n) × (length output �
 abbrev μ-loop : tie.MeasureT-loop
 μ-loop file n output₀ at₀ i₀ output at i = n - i
 
--- src/shorten.rt:30:18
 add-at : tie.Need-add-at Inv-loop μ-loop
 add-at c = omega (arith, c .before .before .pre .0 .1)
 
--- src/shorten.rt:32:5
 loop-holds : tie.Need-loop-holds Inv-loop μ-loop
 unfolding operandsBefore
 loop-holds c = (omega arith, refl, omega arith, filled-none (c .before .before .args .output .now) 12 (c .before .before .args .n) (filed (c .before .before .args .file .now) .kind) (keptBytes (filed (c .before .before .args .file .now))))
 
--- src/shorten.rt:33:25
 add-kind : tie.Need-add-kind Inv-loop μ-loop
 add-kind c = omega arith
 
--- src/shorten.rt:33:20
 shared-slice-read-kind : tie.Need-shared-slice-read-kind Inv-loop μ-loop
 shared-slice-read-kind c = omega (arith, c .before .before .before .before .before .pre .0 .2)
 
--- src/shorten.rt:34:16
 add-output : tie.Need-add-output Inv-loop μ-loop
 add-output c = omega arith
 
--- src/shorten.rt:34:9
 slice-write-output : tie.Need-slice-write-output Inv-loop μ-loop
 slice-write-output c = omega (arith, c .before .before .before .before .before .pre .1, c .before .before .loop .inv .1)
 
--- src/shorten.rt:35:26
 class-of-requires : tie.Need-class-of-requires Inv-loop μ-loop
 class-of-requires c κs = search needs
 
--- src/shorten.rt:35:60
 add-cell-at : tie.Need-add-cell-at Inv-loop μ-loop
 add-cell-at c = omega (arith, c .before .before .before .before .before .before .before .pre .0 .1)
 
--- src/shorten.rt:35:68
 mul-cell-at : tie.Need-mul-cell-at Inv-loop μ-loop
 mul-cell-at c = omega (arith, c .before .before .before .before .before .before .before .pre .0 .1)
 
--- src/shorten.rt:35:60
 add-cell-at-2 : tie.Need-add-cell-at-2 Inv-loop μ-loop
 add-cell-at-2 c = omega (arith, c .before .before .before .before .before .before .before .pre .0 .1)
 
--- src/shorten.rt:35:46
 cell-at-requires : tie.Need-cell-at-requires Inv-loop μ-loop
 cell-at-requires c κs = omega (arith, c .before .before .before .before .before .before .before .pre .0 .2)
 
--- src/shorten.rt:35:9
 put-kept-requires : tie.Need-put-kept-requires Inv-loop μ-loop
-put-kept-requires c κs = let l = filed (c .before .before .before .before .before .before .before .before .args .file .now) in
+put-kept-requires c κs = let s = c .before .before .before .before .before .before .before .before .args .file .now in
     let loop = c .before .before .before .before .before .loop in
-    let k = file-kind (c .before .before .before .before .before .before .before .before .args .file .now) (loop .i) (omega (arith, c .before .before .before .before .before .before .before .before .pre .0 .0)) in
-    let g = operands-more (l .kind) (loop .i) (operandsBefore (l .kind) (loop .i)) _ _ (c .before .class-of .ensures ∙ ap classOf (sym k)) refl refl in
-    let h = operands-grow (l .kind) (loop .i + 1) (fileCount (c .before .before .before .before .before .before .before .before .args .file .now)) (omega (arith, c .before .before .before .before .loop-test .taken, c .before .before .before .before .before .before .before .before .pre .0 .0)) in
-    simp length-set (omega (arith, c .before .before .before .before .before .before .before .before .pre .1, loop .inv .1, loop .inv .2, g, h))
+    let k = file-kind s (loop .i) (omega (arith, c .before .before .before .before .before .before .before .before .pre .0 .0)) in
+    let g = operands-room (filed s .kind) (loop .i) (fileCount s) _ (omega (arith, c .before .before .before .before .loop-test .taken, c .before .before .before .before .before .before .before .before .pre .0 .0)) (c .before .class-of .ensures ∙ ap classOf (sym k)) in
+    simp length-set (omega (arith, c .before .before .before .before .before .before .before .before .pre .1, loop .inv .1, loop .inv .2, g))
 
--- src/shorten.rt:36:31
 class-of-requires-2 : tie.Need-class-of-requires-2 Inv-loop μ-loop
 class-of-requires-2 c κs = search needs
 
--- src/shorten.rt:36:19
 operands-of-requires : tie.Need-operands-of-requires Inv-loop μ-loop
 operands-of-requires c κs = search needs
 
--- src/shorten.rt:36:19
 cast-at : tie.Need-cast-at Inv-loop μ-loop
 cast-at c = search needs
 
--- src/shorten.rt:36:15
 mul-at : tie.Need-mul-at Inv-loop μ-loop
 mul-at c = omega (arith, c .operands-of .ensures, bit-most (hasOperand (c .before .class-of2 .result)))
 
--- src/shorten.rt:36:9
 add-at-2 : tie.Need-add-at-2 Inv-loop μ-loop
 add-at-2 c = omega (arith, c .before .before .before .before .before .before .before .before .before .before .before .before .before .pre .0 .1, c .before .before .before .before .before .before .before .before .before .before .loop .inv .2, operands-most (filed (c .before .before .before .before .before .before .before .before .before .before .before .before .before .args .file .now) .kind) (c .before .before .before .before .before .before .before .before .before .before .loop .i), c .operands-of .ensures, bit-most (hasOperand (c .before .class-of2 .result)))
 
--- src/shorten.rt:37:9
 add-i : tie.Need-add-i Inv-loop μ-loop
 add-i c = omega arith
 
--- src/shorten.rt:32:5
 loop-less : tie.Need-loop-less Inv-loop μ-loop
 loop-less c = omega arith
 
--- src/shorten.rt:32:5
 loop-again : tie.Need-loop-again Inv-loop μ-loop
 loop-again c = let s = c .before .before .before .before .before .before .before .before .before .before .before .before .before .args .file .now in
     let l = filed s in
@@ -123,11 +97,9 @@ loop-again c = let s = c .before .before .before .before .before .before .before
       next,
     )
 
--- src/shorten.rt:25:1
 same-length : tie.Need-same-length Inv-loop μ-loop
 same-length c = c .before .loop .inv .1
 
--- src/shorten.rt:25:1
 returns : tie.Need-returns Inv-loop μ-loop
 returns c = let loop = c .before .loop in
     let t : loop .i ≡ c .before .before .before .before .args .n = omega (arith, loop .inv .0, c .loop-test .left) in

@@ -1,51 +1,39 @@
-use Rattle.short_files.proofs.Written.{short-written}
+-- `short_files::shorten::write_short` meets its contract.
+-- Assumes nothing.
+use mathlib.Core.Path.{sym, ap, _∙_}
+use native.Mathlib.Omega.{arith}
+use borrow.Author.Needs.{needs}
+use Rattle.pack_layout.specs.File.{filed, fileBase}
 use Rattle.short_judging.proofs.Parts.{file-count}
 use Rattle.short_judging.specs.Operands.{operandsBefore}
-use Rattle.pack_layout.specs.File.{filed, fileBase}
-use native.Mathlib.Omega.{arith}
-use mathlib.Core.Path.{_≡_, sym, ap, _∙_}
-use borrow.Author.Needs.{needs}
+use Rattle.short_files.proofs.Written.{short-written}
 use Rattle.short_files.proofs.shorten.write_short.Statement.{statement}
 use Rattle.short_files.proofs.shorten.write_short.Tie as tie
-use Rattle.short_files.proofs.shorten.write_short.Reads as reads
-use Rattle.short_files.proofs.shorten.write_short.Lts as lts
-use Rattle.pack_judging.proofs.file.cell_at.Reads as cell-at-reads
-use Rattle.short_files.proofs.shorten.write_items.Reads as write-items-reads
-use Rattle.short_files.proofs.writing.put.Reads as put-reads
 
--- src/shorten.rt:47:9
 cell-at-requires : tie.Need-cell-at-requires
 cell-at-requires c κs = search needs
 
--- src/shorten.rt:48:5
 put-requires : tie.Need-put-requires
 put-requires c κs = search needs
 
--- src/shorten.rt:49:5
 put-requires-2 : tie.Need-put-requires-2
 put-requires-2 c κs = search needs
 
--- src/shorten.rt:50:20
 cell-at-requires-2 : tie.Need-cell-at-requires-2
 cell-at-requires-2 c κs = search needs
 
--- src/shorten.rt:50:5
 put-requires-3 : tie.Need-put-requires-3
 put-requires-3 c κs = search needs
 
--- src/shorten.rt:51:23
 cast-write-items : tie.Need-cast-write-items
 cast-write-items c = search needs
 
--- src/shorten.rt:51:5
 write-items-requires : tie.Need-write-items-requires
 write-items-requires c κs = search needs
 
--- src/shorten.rt:42:1
 same-length : tie.Need-same-length
 same-length c = search needs
 
--- src/shorten.rt:42:1
 returns : tie.Need-returns
 returns c = let s = c .before .before .before .before .before .before .before .before .before .before .before .before .before .before .before .before .before .before .before .before .args .file .now in
     let k = file-count s (omega (arith, c .before .before .before .before .before .before .before .before .before .before .before .before .before .before .before .before .before .before .before .before .pre .0 .1)) in

@@ -1,28 +1,23 @@
-use Rattle.short_judging.proofs.Parts.{file-kind}
+-- `short_judging::file::count_items` meets its contract.
+-- Assumes nothing.
+use mathlib.Core.Path.{_≡_, refl, sym, ap, _∙_}
+use Prim.Native.Nat.{ℕ, _-_, _≤_}
+use native.Mathlib.Omega.{arith}
+use native.Mathlib.Nat.{sub-zero}
+use borrow.Author.Needs.{needs}
+use Rattle.cell.specs.declared.Judged.{Judged}
 use Rattle.pack_layout.specs.Kinds.{classOf}
+use Rattle.pack_layout.specs.Listing.{judgedFrom}
+use Rattle.pack_layout.specs.File.{fileCount, filed}
+use Rattle.pack_judging.proofs.Steps.{judged-on, judged-stop, judged-end}
+use Rattle.short_judging.proofs.Parts.{file-kind}
 use Rattle.short_judging.specs.declared.Counted.the-variants as counted
 use Rattle.short_judging.proofs.Passes.{file-item}
 use Rattle.short_judging.proofs.Turns.{operands-more, operands-most, bit-most}
 use Rattle.short_judging.specs.Judging.{keeping, keptCount}
 use Rattle.short_judging.specs.Operands.{hasOperand, operandsBefore}
-use Rattle.pack_judging.proofs.Steps.{judged-on, judged-stop, judged-end}
-use Rattle.pack_layout.specs.Listing.{judgedFrom}
-use Rattle.pack_layout.specs.File.{fileCount, filed}
-use Rattle.cell.specs.declared.Judged.{Judged}
-use borrow.Author.Needs.{needs}
-use native.Mathlib.Omega.{arith}
-use native.Mathlib.Nat.{sub-zero}
-use Prim.Native.Nat.{ℕ, _+_, _-_, _*_, _≤_}
-use mathlib.Core.Path.{_≡_, refl, sym, ap, _∙_}
 use Rattle.short_judging.proofs.file.count_items.Statement.{statement}
 use Rattle.short_judging.proofs.file.count_items.Tie as tie
-use Rattle.short_judging.proofs.file.count_items.Reads as reads
-use Rattle.short_judging.proofs.file.count_items.Lts as lts
-use Rattle.pack_judging.proofs.check.judge_item.Reads as judge-item-reads
-use Rattle.pack_judging.proofs.file.cell_at.Reads as cell-at-reads
-use Rattle.pack_judging.proofs.kinds.class_of.Reads as class-of-reads
-use Rattle.short_judging.proofs.file.keep.Reads as keep-reads
-use Rattle.short_judging.proofs.operands.operands_of.Reads as operands-of-reads
 
 abbrev Inv-loop : tie.InvT-loop
 Inv-loop file n m₀ i₀ m i = (i ≤ n) × (m ≡ operandsBefore (filed file .kind) i) × (judgedFrom (filed file) (n - i) i ≡ judgedFrom (filed file) n 0)
@@ -30,59 +25,46 @@ Inv-loop file n m₀ i₀ m i = (i ≤ n) × (m ≡ operandsBefore (filed file .
 abbrev μ-loop : tie.MeasureT-loop
 μ-loop file n m₀ i₀ m i = n - i
 
--- src/file.rt:34:5
 loop-holds : tie.Need-loop-holds Inv-loop μ-loop
 unfolding operandsBefore
 loop-holds c = let args = c .before .args in (omega arith, refl, ap (λ (k : ℕ). judgedFrom (filed (args .file .now)) k 0) (sub-zero (args .n)))
 
--- src/file.rt:35:31
 add-class-of : tie.Need-add-class-of Inv-loop μ-loop
 add-class-of c = omega arith
 
--- src/file.rt:35:26
 shared-slice-read-class-of : tie.Need-shared-slice-read-class-of Inv-loop μ-loop
 shared-slice-read-class-of c = omega (arith, c .before .before .before .before .pre .2)
 
--- src/file.rt:35:13
 class-of-requires : tie.Need-class-of-requires Inv-loop μ-loop
 class-of-requires c κs = search needs
 
--- src/file.rt:36:31
 cast-judge-item : tie.Need-cast-judge-item Inv-loop μ-loop
 cast-judge-item c = omega (arith, c .before .before .before .before .before .pre .1)
 
--- src/file.rt:36:55
 add-cell-at : tie.Need-add-cell-at Inv-loop μ-loop
 add-cell-at c = omega (arith, c .before .before .before .before .before .pre .1)
 
--- src/file.rt:36:63
 mul-cell-at : tie.Need-mul-cell-at Inv-loop μ-loop
 mul-cell-at c = omega (arith, c .before .before .before .before .before .pre .1)
 
--- src/file.rt:36:55
 add-cell-at-2 : tie.Need-add-cell-at-2 Inv-loop μ-loop
 add-cell-at-2 c = omega (arith, c .before .before .before .before .before .pre .1)
 
--- src/file.rt:36:41
 cell-at-requires : tie.Need-cell-at-requires Inv-loop μ-loop
 cell-at-requires c κs = omega (arith, c .before .before .before .before .before .pre .2)
 
--- src/file.rt:36:13
 judge-item-requires : tie.Need-judge-item-requires Inv-loop μ-loop
 judge-item-requires c κs = search needs
 
 enum-told : tie.Need-enum-told Inv-loop μ-loop
 enum-told c = search needs
 
--- src/file.rt:38:13
 enum-told-2 : tie.Need-enum-told-2 Inv-loop μ-loop
 enum-told-2 c = search needs
 
--- src/file.rt:38:13
 keep-requires : tie.Need-keep-requires Inv-loop μ-loop
 keep-requires c κs = search needs
 
--- src/file.rt:38:13
 returns : tie.Need-returns Inv-loop μ-loop
 returns c = let args = c .before .before .before .before .before .before .before .before .before .before .args in
     let l = filed (args .file .now) in
@@ -91,23 +73,18 @@ returns c = let args = c .before .before .before .before .before .before .before
     let s = judged-stop l (args .n) (loop .i) _ (c .before .before .before .before .before .before .before .loop-test .taken) (sym e ∙ c .before .enum-told2 .given .1) in
     c .keep .ensures ∙ ap (λ (j : Judged). keeping j (loop .m)) (c .before .enum-told2 .given .1) ∙ ap (λ (j : Judged). keeping j (keptCount (args .file .now))) (sym s ∙ loop .inv .2)
 
--- src/file.rt:40:14
 operands-of-requires : tie.Need-operands-of-requires Inv-loop μ-loop
 operands-of-requires c κs = search needs
 
--- src/file.rt:40:9
 add-m : tie.Need-add-m Inv-loop μ-loop
 add-m c = omega (arith, c .before .before .before .before .before .before .before .before .before .before .pre .1, operands-most (filed (c .before .before .before .before .before .before .before .before .before .before .args .file .now) .kind) (c .before .before .before .before .before .before .before .before .loop .i), c .before .before .before .before .before .before .before .before .loop .inv .1, c .operands-of .ensures, bit-most (hasOperand (c .before .before .before .before .before .class-of .result)))
 
--- src/file.rt:41:9
 add-i : tie.Need-add-i Inv-loop μ-loop
 add-i c = omega arith
 
--- src/file.rt:34:5
 loop-less : tie.Need-loop-less Inv-loop μ-loop
 loop-less c = omega arith
 
--- src/file.rt:34:5
 loop-again : tie.Need-loop-again Inv-loop μ-loop
 loop-again c = let args = c .before .before .before .before .before .before .before .before .before .before .args in
     let l = filed (args .file .now) in
@@ -119,7 +96,6 @@ loop-again c = let args = c .before .before .before .before .before .before .bef
       sym s ∙ loop .inv .2,
     )
 
--- src/file.rt:28:1
 returns-2 : tie.Need-returns-2 Inv-loop μ-loop
 returns-2 c = let args = c .before .before .before .args in
     let l = filed (args .file .now) in

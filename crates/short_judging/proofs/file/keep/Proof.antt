@@ -1,22 +1,18 @@
+-- `short_judging::file::keep` meets its contract.
+-- Assumes nothing.
 use borrow.Author.Needs.{needs}
 use Rattle.short_judging.proofs.file.keep.Statement.{statement}
 use Rattle.short_judging.proofs.file.keep.Tie as tie
-use Rattle.short_judging.proofs.file.keep.Reads as reads
-use Rattle.short_judging.proofs.file.keep.Lts as lts
 
--- src/file.rt:22:25
 enum-known-j : tie.Need-enum-known-j
 enum-known-j c = search needs
 
--- src/file.rt:23:27
 enum-told : tie.Need-enum-told
 enum-told c = search needs
 
--- src/file.rt:18:1
 returns : tie.Need-returns
 returns c = rw (c .before .j .given .1)
 
--- src/file.rt:18:1
 returns-2 : tie.Need-returns-2
 returns-2 c = rw (c .enum-told .given .1)
 

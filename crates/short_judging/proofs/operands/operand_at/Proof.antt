@@ -1,52 +1,41 @@
+-- `short_judging::operands::operand_at` meets its contract.
+-- Assumes nothing.
+use mathlib.Core.Path.{ap, _∙_}
 use native.Mathlib.Omega.{arith}
-use Rattle.short_judging.specs.Operands.{hasOperand}
+use borrow.Author.Needs.{needs}
 use Rattle.pack_layout.specs.declared.Class.{Class}
 use Rattle.pack_layout.specs.Flags.{bit}
-use mathlib.Core.Path.{_≡_, ap, _∙_}
-use borrow.Author.Needs.{needs}
+use Rattle.short_judging.specs.Operands.{hasOperand}
 use Rattle.short_judging.proofs.operands.operand_at.Statement.{statement}
 use Rattle.short_judging.proofs.operands.operand_at.Tie as tie
-use Rattle.short_judging.proofs.operands.operand_at.Reads as reads
-use Rattle.short_judging.proofs.operands.operand_at.Lts as lts
-use Rattle.pack_judging.proofs.file.cell_at.Reads as cell-at-reads
 
--- src/operands.rt:30:25
 enum-told : tie.Need-enum-told
 enum-told c = search needs
 
--- src/operands.rt:31:27
 enum-told-2 : tie.Need-enum-told-2
 enum-told-2 c = search needs
 
--- src/operands.rt:31:27
 cell-at-requires : tie.Need-cell-at-requires
 cell-at-requires c κs = let e = ap (λ (k : Class). bit (hasOperand k)) (c .enum-told2 .given .1) in omega (arith, e)
 
--- src/operands.rt:32:26
 enum-told-3 : tie.Need-enum-told-3
 enum-told-3 c = search needs
 
--- src/operands.rt:32:26
 cell-at-requires-2 : tie.Need-cell-at-requires-2
 cell-at-requires-2 c κs = let e = ap (λ (k : Class). bit (hasOperand k)) (c .enum-told3 .given .1) in omega (arith, e)
 
--- src/operands.rt:33:26
 enum-told-4 : tie.Need-enum-told-4
 enum-told-4 c = search needs
 
--- src/operands.rt:25:1
 returns : tie.Need-returns
 returns c = search needs
 
--- src/operands.rt:25:1
 returns-2 : tie.Need-returns-2
 returns-2 c = c .cell-at .ensures ∙ rw (c .before .enum-told2 .given .1)
 
--- src/operands.rt:25:1
 returns-3 : tie.Need-returns-3
 returns-3 c = c .cell-at2 .ensures ∙ rw (c .before .enum-told3 .given .1)
 
--- src/operands.rt:25:1
 returns-4 : tie.Need-returns-4
 returns-4 c = search needs
 

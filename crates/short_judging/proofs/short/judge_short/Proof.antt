@@ -1,64 +1,51 @@
+-- `short_judging::short::judge_short` meets its contract.
+-- Assumes nothing.
+use mathlib.Core.Path.{sym, _∙_}
+use native.Mathlib.Omega.{arith}
+use borrow.Author.Tests.{lt-ltb, le-ltb, eq-eqb, ne-eqb}
+use borrow.Author.Needs.{needs}
+use lib.ListN.{length}
+use Rattle.pack_layout.specs.Listing.{judgedFrom}
 use Rattle.short_judging.specs.ShortFile.{shortCount, operandCount, shortKind, shortListing}
 use Rattle.short_judging.specs.Operands.{operandsBefore}
-use Rattle.pack_layout.specs.Listing.{judgedFrom}
-use lib.ListN.{length}
 use Rattle.short_judging.proofs.Passes.{counts-reached, other-size}
 use Rattle.short_judging.specs.Judging.{judgedShort}
-use borrow.Author.Tests.{lt-ltb, le-ltb, eq-eqb, ne-eqb}
-use native.Mathlib.Omega.{arith}
-use mathlib.Core.Path.{_≡_, refl, sym, ap, _∙_}
-use borrow.Author.Needs.{needs}
 use Rattle.short_judging.proofs.short.judge_short.Statement.{statement}
 use Rattle.short_judging.proofs.short.judge_short.Tie as tie
-use Rattle.short_judging.proofs.short.judge_short.Reads as reads
-use Rattle.short_judging.proofs.short.judge_short.Lts as lts
-use Rattle.pack_judging.proofs.file.cell_at.Reads as cell-at-reads
-use Rattle.short_judging.proofs.short.judge_items.Reads as judge-items-reads
 
--- src/short.rt:62:9
 returns : tie.Need-returns
 unfolding judgedShort
 returns c = rw (lt-ltb _ _ (c .if1 .taken))
 
--- src/short.rt:64:13
 cell-at-requires : tie.Need-cell-at-requires
 cell-at-requires c κs = search needs
 
--- src/short.rt:64:13
 cast-n : tie.Need-cast-n
 cast-n c = search needs
 
--- src/short.rt:66:9
 returns-2 : tie.Need-returns-2
 unfolding judgedShort
 returns-2 c = rw (le-ltb _ _ (c .before .before .if1 .left), eq-eqb _ 0 (sym (c .before .cell-at .ensures) ∙ c .if2 .taken))
 
--- src/short.rt:69:9
 returns-3 : tie.Need-returns-3
 unfolding judgedShort
 returns-3 c = rw (le-ltb _ _ (c .before .before .before .if1 .left), ← c .before .before .cell-at .ensures, ne-eqb _ 0 (c .before .if2 .left), lt-ltb _ _ (c .if3 .taken))
 
--- src/short.rt:71:13
 cell-at-requires-2 : tie.Need-cell-at-requires-2
 cell-at-requires-2 c κs = search needs
 
--- src/short.rt:71:13
 cast-m : tie.Need-cast-m
 cast-m c = search needs
 
--- src/short.rt:72:16
 add-if4 : tie.Need-add-if4
 add-if4 c = search needs
 
--- src/short.rt:72:25
 mul-if4 : tie.Need-mul-if4
 mul-if4 c = search needs
 
--- src/short.rt:72:16
 add-if4-2 : tie.Need-add-if4-2
 add-if4-2 c = search needs
 
--- src/short.rt:73:9
 returns-4 : tie.Need-returns-4
 returns-4 c = let s = c .before .before .before .before .before .before .before .args .file .now in
     let a = c .before .before .before .before .cell-at .ensures in
@@ -66,11 +53,9 @@ returns-4 c = let s = c .before .before .before .before .before .before .before 
     other-size (length s) (shortCount s) (operandCount s) (operandsBefore (shortKind s) (shortCount s)) (judgedFrom (shortListing s) (shortCount s) 0) (λ e. c .if4 .taken (omega (arith, a, b)))
     ∙ sym (counts-reached s (c .before .before .before .before .before .if1 .left) (λ e. c .before .before .before .if2 .left (a ∙ e)) (omega (arith, a, c .before .before .if3 .left)))
 
--- src/short.rt:75:5
 judge-items-requires : tie.Need-judge-items-requires
 judge-items-requires c κs = search needs
 
--- src/short.rt:57:1
 returns-5 : tie.Need-returns-5
 returns-5 c = let s = c .before .before .before .before .before .before .before .before .args .file .now in
     c .judge-items .ensures ∙ rw (c .before .before .before .before .before .cell-at .ensures, c .before .before .cell-at2 .ensures) (sym (counts-reached s (c .before .before .before .before .before .before .if1 .left) (λ e. c .before .before .before .before .if2 .left (c .before .before .before .before .before .cell-at .ensures ∙ e)) (omega (arith, c .before .before .before .before .before .cell-at .ensures, c .before .before .before .if3 .left))))

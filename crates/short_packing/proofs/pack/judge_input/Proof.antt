@@ -1,35 +1,27 @@
-use Rattle.short_packing.specs.Packing.{judgeInput}
-use mathlib.Core.Path.{_≡_, sym, _∙_}
+-- `short_packing::pack::judge_input` meets its contract.
+-- Assumes nothing.
+use mathlib.Core.Path.{sym, _∙_}
 use borrow.Author.Needs.{needs}
+use Rattle.short_packing.specs.Packing.{judgeInput}
 use Rattle.short_packing.proofs.pack.judge_input.Statement.{statement}
 use Rattle.short_packing.proofs.pack.judge_input.Tie as tie
-use Rattle.short_packing.proofs.pack.judge_input.Reads as reads
-use Rattle.short_packing.proofs.pack.judge_input.Lts as lts
-use Rattle.packer.proofs.judgement.judge_order.Reads as judge-order-reads
-use Rattle.short_judging.proofs.short.judge_short.Reads as judge-short-reads
 
--- src/pack.rt:25:11
 judge-order-requires : tie.Need-judge-order-requires
 judge-order-requires c κs = search needs
 
--- src/pack.rt:26:25
 enum-known-r : tie.Need-enum-known-r
 enum-known-r c = search needs
 
--- src/pack.rt:27:27
 enum-told : tie.Need-enum-told
 enum-told c = search needs
 
--- src/pack.rt:27:27
 judge-short-requires : tie.Need-judge-short-requires
 judge-short-requires c κs = search needs
 
--- src/pack.rt:22:1
 returns : tie.Need-returns
 unfolding judgeInput
 returns c = rw (sym (c .before .before .before .judge-order .ensures) ∙ c .before .r .given .1)
 
--- src/pack.rt:22:1
 returns-2 : tie.Need-returns-2
 unfolding judgeInput
 returns-2 c = c .judge-short .ensures ∙ rw (sym (c .before .before .before .judge-order .ensures) ∙ c .before .enum-told .given .1)

@@ -1,23 +1,19 @@
-use Rattle.short_packing.proofs.Packing.{read-more}
+-- `short_packing::pack::operands_in` meets its contract.
+-- Assumes nothing.
+use mathlib.Core.List.{[], _∷_}
+use mathlib.Core.Path.{_≡_, refl, sym, ap, _∙_}
+use Prim.Native.Nat.{ℕ, _+_, _-_, _*_, _≤_}
+use native.Mathlib.Omega.{arith}
+use borrow.Author.Needs.{needs}
+use lib.ListN.{length, take, length-set}
+use Rattle.pack_layout.specs.Kinds.{classOf}
 use Rattle.short_judging.proofs.Parts.{short-kind, short-count}
-use Rattle.short_judging.proofs.Turns.{operands-more, operands-most, operands-grow, bit-most}
+use Rattle.short_judging.proofs.Turns.{operands-more, operands-most, operands-room, bit-most}
 use Rattle.short_judging.specs.ShortFile.{shortCount, shortKind, shortOperand}
 use Rattle.short_judging.specs.Operands.{hasOperand, operandsBefore, inTurn}
-use Rattle.pack_layout.specs.Kinds.{classOf}
-use lib.ListN.{length, take, length-set}
-use borrow.Author.Needs.{needs}
-use native.Mathlib.Omega.{arith}
-use Prim.Native.Nat.{ℕ, _+_, _-_, _*_, _≤_}
-use mathlib.Core.List.{List, [], _∷_}
-use mathlib.Core.Path.{_≡_, refl, sym, ap, _∙_}
+use Rattle.short_packing.proofs.Packing.{read-more}
 use Rattle.short_packing.proofs.pack.operands_in.Statement.{statement}
 use Rattle.short_packing.proofs.pack.operands_in.Tie as tie
-use Rattle.short_packing.proofs.pack.operands_in.Reads as reads
-use Rattle.short_packing.proofs.pack.operands_in.Lts as lts
-use Rattle.pack_judging.proofs.file.cell_at.Reads as cell-at-reads
-use Rattle.pack_judging.proofs.kinds.class_of.Reads as class-of-reads
-use Rattle.short_judging.proofs.operands.operand_at.Reads as operand-at-reads
-use Rattle.short_judging.proofs.operands.operands_of.Reads as operands-of-reads
 
 abbrev Inv-loop : tie.InvT-loop
 Inv-loop file n operands₀ at₀ i₀ operands at i = (i ≤ n) × (length operands ≡ 4096) × (at ≡ 12 + n + 4 * operandsBefore (shortKind file) i) × (take i operands ≡ inTurn (λ j. shortOperand file j ∷ []) i)
@@ -25,81 +21,62 @@ Inv-loop file n operands₀ at₀ i₀ operands at i = (i ≤ n) × (length oper
 abbrev μ-loop : tie.MeasureT-loop
 μ-loop file n operands₀ at₀ i₀ operands at i = n - i
 
--- src/pack.rt:36:13
 cell-at-requires : tie.Need-cell-at-requires Inv-loop μ-loop
 cell-at-requires c κs = omega (arith, c .before .pre .1)
 
--- src/pack.rt:36:13
 cast-n : tie.Need-cast-n Inv-loop μ-loop
 cast-n c = search needs
 
--- src/pack.rt:38:18
 add-at : tie.Need-add-at Inv-loop μ-loop
 add-at c = omega (arith, c .before .before .pre .0, c .cell-at .ensures)
 
--- src/pack.rt:40:5
 loop-holds : tie.Need-loop-holds Inv-loop μ-loop
 unfolding operandsBefore inTurn
 loop-holds c = (omega arith, refl, omega arith, refl)
 
--- src/pack.rt:41:25
 add-kind : tie.Need-add-kind Inv-loop μ-loop
 add-kind c = omega (arith, c .before .before .before .before .pre .0, c .before .before .cell-at .ensures)
 
--- src/pack.rt:41:20
 shared-slice-read-kind : tie.Need-shared-slice-read-kind Inv-loop μ-loop
 shared-slice-read-kind c = omega (arith, c .before .before .before .before .before .pre .1, c .before .before .before .cell-at .ensures)
 
--- src/pack.rt:42:40
 class-of-requires : tie.Need-class-of-requires Inv-loop μ-loop
 class-of-requires c κs = search needs
 
--- src/pack.rt:42:23
 operand-at-requires : tie.Need-operand-at-requires Inv-loop μ-loop
-operand-at-requires c κs = let kind = shortKind (c .before .before .before .before .before .before .args .file .now) in
+operand-at-requires c κs = let s = c .before .before .before .before .before .before .args .file .now in
     let loop = c .before .before .before .loop in
-    let k = short-kind (c .before .before .before .before .before .before .args .file .now) (loop .i) (omega (arith, c .before .before .before .before .cell-at .ensures)) in
-    let g = operands-more kind (loop .i) (operandsBefore kind (loop .i)) _ _ (c .class-of .ensures ∙ ap classOf (sym k)) refl refl in
-    let h = operands-grow kind (loop .i + 1) (shortCount (c .before .before .before .before .before .before .args .file .now)) (omega (arith, c .before .before .loop-test .taken, c .before .before .before .before .cell-at .ensures)) in
-    omega (arith, c .before .before .before .before .before .before .pre .1, c .before .before .before .before .cell-at .ensures, loop .inv .2, g, h)
+    let k = short-kind s (loop .i) (omega (arith, c .before .before .before .before .cell-at .ensures)) in
+    let g = operands-room (shortKind s) (loop .i) (shortCount s) _ (omega (arith, c .before .before .loop-test .taken, c .before .before .before .before .cell-at .ensures)) (c .class-of .ensures ∙ ap classOf (sym k)) in
+    omega (arith, c .before .before .before .before .before .before .pre .1, c .before .before .before .before .cell-at .ensures, loop .inv .2, g)
 
--- src/pack.rt:42:9
 mul-operands : tie.Need-mul-operands Inv-loop μ-loop
 mul-operands c = omega (arith, c .before .before .before .before .before .before .before .pre .0, c .before .before .before .before .before .cell-at .ensures)
 
--- src/pack.rt:42:9
 array-write-operands : tie.Need-array-write-operands Inv-loop μ-loop
 array-write-operands c = omega (arith, c .before .before .before .before .before .before .before .pre .0, c .before .before .before .before .before .cell-at .ensures, c .before .before .before .before .loop .inv .1)
 
--- src/pack.rt:43:31
 class-of-requires-2 : tie.Need-class-of-requires-2 Inv-loop μ-loop
 class-of-requires-2 c κs = search needs
 
--- src/pack.rt:43:19
 operands-of-requires : tie.Need-operands-of-requires Inv-loop μ-loop
 operands-of-requires c κs = search needs
 
--- src/pack.rt:43:19
 cast-at : tie.Need-cast-at Inv-loop μ-loop
 cast-at c = search needs
 
--- src/pack.rt:43:15
 mul-at : tie.Need-mul-at Inv-loop μ-loop
 mul-at c = omega (arith, c .operands-of .ensures, bit-most (hasOperand (c .before .class-of2 .result)))
 
--- src/pack.rt:43:9
 add-at-2 : tie.Need-add-at-2 Inv-loop μ-loop
 add-at-2 c = omega (arith, c .before .before .before .before .before .before .before .before .before .pre .0, c .before .before .before .before .before .before .before .cell-at .ensures, c .before .before .before .before .before .before .loop .inv .2, operands-most (shortKind (c .before .before .before .before .before .before .before .before .before .args .file .now)) (c .before .before .before .before .before .before .loop .i), c .operands-of .ensures, bit-most (hasOperand (c .before .class-of2 .result)))
 
--- src/pack.rt:44:9
 add-i : tie.Need-add-i Inv-loop μ-loop
 add-i c = omega (arith, c .before .before .before .before .before .before .before .before .before .pre .0, c .before .before .before .before .before .before .before .cell-at .ensures)
 
--- src/pack.rt:40:5
 loop-less : tie.Need-loop-less Inv-loop μ-loop
 loop-less c = omega arith
 
--- src/pack.rt:40:5
 loop-again : tie.Need-loop-again Inv-loop μ-loop
 loop-again c = let s = c .before .before .before .before .before .before .before .before .before .args .file .now in
     let loop = c .before .before .before .before .before .before .loop in
@@ -112,7 +89,6 @@ loop-again c = let s = c .before .before .before .before .before .before .before
       read-more s (loop .operands) n (loop .i) (loop .at) (c .before .before .operand-at .result) _ (c .before .before .before .before .before .before .before .cell-at .ensures) (c .before .before .before .before .before .loop-test .taken) (omega (arith, c .before .before .before .before .before .before .before .before .before .pre .0, c .before .before .before .before .before .before .before .cell-at .ensures, loop .inv .1)) (c .before .before .before .class-of .ensures) (loop .inv .2) (c .before .before .operand-at .ensures) (loop .inv .3),
     )
 
--- src/pack.rt:32:1
 returns : tie.Need-returns Inv-loop μ-loop
 returns c = let s = c .before .before .before .before .args .file .now in
     let loop = c .before .loop in

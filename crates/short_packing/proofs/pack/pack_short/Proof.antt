@@ -1,87 +1,65 @@
-use Rattle.short_packing.proofs.Packing.{input-good, pack-refused, parts-packed}
-use Rattle.short_judging.proofs.Passing.{short-good}
+-- `short_packing::pack::pack_short` meets its contract.
+-- Assumes nothing.
+use mathlib.Core.Path.{sym, _∙_}
 use native.Mathlib.Omega.{arith}
-use mathlib.Core.Path.{_≡_, sym, _∙_}
 use borrow.Author.Needs.{needs}
+use Rattle.short_judging.proofs.Passing.{short-good}
+use Rattle.short_packing.proofs.Packing.{input-good, pack-refused, parts-packed}
 use Rattle.short_packing.proofs.pack.pack_short.Statement.{statement}
 use Rattle.short_packing.proofs.pack.pack_short.Tie as tie
-use Rattle.short_packing.proofs.pack.pack_short.Reads as reads
-use Rattle.short_packing.proofs.pack.pack_short.Lts as lts
-use Rattle.pack_judging.proofs.file.cell_at.Reads as cell-at-reads
-use Rattle.packer.proofs.pack.pack.Reads as pack-reads
-use Rattle.short_packing.proofs.pack.judge_input.Reads as judge-input-reads
-use Rattle.short_packing.proofs.pack.operands_in.Reads as operands-in-reads
 
--- src/pack.rt:52:11
 judge-input-requires : tie.Need-judge-input-requires
 judge-input-requires c κs = search needs
 
--- src/pack.rt:53:25
 enum-known-r : tie.Need-enum-known-r
 enum-known-r c = search needs
 
--- src/pack.rt:55:21
 enum-told : tie.Need-enum-told
 enum-told c = search needs
 
--- src/pack.rt:55:21
 cell-at-requires : tie.Need-cell-at-requires
 cell-at-requires c κs = omega (arith, short-good (c .before .before .before .before .before .args .file .now) (input-good (c .before .before .before .before .before .args .order) (c .before .before .before .before .before .args .file .now) (sym (c .before .before .judge-input .ensures) ∙ c .enum-told .given .1)) .whole)
 
--- src/pack.rt:55:21
 cast-n : tie.Need-cast-n
 cast-n c = search needs
 
--- src/pack.rt:56:32
 cell-at-requires-2 : tie.Need-cell-at-requires-2
 cell-at-requires-2 c κs = omega (arith, short-good (c .before .before .before .before .before .before .args .file .now) (input-good (c .before .before .before .before .before .before .args .order) (c .before .before .before .before .before .before .args .file .now) (sym (c .before .before .before .judge-input .ensures) ∙ c .before .enum-told .given .1)) .whole)
 
--- src/pack.rt:57:23
 add-end : tie.Need-add-end
 add-end c = search needs
 
--- src/pack.rt:58:28
 operands-in-requires : tie.Need-operands-in-requires
 operands-in-requires c κs = let g = short-good (c .before .before .before .before .before .before .before .args .file .now) (input-good (c .before .before .before .before .before .before .before .args .order) (c .before .before .before .before .before .before .before .args .file .now) (sym (c .before .before .before .before .judge-input .ensures) ∙ c .before .before .enum-told .given .1)) in
     (g .most, omega (arith, g .whole, g .operands))
 
--- src/pack.rt:59:25
 sub-pack : tie.Need-sub-pack
 sub-pack c = search needs
 
--- src/pack.rt:59:25
 part-pack-start : tie.Need-part-pack-start
 part-pack-start c = search needs
 
--- src/pack.rt:59:25
 part-pack-end : tie.Need-part-pack-end
 part-pack-end c = let g = short-good (c .before .before .before .before .before .before .before .before .args .file .now) (input-good (c .before .before .before .before .before .before .before .before .args .order) (c .before .before .before .before .before .before .before .before .args .file .now) (sym (c .before .before .before .before .before .judge-input .ensures) ∙ c .before .before .before .enum-told .given .1)) in omega (arith, g .whole, c .before .before .cell-at .ensures)
 
--- src/pack.rt:59:41
 sub-pack-2 : tie.Need-sub-pack-2
 sub-pack-2 c = search needs
 
--- src/pack.rt:59:41
 part-pack-start-2 : tie.Need-part-pack-start-2
 part-pack-start-2 c = search needs
 
--- src/pack.rt:59:41
 part-pack-end-2 : tie.Need-part-pack-end-2
 part-pack-end-2 c = let g = short-good (c .before .before .before .before .before .before .before .before .before .before .args .file .now) (input-good (c .before .before .before .before .before .before .before .before .before .before .args .order) (c .before .before .before .before .before .before .before .before .before .before .args .file .now) (sym (c .before .before .before .before .before .before .before .judge-input .ensures) ∙ c .before .before .before .before .before .enum-told .given .1)) in omega (arith, g .most, c .before .before .before .before .cell-at .ensures, c .before .before .operands-in .ensures .0)
 
--- src/pack.rt:59:13
 pack-requires : tie.Need-pack-requires
 pack-requires c κs = search needs
 
--- src/pack.rt:49:1
 returns : tie.Need-returns
 returns c = pack-refused (c .before .before .before .before .before .before .args .order) (c .before .before .before .before .before .before .args .file .now) (c .before .before .before .before .before .before .args .output .now) _ (sym (c .before .before .before .judge-input .ensures) ∙ c .before .r .given .1)
 
--- src/pack.rt:49:1
 same-length : tie.Need-same-length
 same-length c = search needs
 
--- src/pack.rt:49:1
 returns-2 : tie.Need-returns-2
 returns-2 c = parts-packed (c .before .before .before .before .before .before .before .before .before .before .before .before .before .before .before .args .order) (c .before .before .before .before .before .before .before .before .before .before .before .before .before .before .before .args .file .now) (input-good (c .before .before .before .before .before .before .before .before .before .before .before .before .before .before .before .args .order) (c .before .before .before .before .before .before .before .before .before .before .before .before .before .before .before .args .file .now) (sym (c .before .before .before .before .before .before .before .before .before .before .before .before .judge-input .ensures) ∙ c .before .before .before .before .before .before .before .before .before .before .enum-told .given .1))
     (c .before .before .before .before .before .before .before .before .before .cell-at .result) (c .before .before .before .before .before .before .before .before .cell-at2 .result) (c .before .before .before .before .before .before .before .operands-in .result) (c .before .before .before .before .before .before .before .before .before .cell-at .ensures) (c .before .before .before .before .before .before .before .before .cell-at2 .ensures) (c .before .before .before .before .before .before .before .operands-in .ensures .1) (c .before .before .before .before .before .before .before .before .before .before .before .before .before .before .before .args .output .now) _ (c .before .before .pack .ensures)
