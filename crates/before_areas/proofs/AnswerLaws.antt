@@ -6,7 +6,7 @@ use lib.ListN.{length}
 use Rattle.cell.specs.Refusals.{judgeMachine, Lent}
 use Rattle.cell.specs.declared.Judged.{Judged}
 use Rattle.cell.specs.declared.Judged.the-variants.{Passed, Refused}
-use Rattle.cell.proofs.JudgementLaws.{both-pass, machine-good}
+use Rattle.cell.proofs.JudgementLaws.{both-pass, after-passed, machine-good}
 use Rattle.machine.specs.Places.{noTable}
 use Rattle.throws.specs.Throws.{CycleState}
 use Rattle.machine.specs.declared.Registers.{Registers}
@@ -24,7 +24,6 @@ use Rattle.list_proposing.specs.Stands.{positionOf}
 use Rattle.list_proposing.specs.declared.Stand.{Stand}
 use Rattle.list_refusals.specs.Judging.{judgeBegin, judgeImage, judgeFollow}
 use Rattle.list_following.specs.Follow.{followIf, resumeIn}
-use Rattle.before_tables.proofs.AnswerLaws.{after-passed}
 use Rattle.before_areas.specs.Cycles.{startBefore, cycleBefore, cyclesBefore, doneBefore}
 use Rattle.before_areas.specs.Answers.{withZeros, startedBefore, startIfBefore, startAnswerBefore, cycledBefore, cycleIfBefore, cycleAnswerBefore, ranBefore, runIfBefore, runAnswerBefore, judgeBefore, resumeIfBefore, resumeBefore}
 use Rattle.before_areas.specs.Claims.{SameStartAnswer, SameCycleAnswer, SameRunAnswer, SameResume}

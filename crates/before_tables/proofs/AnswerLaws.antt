@@ -7,7 +7,7 @@ use lib.ListN.{length}
 use Rattle.cell.specs.Refusals.{after}
 use Rattle.cell.specs.declared.Judged.{Judged}
 use Rattle.cell.specs.declared.Judged.the-variants.{Passed, Refused}
-use Rattle.cell.proofs.JudgementLaws.{both-pass}
+use Rattle.cell.proofs.JudgementLaws.{both-pass, after-passed}
 use Rattle.machine.specs.Places.{noTable}
 use Rattle.areas.specs.Areas.{judgeAreas}
 use Rattle.code_tables.specs.Tables.{judgeTable}
@@ -31,10 +31,6 @@ use Rattle.before_tables.proofs.CycleLaws.{same-start, same-cycle, same
 use Rattle.before_tables.proofs.ListLaws.{same-run}
 
 -- two zeros are never refused
-pub after-passed : (j : Judged) → after j Passed ≡ j
-after-passed Passed = refl
-after-passed (Refused n) = refl
-
 pub no-table : (len order : ℕ) (areas : Areas) → judgeBounded len order areas noTable ≡ judgeBoundedBefore len order areas
 unfolding judgeBounded judgeTable judgeBoundedBefore
 no-table len order areas = rw (after-passed (judgeAreas len areas))

@@ -1,4 +1,4 @@
--- What passing says: of two judgements in order, of a ground, and of the memory and the byte order that a call is lent.
+-- Judgements in order, and what passing says: of two judgements, of a ground, and of the memory and the byte order that a call is lent.
 use mathlib.Core.Path.{_≡_, refl}
 use mathlib.Core.Bool.{Bool, true, false, not, _||_}
 use mathlib.Core.List.{[], _∷_}
@@ -18,6 +18,15 @@ use Rattle.cell.proofs.BooleanLaws.{neither}
 pub both-pass : (i j : Judged) → after i j ≡ Passed → (i ≡ Passed) × (j ≡ Passed)
 both-pass Passed j e = (refl, e)
 both-pass (Refused r) j e = absurd (let z : _≡_ {A = ℕ} 0 1 = cc in omega arith)
+
+-- a judgement that nothing follows, and three in order
+pub after-passed : (j : Judged) → after j Passed ≡ j
+after-passed Passed = refl
+after-passed (Refused r) = refl
+
+pub after-after : (i j k : Judged) → after (after i j) k ≡ after i (after j k)
+after-after Passed j k = refl
+after-after (Refused r) j k = refl
 
 -- a ground that does not refuse does not apply
 pub one-clear : (t : Bool) (r : Refusal) (j : Judged) → if t (Refused r) j ≡ Passed → (t ≡ false) × (j ≡ Passed)

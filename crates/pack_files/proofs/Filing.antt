@@ -25,7 +25,7 @@ use Rattle.packer.specs.declared.Packed.the-variants as packed
 use Rattle.pack_refusals.specs.Judgement.{judgeOrder, judgeRoom, judgePack}
 use Rattle.packer.specs.Pack.{packCount, PackResult, packedTo, packOf}
 use Rattle.pack_refusals.proofs.Judging.{all-room}
-use Rattle.packer.proofs.Answering.{if-room}
+use Rattle.packer.proofs.Answering.{if-room, handed-judged, handed-packed}
 use Rattle.pack_files.specs.Files.{Header, manyItems, judgeHeader, judgePackFile, packFileOf}
 
 -- more than 4,096 items
@@ -110,19 +110,15 @@ module _ (order : ℕ) (s : List ℕ) where
   -- the parts of the file that are handed on: n is its count
   module _ (h : Header s) (n base : ℕ) (operands : List ℕ) (e : n ≡ fileCount s) (b : base ≡ fileBase s)
       (o : take (fileCount s) operands ≡ fileOperands s) where
-    kinds-part : take (8 + n - 8) (drop 8 s) ≡ fileKinds s
-    kinds-part = ap (λ (k : ℕ). take k (drop 8 s)) (let t : 8 + n - 8 ≡ fileCount s = omega arith in t)
-
-    operands-part : take (n - 0) operands ≡ fileOperands s
-    operands-part = ap (λ (k : ℕ). take k operands) (let t : n - 0 ≡ fileCount s = omega arith in t) ∙ o
-
     pub parts-judged : (size : ℕ) (j : Judged) → j ≡ judgePack order (take (8 + n - 8) (drop 8 s)) (take (n - 0) operands) base size
         → j ≡ judgePackFile order s size
-    parts-judged size j q = q ∙ rw (kinds-part, operands-part, b) (sym (header-passed h size))
+    parts-judged size j q =
+        q ∙ handed-judged order s 8 n (fileCount s) base (fileBase s) operands (fileOperands s) e b o size ∙ sym (header-passed h size)
 
     pub parts-packed : (out : List ℕ) (p : PackResult)
         → p ≡ packOf order (take (8 + n - 8) (drop 8 s)) (take (n - 0) operands) base out → p ≡ packFileOf order s out
-    parts-packed out p q = q ∙ rw (kinds-part, operands-part, b) (sym (pack-file-passed out h))
+    parts-packed out p q =
+        q ∙ handed-packed order s 8 n (fileCount s) base (fileBase s) operands (fileOperands s) e b o out ∙ sym (pack-file-passed out h)
 
 -- the cells that an answer counts are inside the output
 pub pack-file-room : (order : ℕ) (out next : List ℕ) (a : Packed) (file : List ℕ) → packedTo next a ≡ packFileOf order file out

@@ -2,9 +2,9 @@
 -- Assumes nothing.
 use mathlib.Core.Path.{_≡_, refl, ap, sym, _∙_}
 use mathlib.Core.List.{List}
-use Prim.Native.Nat.{ℕ, _*_, _≤_}
+use Prim.Native.Nat.{ℕ, _+_, _-_, _*_, _≤_}
 use native.Mathlib.Omega.{arith}
-use lib.ListN.{length}
+use lib.ListN.{length, take, drop}
 use Rattle.cell.specs.Memory.{cellCount}
 use Rattle.cell.specs.declared.CellCount.{CellCount}
 use Rattle.cell.specs.declared.Refusal.{Refusal}
@@ -56,3 +56,19 @@ module _ (order : ℕ) (out next : List ℕ) (a : Packed) where
       rw (ap (λ (p : PackResult). p .count) e)
       (if-room _ order base (listed kinds operands) out
       (all-room order (judgedArrays kinds operands) base (listed kinds operands) (length out)))
+
+-- a file hands on its n kinds, behind h bytes, and the first n of an array of operands
+module _ (order : ℕ) (s : List ℕ) (h n k base b : ℕ) (operands os : List ℕ) (e : n ≡ k) (q : base ≡ b) (o : take k operands ≡ os) where
+  kinds-part : take (h + n - h) (drop h s) ≡ take k (drop h s)
+  kinds-part = ap (λ (i : ℕ). take i (drop h s)) (let t : h + n - h ≡ k = omega arith in t)
+
+  operands-part : take (n - 0) operands ≡ os
+  operands-part = ap (λ (i : ℕ). take i operands) (let t : n - 0 ≡ k = omega arith in t) ∙ o
+
+  pub handed-judged : (size : ℕ)
+      → judgePack order (take (h + n - h) (drop h s)) (take (n - 0) operands) base size ≡ judgePack order (take k (drop h s)) os b size
+  handed-judged size = rw (kinds-part, operands-part, q) refl
+
+  pub handed-packed : (out : List ℕ)
+      → packOf order (take (h + n - h) (drop h s)) (take (n - 0) operands) base out ≡ packOf order (take k (drop h s)) os b out
+  handed-packed out = rw (kinds-part, operands-part, q) refl
