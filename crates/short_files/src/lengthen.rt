@@ -29,8 +29,9 @@ fn write_items(file: &[u8], n: usize, output: &mut [u8])
     while i < n {
         let kind = file[12 + i];
         output[8 + i] = kind;
-        put(output, 8 + n + 4 * i, operand_at(file, class_of(kind), at));
-        at += 4 * operands_of(class_of(kind)) as usize;
+        let c = class_of(kind);
+        put(output, 8 + n + 4 * i, operand_at(file, c, at));
+        at += 4 * operands_of(c) as usize;
         i += 1;
     }
 }

@@ -31,8 +31,9 @@ fn write_items(file: &[u8], n: usize, output: &mut [u8])
     while i < n {
         let kind = file[8 + i];
         output[12 + i] = kind;
-        put_kept(output, class_of(kind), at, cell_at(file, 8 + n + 4 * i));
-        at += 4 * operands_of(class_of(kind)) as usize;
+        let c = class_of(kind);
+        put_kept(output, c, at, cell_at(file, 8 + n + 4 * i));
+        at += 4 * operands_of(c) as usize;
         i += 1;
     }
 }

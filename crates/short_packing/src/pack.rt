@@ -38,9 +38,9 @@ fn operands_in(file: &[u8]) -> [u32; MOST_ITEMS]
     let mut at = 12 + n;
     let mut i: usize = 0;
     while i < n {
-        let kind = file[12 + i];
-        operands[i] = operand_at(file, class_of(kind), at);
-        at += 4 * operands_of(class_of(kind)) as usize;
+        let c = class_of(file[12 + i]);
+        operands[i] = operand_at(file, c, at);
+        at += 4 * operands_of(c) as usize;
         i += 1;
     }
     operands

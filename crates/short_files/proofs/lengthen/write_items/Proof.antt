@@ -41,30 +41,27 @@ add-output c = omega arith
 slice-write-output : tie.Need-slice-write-output Inv-loop μ-loop
 slice-write-output c = omega (arith, c .before .before .before .before .before .pre .1, c .before .before .loop .inv .1)
 
-add-put : tie.Need-add-put Inv-loop μ-loop
-add-put c = omega (arith, c .before .before .before .before .before .before .pre .0 .1)
-
-mul-put : tie.Need-mul-put Inv-loop μ-loop
-mul-put c = omega (arith, c .before .before .before .before .before .before .pre .0 .1)
-
-add-put-2 : tie.Need-add-put-2 Inv-loop μ-loop
-add-put-2 c = omega (arith, c .before .before .before .before .before .before .pre .0 .1)
-
 class-of-requires : tie.Need-class-of-requires Inv-loop μ-loop
 class-of-requires c κs = search needs
+
+add-put : tie.Need-add-put Inv-loop μ-loop
+add-put c = omega (arith, c .before .before .before .before .before .before .before .pre .0 .1)
+
+mul-put : tie.Need-mul-put Inv-loop μ-loop
+mul-put c = omega (arith, c .before .before .before .before .before .before .before .pre .0 .1)
+
+add-put-2 : tie.Need-add-put-2 Inv-loop μ-loop
+add-put-2 c = omega (arith, c .before .before .before .before .before .before .before .pre .0 .1)
 
 operand-at-requires : tie.Need-operand-at-requires Inv-loop μ-loop
 operand-at-requires c κs = let s = c .before .before .before .before .before .before .before .args .file .now in
     let loop = c .before .before .before .before .loop in
     let k = short-kind s (loop .i) (omega (arith, c .before .before .before .before .before .before .before .pre .0 .0)) in
-    let g = operands-room (shortKind s) (loop .i) (shortCount s) _ (omega (arith, c .before .before .before .loop-test .taken, c .before .before .before .before .before .before .before .pre .0 .0)) (c .class-of .ensures ∙ ap classOf (sym k)) in
+    let g = operands-room (shortKind s) (loop .i) (shortCount s) _ (omega (arith, c .before .before .before .loop-test .taken, c .before .before .before .before .before .before .before .pre .0 .0)) (c .before .class-of .ensures ∙ ap classOf (sym k)) in
     omega (arith, c .before .before .before .before .before .before .before .pre .0 .2, loop .inv .2, g)
 
 put-requires : tie.Need-put-requires Inv-loop μ-loop
 put-requires c κs = simp length-set (omega (arith, c .before .before .before .before .before .before .before .before .pre .1, c .before .before .before .before .before .loop .inv .1))
-
-class-of-requires-2 : tie.Need-class-of-requires-2 Inv-loop μ-loop
-class-of-requires-2 c κs = search needs
 
 operands-of-requires : tie.Need-operands-of-requires Inv-loop μ-loop
 operands-of-requires c κs = search needs
@@ -73,10 +70,10 @@ cast-at : tie.Need-cast-at Inv-loop μ-loop
 cast-at c = search needs
 
 mul-at : tie.Need-mul-at Inv-loop μ-loop
-mul-at c = omega (arith, c .operands-of .ensures, bit-most (hasOperand (c .before .class-of2 .result)))
+mul-at c = omega (arith, c .operands-of .ensures, bit-most (hasOperand (c .before .before .before .before .before .before .class-of .result)))
 
 add-at-2 : tie.Need-add-at-2 Inv-loop μ-loop
-add-at-2 c = omega (arith, c .before .before .before .before .before .before .before .before .before .before .before .before .before .pre .0 .1, c .before .before .before .before .before .before .before .before .before .before .loop .inv .2, operands-most (shortKind (c .before .before .before .before .before .before .before .before .before .before .before .before .before .args .file .now)) (c .before .before .before .before .before .before .before .before .before .before .loop .i), c .operands-of .ensures, bit-most (hasOperand (c .before .class-of2 .result)))
+add-at-2 c = omega (arith, c .before .before .before .before .before .before .before .before .before .before .before .before .pre .0 .1, c .before .before .before .before .before .before .before .before .before .loop .inv .2, operands-most (shortKind (c .before .before .before .before .before .before .before .before .before .before .before .before .args .file .now)) (c .before .before .before .before .before .before .before .before .before .loop .i), c .operands-of .ensures, bit-most (hasOperand (c .before .before .before .before .before .before .class-of .result)))
 
 add-i : tie.Need-add-i Inv-loop μ-loop
 add-i c = omega arith
@@ -85,14 +82,14 @@ loop-less : tie.Need-loop-less Inv-loop μ-loop
 loop-less c = omega arith
 
 loop-again : tie.Need-loop-again Inv-loop μ-loop
-loop-again c = let s = c .before .before .before .before .before .before .before .before .before .before .before .before .before .args .file .now in
+loop-again c = let s = c .before .before .before .before .before .before .before .before .before .before .before .before .args .file .now in
     let l = shortListing s in
-    let loop = c .before .before .before .before .before .before .before .before .before .before .loop in
-    let k = short-kind s (loop .i) (omega (arith, c .before .before .before .before .before .before .before .before .before .before .before .before .before .pre .0 .0)) in
-    let g = operands-more (shortKind s) (loop .i) (operandsBefore (shortKind s) (loop .i)) _ _ (c .before .class-of2 .ensures ∙ ap classOf (sym k)) refl (c .operands-of .ensures) in
-    let next = lengthen-item s (c .before .before .before .before .before .before .before .before .before .before .before .before .before .args .output .now) (c .before .before .before .before .before .before .before .before .before .before .before .before .before .args .n) (loop .output) _ (loop .i) (loop .at) _ _ _ (c .before .before .before .before .before .before .before .before .before .before .before .before .before .pre .0 .0) (omega (arith, c .before .before .before .before .before .before .before .before .before .before .before .before .before .pre .0 .2)) (c .before .before .before .before .before .before .before .before .before .loop-test .taken) refl (c .before .before .before .before .before .before .class-of .ensures) (loop .inv .2) (c .before .before .before .before .before .operand-at .ensures) (loop .inv .3) (c .before .before .before .before .put .ensures) in (
+    let loop = c .before .before .before .before .before .before .before .before .before .loop in
+    let k = short-kind s (loop .i) (omega (arith, c .before .before .before .before .before .before .before .before .before .before .before .before .pre .0 .0)) in
+    let g = operands-more (shortKind s) (loop .i) (operandsBefore (shortKind s) (loop .i)) _ _ (c .before .before .before .before .before .before .class-of .ensures ∙ ap classOf (sym k)) refl (c .operands-of .ensures) in
+    let next = lengthen-item s (c .before .before .before .before .before .before .before .before .before .before .before .before .args .output .now) (c .before .before .before .before .before .before .before .before .before .before .before .before .args .n) (loop .output) _ (loop .i) (loop .at) _ _ _ (c .before .before .before .before .before .before .before .before .before .before .before .before .pre .0 .0) (omega (arith, c .before .before .before .before .before .before .before .before .before .before .before .before .pre .0 .2)) (c .before .before .before .before .before .before .before .before .loop-test .taken) refl (c .before .before .before .before .before .before .class-of .ensures) (loop .inv .2) (c .before .before .before .before .operand-at .ensures) (loop .inv .3) (c .before .before .before .put .ensures) in (
       omega arith,
-      ap length next ∙ filled-length (c .before .before .before .before .before .before .before .before .before .before .before .before .before .args .output .now) 8 (c .before .before .before .before .before .before .before .before .before .before .before .before .before .args .n) (l .kind) (operandBytes l) (loop .i + 1),
+      ap length next ∙ filled-length (c .before .before .before .before .before .before .before .before .before .before .before .before .args .output .now) 8 (c .before .before .before .before .before .before .before .before .before .before .before .before .args .n) (l .kind) (operandBytes l) (loop .i + 1),
       omega (arith, loop .inv .2, g),
       next,
     )
@@ -117,13 +114,12 @@ write-items-spec =
     shared-slice-read-kind
     add-output
     slice-write-output
+    class-of-requires
     add-put
     mul-put
     add-put-2
-    class-of-requires
     operand-at-requires
     put-requires
-    class-of-requires-2
     operands-of-requires
     cast-at
     mul-at

@@ -60,11 +60,8 @@ put-kept-requires : tie.Need-put-kept-requires Inv-loop μ-loop
 put-kept-requires c κs = let s = c .before .before .before .before .before .before .before .before .args .file .now in
     let loop = c .before .before .before .before .before .loop in
     let k = file-kind s (loop .i) (omega (arith, c .before .before .before .before .before .before .before .before .pre .0 .0)) in
-    let g = operands-room (filed s .kind) (loop .i) (fileCount s) _ (omega (arith, c .before .before .before .before .loop-test .taken, c .before .before .before .before .before .before .before .before .pre .0 .0)) (c .before .class-of .ensures ∙ ap classOf (sym k)) in
+    let g = operands-room (filed s .kind) (loop .i) (fileCount s) _ (omega (arith, c .before .before .before .before .loop-test .taken, c .before .before .before .before .before .before .before .before .pre .0 .0)) (c .before .before .class-of .ensures ∙ ap classOf (sym k)) in
     simp length-set (omega (arith, c .before .before .before .before .before .before .before .before .pre .1, loop .inv .1, loop .inv .2, g))
-
-class-of-requires-2 : tie.Need-class-of-requires-2 Inv-loop μ-loop
-class-of-requires-2 c κs = search needs
 
 operands-of-requires : tie.Need-operands-of-requires Inv-loop μ-loop
 operands-of-requires c κs = search needs
@@ -73,10 +70,10 @@ cast-at : tie.Need-cast-at Inv-loop μ-loop
 cast-at c = search needs
 
 mul-at : tie.Need-mul-at Inv-loop μ-loop
-mul-at c = omega (arith, c .operands-of .ensures, bit-most (hasOperand (c .before .class-of2 .result)))
+mul-at c = omega (arith, c .operands-of .ensures, bit-most (hasOperand (c .before .before .before .before .before .before .class-of .result)))
 
 add-at-2 : tie.Need-add-at-2 Inv-loop μ-loop
-add-at-2 c = omega (arith, c .before .before .before .before .before .before .before .before .before .before .before .before .before .pre .0 .1, c .before .before .before .before .before .before .before .before .before .before .loop .inv .2, operands-most (filed (c .before .before .before .before .before .before .before .before .before .before .before .before .before .args .file .now) .kind) (c .before .before .before .before .before .before .before .before .before .before .loop .i), c .operands-of .ensures, bit-most (hasOperand (c .before .class-of2 .result)))
+add-at-2 c = omega (arith, c .before .before .before .before .before .before .before .before .before .before .before .before .pre .0 .1, c .before .before .before .before .before .before .before .before .before .loop .inv .2, operands-most (filed (c .before .before .before .before .before .before .before .before .before .before .before .before .args .file .now) .kind) (c .before .before .before .before .before .before .before .before .before .loop .i), c .operands-of .ensures, bit-most (hasOperand (c .before .before .before .before .before .before .class-of .result)))
 
 add-i : tie.Need-add-i Inv-loop μ-loop
 add-i c = omega arith
@@ -85,14 +82,14 @@ loop-less : tie.Need-loop-less Inv-loop μ-loop
 loop-less c = omega arith
 
 loop-again : tie.Need-loop-again Inv-loop μ-loop
-loop-again c = let s = c .before .before .before .before .before .before .before .before .before .before .before .before .before .args .file .now in
+loop-again c = let s = c .before .before .before .before .before .before .before .before .before .before .before .before .args .file .now in
     let l = filed s in
-    let loop = c .before .before .before .before .before .before .before .before .before .before .loop in
-    let k = file-kind s (loop .i) (omega (arith, c .before .before .before .before .before .before .before .before .before .before .before .before .before .pre .0 .0)) in
-    let g = operands-more (l .kind) (loop .i) (operandsBefore (l .kind) (loop .i)) _ _ (c .before .class-of2 .ensures ∙ ap classOf (sym k)) refl (c .operands-of .ensures) in
-    let next = shorten-item s (c .before .before .before .before .before .before .before .before .before .before .before .before .before .args .output .now) (c .before .before .before .before .before .before .before .before .before .before .before .before .before .args .n) (loop .output) _ (loop .i) (loop .at) _ _ _ (c .before .before .before .before .before .before .before .before .before .before .before .before .before .pre .0 .0) (c .before .before .before .before .before .before .before .before .before .loop-test .taken) refl (c .before .before .before .before .before .before .class-of .ensures) (c .before .before .before .before .before .cell-at .ensures) (loop .inv .2) (loop .inv .3) (c .before .before .before .before .put-kept .ensures) in (
+    let loop = c .before .before .before .before .before .before .before .before .before .loop in
+    let k = file-kind s (loop .i) (omega (arith, c .before .before .before .before .before .before .before .before .before .before .before .before .pre .0 .0)) in
+    let g = operands-more (l .kind) (loop .i) (operandsBefore (l .kind) (loop .i)) _ _ (c .before .before .before .before .before .before .class-of .ensures ∙ ap classOf (sym k)) refl (c .operands-of .ensures) in
+    let next = shorten-item s (c .before .before .before .before .before .before .before .before .before .before .before .before .args .output .now) (c .before .before .before .before .before .before .before .before .before .before .before .before .args .n) (loop .output) _ (loop .i) (loop .at) _ _ _ (c .before .before .before .before .before .before .before .before .before .before .before .before .pre .0 .0) (c .before .before .before .before .before .before .before .before .loop-test .taken) refl (c .before .before .before .before .before .before .class-of .ensures) (c .before .before .before .before .cell-at .ensures) (loop .inv .2) (loop .inv .3) (c .before .before .before .put-kept .ensures) in (
       omega arith,
-      ap length next ∙ filled-length (c .before .before .before .before .before .before .before .before .before .before .before .before .before .args .output .now) 12 (c .before .before .before .before .before .before .before .before .before .before .before .before .before .args .n) (l .kind) (keptBytes l) (loop .i + 1),
+      ap length next ∙ filled-length (c .before .before .before .before .before .before .before .before .before .before .before .before .args .output .now) 12 (c .before .before .before .before .before .before .before .before .before .before .before .before .args .n) (l .kind) (keptBytes l) (loop .i + 1),
       omega (arith, loop .inv .2, g),
       next,
     )
@@ -123,7 +120,6 @@ write-items-spec =
     add-cell-at-2
     cell-at-requires
     put-kept-requires
-    class-of-requires-2
     operands-of-requires
     cast-at
     mul-at

@@ -34,11 +34,11 @@ loop-holds : tie.Need-loop-holds Inv-loop μ-loop
 unfolding operandsBefore inTurn
 loop-holds c = (omega arith, refl, omega arith, refl)
 
-add-kind : tie.Need-add-kind Inv-loop μ-loop
-add-kind c = omega (arith, c .before .before .before .before .pre .0, c .before .before .cell-at .ensures)
+add-class-of : tie.Need-add-class-of Inv-loop μ-loop
+add-class-of c = omega (arith, c .before .before .before .before .pre .0, c .before .before .cell-at .ensures)
 
-shared-slice-read-kind : tie.Need-shared-slice-read-kind Inv-loop μ-loop
-shared-slice-read-kind c = omega (arith, c .before .before .before .before .before .pre .1, c .before .before .before .cell-at .ensures)
+shared-slice-read-class-of : tie.Need-shared-slice-read-class-of Inv-loop μ-loop
+shared-slice-read-class-of c = omega (arith, c .before .before .before .before .before .pre .1, c .before .before .before .cell-at .ensures)
 
 class-of-requires : tie.Need-class-of-requires Inv-loop μ-loop
 class-of-requires c κs = search needs
@@ -56,9 +56,6 @@ mul-operands c = omega (arith, c .before .before .before .before .before .before
 array-write-operands : tie.Need-array-write-operands Inv-loop μ-loop
 array-write-operands c = omega (arith, c .before .before .before .before .before .before .before .pre .0, c .before .before .before .before .before .cell-at .ensures, c .before .before .before .before .loop .inv .1)
 
-class-of-requires-2 : tie.Need-class-of-requires-2 Inv-loop μ-loop
-class-of-requires-2 c κs = search needs
-
 operands-of-requires : tie.Need-operands-of-requires Inv-loop μ-loop
 operands-of-requires c κs = search needs
 
@@ -66,27 +63,27 @@ cast-at : tie.Need-cast-at Inv-loop μ-loop
 cast-at c = search needs
 
 mul-at : tie.Need-mul-at Inv-loop μ-loop
-mul-at c = omega (arith, c .operands-of .ensures, bit-most (hasOperand (c .before .class-of2 .result)))
+mul-at c = omega (arith, c .operands-of .ensures, bit-most (hasOperand (c .before .before .class-of .result)))
 
 add-at-2 : tie.Need-add-at-2 Inv-loop μ-loop
-add-at-2 c = omega (arith, c .before .before .before .before .before .before .before .before .before .pre .0, c .before .before .before .before .before .before .before .cell-at .ensures, c .before .before .before .before .before .before .loop .inv .2, operands-most (shortKind (c .before .before .before .before .before .before .before .before .before .args .file .now)) (c .before .before .before .before .before .before .loop .i), c .operands-of .ensures, bit-most (hasOperand (c .before .class-of2 .result)))
+add-at-2 c = omega (arith, c .before .before .before .before .before .before .before .before .pre .0, c .before .before .before .before .before .before .cell-at .ensures, c .before .before .before .before .before .loop .inv .2, operands-most (shortKind (c .before .before .before .before .before .before .before .before .args .file .now)) (c .before .before .before .before .before .loop .i), c .operands-of .ensures, bit-most (hasOperand (c .before .before .class-of .result)))
 
 add-i : tie.Need-add-i Inv-loop μ-loop
-add-i c = omega (arith, c .before .before .before .before .before .before .before .before .before .pre .0, c .before .before .before .before .before .before .before .cell-at .ensures)
+add-i c = omega (arith, c .before .before .before .before .before .before .before .before .pre .0, c .before .before .before .before .before .before .cell-at .ensures)
 
 loop-less : tie.Need-loop-less Inv-loop μ-loop
 loop-less c = omega arith
 
 loop-again : tie.Need-loop-again Inv-loop μ-loop
-loop-again c = let s = c .before .before .before .before .before .before .before .before .before .args .file .now in
-    let loop = c .before .before .before .before .before .before .loop in
-    let n = c .before .before .before .before .before .before .before .cell-at .result in
-    let k = short-kind s (loop .i) (omega (arith, c .before .before .before .before .before .before .before .cell-at .ensures)) in
-    let g = operands-more (shortKind s) (loop .i) (operandsBefore (shortKind s) (loop .i)) _ _ (c .before .class-of2 .ensures ∙ ap classOf (sym k)) refl (c .operands-of .ensures) in (
+loop-again c = let s = c .before .before .before .before .before .before .before .before .args .file .now in
+    let loop = c .before .before .before .before .before .loop in
+    let n = c .before .before .before .before .before .before .cell-at .result in
+    let k = short-kind s (loop .i) (omega (arith, c .before .before .before .before .before .before .cell-at .ensures)) in
+    let g = operands-more (shortKind s) (loop .i) (operandsBefore (shortKind s) (loop .i)) _ _ (c .before .before .class-of .ensures ∙ ap classOf (sym k)) refl (c .operands-of .ensures) in (
       omega arith,
-      length-set (loop .operands) (loop .i) (c .before .before .operand-at .result) ∙ loop .inv .1,
+      length-set (loop .operands) (loop .i) (c .before .operand-at .result) ∙ loop .inv .1,
       omega (arith, loop .inv .2, g),
-      read-more s (loop .operands) n (loop .i) (loop .at) (c .before .before .operand-at .result) _ (c .before .before .before .before .before .before .before .cell-at .ensures) (c .before .before .before .before .before .loop-test .taken) (omega (arith, c .before .before .before .before .before .before .before .before .before .pre .0, c .before .before .before .before .before .before .before .cell-at .ensures, loop .inv .1)) (c .before .before .before .class-of .ensures) (loop .inv .2) (c .before .before .operand-at .ensures) (loop .inv .3),
+      read-more s (loop .operands) n (loop .i) (loop .at) (c .before .operand-at .result) _ (c .before .before .before .before .before .before .cell-at .ensures) (c .before .before .before .before .loop-test .taken) (omega (arith, c .before .before .before .before .before .before .before .before .pre .0, c .before .before .before .before .before .before .cell-at .ensures, loop .inv .1)) (c .before .before .class-of .ensures) (loop .inv .2) (c .before .operand-at .ensures) (loop .inv .3),
     )
 
 returns : tie.Need-returns Inv-loop μ-loop
@@ -106,13 +103,12 @@ operands-in-spec =
     cast-n
     add-at
     loop-holds
-    add-kind
-    shared-slice-read-kind
+    add-class-of
+    shared-slice-read-class-of
     class-of-requires
     operand-at-requires
     mul-operands
     array-write-operands
-    class-of-requires-2
     operands-of-requires
     cast-at
     mul-at
