@@ -13,7 +13,7 @@ pub fn note_packed(answer: Packed, out: &mut [u32]) -> u32
     ensures { λ n. ⌜ modules.noted (now (out .exit)) n ≡ listings.packNoted (now (out .entry)) answer ⌝ }
 {
     match answer {
-        // never reached: the call judges before it asks for this answer
+        // reached by a call alone that has not judged before it asks for this answer
         Packed::Refused(r) => refusal_number(r),
         Packed::Cells(l) => {
             write_one(out, l.0);

@@ -3,9 +3,6 @@ ghost use mathlib.Core.Path.{_≡_};
 ghost use Rattle.calls.specs.Modules as modules;
 ghost use Rattle.short_calls.specs.Shorts as shorts;
 use calls::listings::note_packed;
-use cell::Judged;
-use cell::judgement::refusal_number;
-use lent_arrays::lending::with_room;
 use short_calls::notes::no_place;
 use short_calls::notes::note_converted;
 use short_files::lengthen::judge_lengthen;
@@ -44,9 +41,8 @@ pub extern "C" fn beetle_pack_short(
 ) -> u32
     ensures { λ n. ⌜ modules.moved (now (output .exit)) (now (out .exit)) n ≡ shorts.packShortCall order (now (file .entry)) (now (output .entry)) (now (out .entry)) ⌝ }
 {
-    let judged = judge_pack_short(order, file, output.len());
-    match with_room(judged, out.len(), 1) {
-        Judged::Refused(n) => refusal_number(n),
-        Judged::Passed => note_packed(pack_short(order, file, output), out),
+    if out.len() < 1 {
+        return no_place(judge_pack_short(order, file, output.len()));
     }
+    note_packed(pack_short(order, file, output), out)
 }

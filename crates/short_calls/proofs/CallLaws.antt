@@ -8,10 +8,16 @@ use lib.ListN.{length}
 use Rattle.cell.specs.declared.Judged.{Judged}
 use Rattle.cell.specs.declared.Judged.the-variants.{Passed, Refused}
 use Rattle.lent_arrays.specs.Lending.{withRoom}
-use Rattle.calls.specs.Modules.{Noted, noted, moved}
+use Rattle.calls.specs.Listings.{packNoted, packIf as packCallIf}
+use Rattle.calls.specs.Modules.{Noted, noted, Moved, moved}
+use Rattle.pack_layout.specs.Listing.{Listing}
+use Rattle.packer.specs.declared.Packed.{Packed}
+use Rattle.packer.specs.Pack.{PackResult, packedTo, packIf}
+use Rattle.short_judging.specs.ShortFile.{shortBase, shortListing}
 use Rattle.short_files.specs.declared.Converted.{Converted}
 use Rattle.short_files.specs.Converted.{ConvertResult, convertedTo, convertIf, judgeShorten, judgeLengthen, shortenOf, lengthenOf}
-use Rattle.short_calls.specs.Shorts.{convertNoted, told, convertIf as callIf, shortenCall, lengthenCall, noPlace}
+use Rattle.short_packing.specs.Packing.{judgePackShort, packShortOf}
+use Rattle.short_calls.specs.Shorts.{convertNoted, told, convertIf as callIf, shortenCall, lengthenCall, packShortCall, noPlace}
 
 without : (j : Judged) (result : ConvertResult) (output out : List ℕ) → length out < 1
     → moved output out (noPlace j) ≡ callIf (withRoom j (length out) 1) result output out
@@ -28,6 +34,25 @@ noting : (result : ConvertResult) (output out next : List ℕ) (a : Converted) (
     → noted next n ≡ convertNoted out a → moved output next n ≡ told result out
 noting result output out next a n e q =
     ap (λ (k : Noted). record { bytes = output; noted = k }) q ∙ ap (λ (r : ConvertResult). told r out) e
+
+-- the same for a packing
+pack-without : (j : Judged) (result : PackResult) (output out : List ℕ) → length out < 1
+    → moved output out (noPlace j) ≡ packCallIf (withRoom j (length out) 1) result output out
+pack-without (Refused r) result output out h = refl
+pack-without Passed result output out h = rw (lt-ltb (length out) 1 h)
+
+abbrev packTold : PackResult → List ℕ → Moved
+packTold result out = record { bytes = result .output; noted = packNoted out (result .answer) }
+
+pack-with : (j : Judged) (order base : ℕ) (l : Listing) (output out : List ℕ) → 1 ≤ length out
+    → packTold (packIf j order base l output) out ≡ packCallIf (withRoom j (length out) 1) (packIf j order base l output) output out
+pack-with (Refused r) order base l output out h = refl
+pack-with Passed order base l output out h = rw (le-ltb (length out) 1 h)
+
+pack-noting : (result : PackResult) (output out next : List ℕ) (a : Packed) (n : ℕ) → packedTo output a ≡ result
+    → noted next n ≡ packNoted out a → moved output next n ≡ packTold result out
+pack-noting result output out next a n e q =
+    ap (λ (k : Noted). record { bytes = output; noted = k }) q ∙ ap (λ (r : PackResult). packTold r out) e
 
 module _ (file output out : List ℕ) where
   pub shorten-no-place : (j : Judged) → j ≡ judgeShorten file (length output) → (n : ℕ) → n ≡ noPlace j → length out < 1
@@ -51,3 +76,15 @@ module _ (file output out : List ℕ) where
   unfolding lengthenCall lengthenOf
   lengthen-told after next a n h e q =
       noting (lengthenOf file output) after out next a n e q ∙ with-place (judgeLengthen file (length output)) _ output out h
+
+  pub pack-no-place : (order : ℕ) (j : Judged) → j ≡ judgePackShort order file (length output) → (n : ℕ) → n ≡ noPlace j → length out < 1
+      → moved output out n ≡ packShortCall order file output out
+  unfolding packShortCall
+  pack-no-place order j e n q h = rw (q, e) (pack-without (judgePackShort order file (length output)) (packShortOf order file output) output out h)
+
+  pub pack-told : (order : ℕ) (after next : List ℕ) (a : Packed) (n : ℕ) → 1 ≤ length out → packedTo after a ≡ packShortOf order file output
+      → noted next n ≡ packNoted out a → moved after next n ≡ packShortCall order file output out
+  unfolding packShortCall packShortOf
+  pack-told order after next a n h e q =
+      pack-noting (packShortOf order file output) after out next a n e q
+      ∙ pack-with (judgePackShort order file (length output)) order (shortBase file) (shortListing file) output out h
