@@ -1,4 +1,4 @@
--- `beetle_load_first` meets its contract: a refusal, or the answer of crate `module` noted.
+-- `beetle_load_first` meets its contract: a refusal, or the answer of crate `module_loading` noted.
 use borrow.Author.Needs.{needs}
 use lib.ListN.{length}
 use Rattle.lent_arrays.proofs.LendingLaws.{roomy}

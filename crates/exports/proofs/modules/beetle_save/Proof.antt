@@ -1,4 +1,4 @@
--- `beetle_save` meets its contract: a refusal, or the answer of crate `module` noted.
+-- `beetle_save` meets its contract: a refusal, or the answer of crate `module_saving` noted.
 use borrow.Author.Needs.{needs}
 use lib.ListN.{length}
 use Rattle.lent_arrays.proofs.LendingLaws.{roomy}
