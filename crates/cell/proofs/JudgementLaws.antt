@@ -50,6 +50,7 @@ refusal-some refusal.Kind e = omega arith
 refusal-some refusal.PlainOperand e = omega arith
 refusal-some refusal.Target e = omega arith
 refusal-some refusal.Base e = omega arith
+refusal-some refusal.NoListing e = omega arith
 
 pub machine-good : (len order : ℕ) → judgeMachine len order ≡ Passed → GoodMachine len order
 unfolding judgeMachine

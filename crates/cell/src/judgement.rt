@@ -42,5 +42,6 @@ pub fn refusal_number(r: Refusal) -> u32
         Refusal::PlainOperand => 0xFFFFEFF4,
         Refusal::Target => 0xFFFFEFF3,
         Refusal::Base => 0xFFFFEFF2,
+        Refusal::NoListing => 0xFFFFEFEC,
     }
 }

@@ -66,6 +66,7 @@ pub enum Refusal {
     PlainOperand,
     Target,
     Base,
+    NoListing,
 }
 
 // What the judgement of a call's input says.
