@@ -13,6 +13,7 @@ use Rattle.pack_layout.specs.Listing.{Listing, listed, judgedArrays}
 use Rattle.pack_layout.specs.File.{fileBase, fileCount, fileKinds, fileOperands, cellsFrom, judgedFile, judgedLength}
 use Rattle.pack_layout.specs.Output.{bytesOf, written}
 use Rattle.pack_layout.specs.Packing.{image, imageCells, judgedPlace, Legal}
+use Rattle.pack_layout.proofs.Output.{bytes-length}
 use Rattle.pack_layout.proofs.Packing.{size-is}
 use Rattle.pack_refusals.specs.Judgement.{judgeOrder, judgeAll, judgePack}
 use Rattle.packer.specs.Pack.{PackResult, packIf, packOf}
@@ -30,12 +31,6 @@ pub record Made (order base : ℕ) (l : Listing) (p : PackResult) : Type 0 where
   pub legal : Legal base l
   pub counted : p .count ≡ imageCells l
   pub bytes : (i : ℕ) → i < 4 * imageCells l → getD (p .output) i 0 ≡ getD (bytesOf order (image base l)) i 0
-
-bytes-length : (order : ℕ) (xs : List ℕ) → length (bytesOf order xs) ≡ 4 * length xs
-unfolding bytesOf
-bytes-length order [] = refl
-bytes-length zero (x ∷ xs) = omega (arith, bytes-length zero xs)
-bytes-length (suc order) (x ∷ xs) = omega (arith, bytes-length (suc order) xs)
 
 written-front : (order : ℕ) (xs out : List ℕ) (i : ℕ) → i < 4 * length xs → getD (written order xs out) i 0 ≡ getD (bytesOf order xs) i 0
 written-front order xs out i h = List·getD-append (bytesOf order xs) (drop (4 * length xs) out) 0 i (omega (arith, bytes-length order xs))

@@ -1,38 +1,16 @@
 -- The packer's bytes in memory are the image's cells.
 use mathlib.Core.Path.{_≡_, _∙_}
-use mathlib.Core.List.{List, [], _∷_}
-use Prim.Native.Nat.{ℕ, zero, suc, _+_, _*_, _^_, _<_}
+use mathlib.Core.List.{List}
+use Prim.Native.Nat.{ℕ, suc, _+_, _*_, _<_}
 use native.Mathlib.Omega.{arith}
-use lib.ListN.{length, getD}
-use Rattle.cell.specs.Memory.{cellAt, byte0, byte1, byte2, byte3}
-use Rattle.cell.proofs.BytesLaws.{join-bytes}
+use lib.ListN.{getD}
+use Rattle.cell.specs.Memory.{cellAt}
 use Rattle.pack_layout.specs.Listing.{Listing}
 use Rattle.pack_layout.specs.Output.{bytesOf}
 use Rattle.pack_layout.specs.Packing.{imageCells, image, Legal}
+use Rattle.pack_layout.proofs.Output.{cell-there}
 use Rattle.pack_layout.proofs.Packing.{image-below, size-is}
 use Rattle.list_machine.specs.Demand3.{PackedHolds}
-
--- a cell behind the first one
-past-first : (order a b c d : ℕ) (rest : List ℕ) (j : ℕ) → cellAt order (a ∷ b ∷ c ∷ d ∷ rest) (4 * suc j) ≡ cellAt order rest (4 * j)
-unfolding cellAt
-past-first order a b c d rest j =
-    let e0 : 4 * suc j ≡ suc (suc (suc (suc (4 * j)))) = omega arith in
-    let e1 : 4 * suc j + 1 ≡ suc (suc (suc (suc (4 * j + 1)))) = omega arith in
-    let e2 : 4 * suc j + 2 ≡ suc (suc (suc (suc (4 * j + 2)))) = omega arith in
-    let e3 : 4 * suc j + 3 ≡ suc (suc (suc (suc (4 * j + 3)))) = omega arith in
-    rw (e1, e2, e3, e0)
-
--- a cell among the bytes of a list of cells
-cell-there : (order : ℕ) (xs : List ℕ) (j : ℕ) → j < length xs → ((k : ℕ) → getD xs k 0 < 2 ^ 32) → cellAt order (bytesOf order xs) (4 * j) ≡ getD xs j 0
-unfolding bytesOf cellAt
-cell-there order [] j h low = absurd (omega arith)
-cell-there zero (x ∷ xs) zero h low = join-bytes x (low 0)
-cell-there (suc order) (x ∷ xs) zero h low = join-bytes x (low 0)
-cell-there zero (x ∷ xs) (suc j) h low =
-    past-first zero (byte0 x) (byte1 x) (byte2 x) (byte3 x) (bytesOf zero xs) j ∙ cell-there zero xs j (omega arith) (λ k. low (suc k))
-cell-there (suc order) (x ∷ xs) (suc j) h low =
-    past-first (suc order) (byte3 x) (byte2 x) (byte1 x) (byte0 x) (bytesOf (suc order) xs) j
-    ∙ cell-there (suc order) xs j (omega arith) (λ k. low (suc k))
 
 -- bytes that are alike give one cell
 same-cell : (order : ℕ) (m bs : List ℕ) (base a n : ℕ) → ((i : ℕ) → i < n → getD m (base + i) 0 ≡ getD bs i 0) → a + 4 < suc n

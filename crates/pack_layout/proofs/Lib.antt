@@ -10,4 +10,8 @@ pub mod Listing
 pub mod Packing
 pub mod Finding
 pub mod Meet
+pub mod Opcodes
+pub mod Reading
+pub mod Output
+pub mod Unpacking
 pub mod Rows

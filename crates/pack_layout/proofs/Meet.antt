@@ -18,7 +18,7 @@ use Rattle.pack_layout.proofs.Placing.{same, closes, next-after, run-on
 use Rattle.pack_layout.proofs.Listing.{target-below, target-entry, call-entry}
 use Rattle.pack_layout.proofs.Packing.{decoded, placed, ep-inside, at-inside, size-is}
 
-above-open : (g : ItemForm) (v w : ℕ) → (g ≡ immediate → ⊥) → above g true v w ≡ 0
+pub above-open : (g : ItemForm) (v w : ℕ) → (g ≡ immediate → ⊥) → above g true v w ≡ 0
 above-open alone v w h = refl
 above-open immediate v w h = absurd (h refl)
 above-open inCell v w h = refl

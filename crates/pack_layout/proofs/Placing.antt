@@ -62,7 +62,7 @@ pub begin-most : (o : Bool) (c : Spot) → begin o c .next ≤ c .next + 1
 begin-most true c = omega arith
 begin-most false c = omega arith
 
-extra-most : (g : ItemForm) → extra g ≤ 1
+pub extra-most : (g : ItemForm) → extra g ≤ 1
 extra-most alone = omega arith
 extra-most immediate = omega arith
 extra-most inCell = omega arith

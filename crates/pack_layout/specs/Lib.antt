@@ -1,4 +1,4 @@
--- What crate `pack_layout` means: listings, their entries, layout, rounds and image, the listing file, and the worked rows.
+-- What crate `pack_layout` means: listings, their entries, layout, rounds and image, an image read back, the listing file, and the worked rows.
 pub mod Grounds
 pub mod Kinds
 pub mod Bytes
@@ -10,4 +10,6 @@ pub mod Image
 pub mod Rounds
 pub mod Packing
 pub mod Output
+pub mod Reading
+pub mod Unpacking
 pub mod Worked

@@ -1,0 +1,2 @@
+-- What crate `unpack_reading` means beside the definitions of reading: its arrays.
+pub mod Readers

@@ -1,0 +1,42 @@
+// The items that branches lead to.
+ghost use mathlib.Core.Path.{_≡_};
+ghost use Prim.Native.Nat.{ℕ, _<_};
+ghost use lib.ListN.{length, getD};
+ghost use Rattle.pack_layout.specs.Kinds.{classOf};
+ghost use Rattle.unpack_reading.specs.Readers.{itemIn, operandIn};
+use crate::NO_ITEM;
+use cell::Address;
+use cell::number::subtract;
+use pack_judging::entries::is_branch;
+
+// The item that begins the cell at address a.
+fn item_at(firsts: &[u16], base: Address, a: u32) -> u32
+    ensures { λ x. ⌜ x ≡ itemIn (base .0) (now (firsts .entry)) a ⌝ }
+{
+    let d = subtract(a, base.0);
+    if d % 4 != 0 {
+        return NO_ITEM as u32;
+    }
+    let c = (d / 4) as usize;
+    if firsts.len() <= c {
+        return NO_ITEM as u32;
+    }
+    firsts[c] as u32
+}
+
+// Puts the item's number where a branch holds an address.
+pub fn find_targets(kinds: &[u8], operands: &mut [u32], firsts: &[u16], base: Address)
+    requires { ⌜ length (now operands) ≡ length (now kinds) ⌝ }
+    ensures { λ u. ⌜ length (now (operands .exit)) ≡ length (now (operands .entry)) ⌝ }
+    ensures { λ u. ⌜ ((j : ℕ) → j < length (now (operands .entry)) → getD (now (operands .exit)) j 0 ≡ operandIn (classOf (getD (now (kinds .entry)) j 0)) (base .0) (now (firsts .entry)) (getD (now (operands .entry)) j 0)) ⌝ }
+{
+    let n = operands.len();
+    let mut i: usize = 0;
+    while i < n {
+        let next = i + 1;
+        if is_branch(kinds[i]) {
+            operands[i] = item_at(firsts, base, operands[i]);
+        }
+        i = next;
+    }
+}
