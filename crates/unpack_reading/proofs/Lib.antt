@@ -1,4 +1,4 @@
 -- Laws that belong to no one function.
-mod Cells
+pub mod Cells
 mod Steps
-mod Finding
+pub mod Finding
