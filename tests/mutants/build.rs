@@ -3,21 +3,19 @@
 use std::path::{Path, PathBuf};
 use std::{env, fs};
 
-mod edits {
-    include!("edits.rs");
-}
+mod edits;
 
 const REFERENCE: &str = "../src/reference";
 
 /// Each mutant is a copy of the reference with one edit, which must apply exactly once.
 fn main() {
-    println!("cargo:rerun-if-changed=edits.rs");
+    println!("cargo:rerun-if-changed=edits");
     println!("cargo:rerun-if-changed=build.rs");
     println!("cargo:rerun-if-changed={REFERENCE}");
     let results = PathBuf::from(env::var("OUT_DIR").expect("set by cargo"));
     let mut modules = String::new();
     let mut table = String::new();
-    for (number, edit) in edits::MUTANTS.iter().enumerate() {
+    for (number, edit) in edits::SUBJECTS.iter().copied().flatten().enumerate() {
         let folder = results.join(format!("mutant{number}"));
         write_mutant(&folder, edit);
         let root = folder.join("mod.rs");

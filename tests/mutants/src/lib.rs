@@ -1,2 +1,2 @@
-//! Wrong implementations, written by the build from `edits.rs`: the tests show that the comparison
+//! Wrong implementations, written by the build from `edits`: the tests show that the comparison
 //! finds each of them.

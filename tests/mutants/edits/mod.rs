@@ -1,0 +1,45 @@
+//! What is wrong with each mutant, by subject.
+
+mod areas;
+mod files;
+mod modules;
+mod packer;
+mod processor;
+mod tables;
+
+/// A wrong implementation: the reference with one edit.
+pub struct Mutant {
+    /// The group of suites that finds it; or demand3, budgets, firsts, shorts: what it breaks by itself,
+    /// with no second implementation to compare.
+    pub group: &'static str,
+    pub name: &'static str,
+    pub file: &'static str,
+    pub find: &'static str,
+    pub put: &'static str,
+}
+
+const fn mutant(
+    group: &'static str,
+    name: &'static str,
+    file: &'static str,
+    find: &'static str,
+    put: &'static str,
+) -> Mutant {
+    Mutant {
+        group,
+        name,
+        file,
+        find,
+        put,
+    }
+}
+
+/// All of them, subject by subject.
+pub const SUBJECTS: &[&[Mutant]] = &[
+    processor::MUTANTS,
+    areas::MUTANTS,
+    tables::MUTANTS,
+    modules::MUTANTS,
+    packer::MUTANTS,
+    files::MUTANTS,
+];

@@ -1,0 +1,47 @@
+//! Object modules, and loads that halt (document 02, (c)).
+
+use super::{mutant, Mutant};
+
+#[rustfmt::skip]
+pub const MUTANTS: &[Mutant] = &[
+    mutant("modules", "cells of the other order not reversed", "module.rs",
+        "to.reverse();", ""),
+    mutant("modules", "a file may be longer", "module.rs",
+        "demand(file.len() as u64 == length, Refusal::FileLength)?;", "demand(file.len() as u64 >= length, Refusal::FileLength)?;"),
+    mutant("modules", "the count's size wraps", "module.rs",
+        "let length = 12 + 4 * u64::from(cells);", "let length = u64::from(12_u32.wrapping_add(cells.wrapping_mul(4)));"),
+    mutant("modules", "a count in the machine's order", "calls.rs",
+        "let module = module::read(file)?;\n        let all = module.code.len() / 4;", "let module = module::read(file)?;\n        let all = order.cell_of([file[8], file[9], file[10], file[11]]) as usize;\n        demand(12 + 4 * all as u64 == file.len() as u64, Refusal::FileLength)?;"),
+    mutant("modules", "an empty module at MEMORY is taken", "module.rs",
+        "let inside = address < length && address", "let inside = address"),
+    mutant("modules", "-1 before -4104", "module.rs",
+        "    demand(address.is_multiple_of(4), Refusal::Unaligned)?;\n    let length = memory.len() as u64;\n    let address = u64::from(address);\n    let inside = address < length && address + 4 * cells <= length;\n    demand(inside, Refusal::OutsideMemory)?;\n",
+        "    let length = memory.len() as u64;\n    let address = u64::from(address);\n    let inside = address < length && address + 4 * cells <= length;\n    demand(inside, Refusal::OutsideMemory)?;\n    demand(address.is_multiple_of(4), Refusal::Unaligned)?;\n"),
+    mutant("modules", "short files with a wrong start are -4103", "module.rs",
+        "demand(file.len() >= 8 && &file[..7] == MAGIC, Refusal::Header)?;", "demand(file.len() >= 8, Refusal::FileLength)?;\n    demand(&file[..7] == MAGIC, Refusal::Header)?;"),
+    mutant("modules", "save asks for one byte more", "calls.rs",
+        "room(output, file.len())?;", "room(output, file.len() + 1)?;"),
+    mutant("modules", "save clears the rest of the output", "calls.rs",
+        "output[..file.len()].copy_from_slice(file);", "output[..file.len()].copy_from_slice(file);\n    output[file.len()..].fill(0);"),
+    mutant("modules", "save always in order 0", "module.rs",
+        "file.push(order.number());", "file.push(0);"),
+    // Loads that halt
+    mutant("modules", "a load that halts clears the cells after it", "calls.rs",
+        "        let first = all.min(cells as usize);", "        let first = all.min(cells as usize);\n        memory[at + 4 * first..at + 4 * all].fill(0);"),
+    mutant("modules", "out asked for only where a cell goes in", "calls.rs",
+        "        room(out, 1)?;\n        let first = all.min(cells as usize);\n        module::copy_in(order, memory, &module, at, first);\n        out[0] = first as u32;",
+        "        let first = all.min(cells as usize);\n        if first == 0 {\n            out.iter_mut().take(1).for_each(|count| *count = 0);\n            return Ok(WENT_ON);\n        }\n        room(out, 1)?;\n        module::copy_in(order, memory, &module, at, first);\n        out[0] = first as u32;"),
+    mutant("firsts", "one cell too many", "calls.rs",
+        "module::copy_in(order, memory, &module, at, first);", "module::copy_in(order, memory, &module, at, first + 1);"),
+    mutant("firsts", "the last cell first", "module.rs",
+        "    let first = module.code.chunks(4).take(cells);\n    for (to, from) in memory[at..].chunks_mut(4).zip(first) {",
+        "    let skipped = module.code.len() / 4 - cells;\n    let first = module.code.chunks(4).skip(skipped);\n    for (to, from) in memory[at + 4 * skipped..].chunks_mut(4).zip(first) {"),
+    mutant("firsts", "the cells asked for answered", "calls.rs",
+        "out[0] = first as u32;", "out[0] = if all > 0 { cells } else { 0 };"),
+    mutant("firsts", "a load of no cell is not refused", "calls.rs",
+        "        let module = module::read(file)?;\n        let all", "        if cells == 0 && !out.is_empty() {\n            out[0] = 0;\n            return Ok(WENT_ON);\n        }\n        let module = module::read(file)?;\n        let all"),
+    mutant("firsts", "the place judged for the cells that go in", "calls.rs",
+        "module::place(memory, address, all as u64)?", "module::place(memory, address, u64::from(cells).min(all as u64))?"),
+    mutant("firsts", "cells turned after the last one has gone in", "module.rs",
+        "if module.order != order {", "if module.order != order && 4 * cells == module.code.len() {"),
+];
