@@ -12,7 +12,7 @@ pub type ListRun =
 pub type ListResume =
     fn(u8, &[u8], &[u32], u32, &mut [u8], u32, u32, u32, u8, &mut [u32], u32, &mut [u32]) -> u32;
 
-/// The thirteen calls of the interface.
+/// The fourteen calls of the interface.
 #[derive(Clone, Copy)]
 pub struct Implementation {
     pub start: Start,
@@ -26,6 +26,7 @@ pub struct Implementation {
     pub shorten: fn(&[u8], &mut [u8], &mut [u32]) -> u32,
     pub lengthen: fn(&[u8], &mut [u8], &mut [u32]) -> u32,
     pub pack_short: fn(u8, &[u8], &mut [u8], &mut [u32]) -> u32,
+    pub unpack: fn(u8, &[u8], u32, &mut [u8], &mut [u32], &mut [u32]) -> u32,
     pub list_run: ListRun,
     pub list_resume: ListResume,
 }
@@ -46,6 +47,7 @@ macro_rules! implementation {
             shorten: $($module)::+::shorten,
             lengthen: $($module)::+::lengthen,
             pack_short: $($module)::+::pack_short,
+            unpack: $($module)::+::unpack,
             list_run: $($module)::+::list_run,
             list_resume: $($module)::+::list_resume,
         }
@@ -76,6 +78,7 @@ pub enum Entry {
     Shorten,
     Lengthen,
     PackShort,
+    Unpack,
     ListRun,
     ListResume,
 }
@@ -85,14 +88,15 @@ pub enum Entry {
 pub struct Call {
     pub entry: Entry,
     pub order: u8,
-    /// start: EP, handler; run: budget; load: address; load_first, save: address, cells; pack: base;
-    /// list_run: base, items; list_resume: base, items, item, ran (its low byte).
+    /// start: EP, handler; run: budget; load: address; load_first, save: address, cells; pack, unpack:
+    /// base; list_run: base, items; list_resume: base, items, item, ran (its low byte).
     pub numbers: [u32; 4],
     /// start: the four numbers of the areas.
     pub areas: [u32; 4],
     /// start, cycle, run, list_run, list_resume: the table's first byte and its end.
     pub table: [u32; 2],
     pub memory: Vec<u8>,
+    /// unpack: the image.
     pub file: Vec<u8>,
     pub kinds: Vec<u8>,
     pub operands: Vec<u32>,
@@ -222,6 +226,7 @@ impl Arrays {
             Entry::Shorten => (to.shorten)(f, w, o),
             Entry::Lengthen => (to.lengthen)(f, w, o),
             Entry::PackShort => (to.pack_short)(order, f, w, o),
+            Entry::Unpack => (to.unpack)(order, f, x, k, v, o),
             Entry::ListRun => (to.list_run)(order, k, v, x, m, t, end, r, y, o),
             Entry::ListResume => {
                 (to.list_resume)(order, k, v, x, m, t, end, item, ran as u8, r, y, o)

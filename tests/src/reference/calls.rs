@@ -1,5 +1,5 @@
-//! The thirteen calls of the C interface: refusals in document 01's order, with -4111 and -4112 after
-//! -4102, and -4105 last; what is lent is written on success only.
+//! The fourteen calls of the C interface: refusals in document 01's order, with -4111 and -4112 after
+//! -4102, -4116 after -4110, and -4105 last; what is lent is written on success only.
 
 use super::instructions::Registers;
 use super::list_machine::{ListMachine, Position, Step};
@@ -12,6 +12,7 @@ use super::refusal::{demand, Refusal};
 use super::short;
 use super::stacks::{Areas, Numbers};
 use super::tables::{Range, Table};
+use super::unpack;
 
 const WENT_ON: u32 = 0;
 const STOPPED: u32 = 1;
@@ -276,6 +277,30 @@ pub fn pack_short(order: u8, file: &[u8], output: &mut [u8], out: &mut [u32]) ->
         let order = byte_order(order)?;
         let (listing, base) = short::read(file)?;
         pack_listing(order, &listing, base, output, out)
+    })())
+}
+
+/// The listing that packs to an image (document 02, (h)).
+pub fn unpack(
+    order: u8,
+    image: &[u8],
+    base: u32,
+    kinds: &mut [u8],
+    operands: &mut [u32],
+    out: &mut [u32],
+) -> u32 {
+    number((|| {
+        let order = byte_order(order)?;
+        packer::accept_place(base, image.len())?;
+        let listing = unpack::read(order, image, base)?;
+        let items = listing.items();
+        room(kinds, items)?;
+        room(operands, items)?;
+        room(out, 1)?;
+        kinds[..items].copy_from_slice(&listing.kinds);
+        operands[..items].copy_from_slice(&listing.operands);
+        out[0] = items as u32;
+        Ok(WENT_ON)
     })())
 }
 

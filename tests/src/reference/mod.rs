@@ -17,3 +17,4 @@ pub mod refusal;
 pub mod short;
 pub mod stacks;
 pub mod tables;
+pub mod unpack;

@@ -184,8 +184,13 @@ pub fn image(listing: &Listing, layout: &Layout, base: u32) -> Vec<u32> {
 
 /// -4104 for the base, then -4110 for base and image.
 pub fn accept_base(base: u32, layout: &Layout) -> Result<(), Refusal> {
+    accept_place(base, 4 * layout.cells)
+}
+
+/// The same for an image of so many bytes.
+pub fn accept_place(base: u32, length: usize) -> Result<(), Refusal> {
     demand(base.is_multiple_of(4), Refusal::Unaligned)?;
-    let end = u64::from(base) + 4 * layout.cells as u64;
+    let end = u64::from(base) + length as u64;
     demand(base >= 0x10 && end <= HIGHEST, Refusal::Base)
 }
 

@@ -1,4 +1,4 @@
-//! What is refused, with its number (document 01, the two lists; document 02, (a), (b) and (l)).
+//! What is refused, with its number (document 01, the two lists; document 02, (a), (b), (h) and (l)).
 
 #[derive(Clone, Copy, PartialEq, Eq, Debug)]
 pub enum Refusal {
@@ -30,6 +30,8 @@ pub enum Refusal {
     OutsideMemory,
     /// -4110.
     Base,
+    /// -4116.
+    NoListing,
     /// -4105.
     ShortOutput,
 }
@@ -51,6 +53,7 @@ impl Refusal {
             Refusal::Unaligned => -4104,
             Refusal::OutsideMemory => -1,
             Refusal::Base => -4110,
+            Refusal::NoListing => -4116,
             Refusal::ShortOutput => -4105,
         }
     }
