@@ -9,7 +9,8 @@
 //! of order, length of a memory of 5Ah, file, address and cells, `=`, and `refused` with the number, or
 //! the cells loaded and each changed byte. A short listing is a line of a short file's bytes, `=`, the
 //! cells that it packs to in order 0, `=`, and the old file's bytes, with `refused` and the number in
-//! place of either.
+//! place of either. An image is a line of order, base and the image's bytes, `=`, and `refused` with the
+//! number, or the number of items, their kinds in one word, and an operand for each.
 
 #[cfg(feature = "library")]
 use beetle_tests::call::library;
@@ -22,7 +23,7 @@ struct Kind {
     agrees: fn(&Implementation, &str) -> bool,
 }
 
-const KINDS: [Kind; 5] = [
+const KINDS: [Kind; 6] = [
     Kind {
         name: "cycles",
         files: &["cycles.txt", "plusloops.txt", "areas.txt"],
@@ -47,6 +48,11 @@ const KINDS: [Kind; 5] = [
         name: "short",
         files: &["short.txt"],
         agrees: short_agrees,
+    },
+    Kind {
+        name: "images",
+        files: &["images.txt"],
+        agrees: image_agrees,
     },
 ];
 
@@ -210,6 +216,32 @@ fn short_agrees(calls: &Implementation, line: &str) -> bool {
         Err(refusal) => lengthened == answer_words(refusal, 0),
     };
     agrees && packed_words(calls, &file) == packed
+}
+
+/// The listing that is read out of an image, in words, where it packs to that image again.
+fn listing_words(calls: &Implementation, order: u8, base: u32, image: &[u8]) -> Vec<String> {
+    let (mut kinds, mut operands, mut out) = (vec![0; 4096], vec![0; 4096], [0]);
+    let answer = (calls.unpack)(order, image, base, &mut kinds, &mut operands, &mut out);
+    if answer != 0 {
+        return answer_words(answer, 0);
+    }
+    let items = out[0] as usize;
+    let (kinds, operands) = (&kinds[..items], &operands[..items]);
+    let mut output = vec![0; image.len()];
+    let packed = (calls.pack)(order, kinds, operands, base, &mut output, &mut out);
+    if packed != 0 || output != image {
+        return vec!["packed otherwise".to_string()];
+    }
+    let mut words = vec![format!("{items:X}"), hexadecimal_bytes(kinds)];
+    words.extend(operands.iter().map(|operand| format!("{operand:X}")));
+    words
+}
+
+fn image_agrees(calls: &Implementation, line: &str) -> bool {
+    let (given, expected) = sides(line);
+    let [order, base] = [0, 1].map(|word| hexadecimal(given[word]));
+    let image = bytes_or_none(given[2]);
+    listing_words(calls, order as u8, base, &image) == expected
 }
 
 fn first_agrees(calls: &Implementation, line: &str) -> bool {
