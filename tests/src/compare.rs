@@ -4,7 +4,7 @@ use std::collections::BTreeMap;
 
 use crate::budgets::{self, Budgets};
 use crate::call::{agree, perform, Call, Implementation};
-use crate::cases::{files, listings, modules, processor, rules};
+use crate::cases::{files, images, listings, modules, processor, rules};
 use crate::cuts;
 use crate::demand3::follow;
 use crate::firsts::{self, Firsts};
@@ -15,7 +15,7 @@ use crate::shrink::{call_text, returned_text, smallest};
 /// Calls of one sort, with the number that is drawn by default.
 pub struct Suite {
     pub name: &'static str,
-    /// processor, modules, packer or files.
+    /// processor, modules, packer, files or images.
     pub group: &'static str,
     pub cases: u32,
     pub make: fn(&mut Random, u32) -> Call,
@@ -35,7 +35,7 @@ const fn suite(
     }
 }
 
-pub const SUITES: [Suite; 18] = [
+pub const SUITES: [Suite; 20] = [
     suite("cycles", "processor", 400_000, processor::cycle),
     suite("starts", "processor", 20_000, processor::start),
     suite("runs", "processor", 40_000, processor::run),
@@ -54,6 +54,8 @@ pub const SUITES: [Suite; 18] = [
     suite("lengthens", "files", 20_000, files::lengthen),
     suite("pack shorts", "files", 20_000, files::pack_short),
     suite("large files", "files", 60, files::large),
+    suite("unpacks", "images", 20_000, images::unpack),
+    suite("large images", "images", 60, images::large),
 ];
 
 /// How many rules demand 3 is tried on by default.

@@ -11,10 +11,11 @@ pub struct Shrinking<'d> {
     tries: usize,
 }
 
-/// The smallest call found that still shows the difference. A listing file is opened, where it can be,
-/// so that items go out of it.
+/// The smallest call found that still shows the difference. A listing file or an image is opened, where
+/// it can be, so that items go out of it.
 pub fn smallest(call: &Call, differs: &dyn Fn(&Call) -> bool) -> Call {
-    let Some(open) = opened(call) else {
+    let open = opened(call).filter(|open| differs(&closed(open.clone())));
+    let Some(open) = open else {
         return shrunk(call, differs);
     };
     let small = shrunk(&open, &|open| differs(&closed(open.clone())));
@@ -110,9 +111,9 @@ impl Shrinking<'_> {
         }
     }
 
-    /// The file without one piece and another.
+    /// The file without one piece and another, or one cell and another.
     fn shorten_file(&mut self) {
-        for size in pieces(2 * self.best.file.len()) {
+        for size in pieces(2 * self.best.file.len()).chain([4]) {
             let mut start = 0;
             while start + size <= self.best.file.len() && self.tries > 0 {
                 if !self.attempt_with(|call| drop(call.file.drain(start..start + size))) {
@@ -225,8 +226,8 @@ pub fn call_text(call: &Call) -> String {
     text
 }
 
-/// Where two byte arrays differ.
-fn bytes_text(name: &str, left: &[u8], right: &[u8]) -> String {
+/// Where two arrays differ.
+fn differences_text<T: PartialEq + std::fmt::Debug>(name: &str, left: &[T], right: &[T]) -> String {
     let length = left.len().max(right.len());
     let places = (0..length).filter(|at| left.get(*at) != right.get(*at));
     let shown: Vec<String> = places
@@ -248,12 +249,10 @@ pub fn returned_text(left: &Returned, right: &Returned) -> String {
     );
     text += &format!("  registers {:X?} and {:X?}\n", l.registers, r.registers);
     text += &format!("  out {:X?} and {:X?}\n", l.out, r.out);
-    text += &bytes_text("memory", &l.memory, &r.memory);
-    text += &bytes_text("file", &l.file, &r.file);
-    text += &bytes_text("kinds", &l.kinds, &r.kinds);
-    text += &bytes_text("output", &l.output, &r.output);
-    if l.operands != r.operands {
-        text += "  operands written\n";
-    }
+    text += &differences_text("memory", &l.memory, &r.memory);
+    text += &differences_text("file", &l.file, &r.file);
+    text += &differences_text("kinds", &l.kinds, &r.kinds);
+    text += &differences_text("output", &l.output, &r.output);
+    text += &differences_text("operands", &l.operands, &r.operands);
     text
 }

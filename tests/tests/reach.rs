@@ -1,8 +1,10 @@
-//! The cases meet the table in every way, and listing files with every answer.
+//! The cases meet the table in every way, and listing files and images with every answer.
 
-use beetle_tests::call::reference;
-use beetle_tests::cases::{processor, rules};
+use beetle_tests::call::{perform, reference};
+use beetle_tests::cases::wrong_images::DAMAGES;
+use beetle_tests::cases::{images, processor, rules};
 use beetle_tests::compare::{compare, SUITES};
+use beetle_tests::random::Random;
 use beetle_tests::reach::{tally, Tally};
 
 /// Each of these came up so often at least.
@@ -56,14 +58,16 @@ fn runs_meet_tables() {
 }
 
 #[test]
-fn files_meet_every_answer() {
+fn files_and_images_meet_every_answer() {
     let shortened = &[0, -4105, -4106, -4107, -4108, -4109][..];
     let lengthened = &[0, -4105, -4106, -4107, -4109, -4119][..];
     let packed = &[lengthened, &[-4102, -4104, -4110]].concat()[..];
+    let unpacked = &[0, -4102, -4104, -4105, -4110, -4116][..];
     for (name, expected) in [
         ("shortens", shortened),
         ("lengthens", lengthened),
         ("pack shorts", packed),
+        ("unpacks", unpacked),
     ] {
         let suite = SUITES.iter().find(|suite| suite.name == name);
         let suite = suite.expect("the suite");
@@ -76,5 +80,21 @@ fn files_meet_every_answer() {
         expected.sort();
         assert_eq!(met, expected, "{name}");
         assert!(answers.values().all(|times| *times >= 20), "{name}");
+    }
+}
+
+/// Each way to damage an image gives images that no listing packs to.
+#[test]
+fn every_damage_is_refused() {
+    for (number, (name, _)) in DAMAGES.iter().enumerate() {
+        let mut random = Random::new(10);
+        let damaged = (0..400).map(|_| images::damaged_by(&mut random, number));
+        let answers: Vec<i32> = damaged
+            .map(|call| perform(&reference(), &call).answer as i32)
+            .collect();
+        let count = |number| answers.iter().filter(|answer| **answer == number).count();
+        let (refused, taken) = (count(-4116), count(0));
+        println!("{name}: -4116 {refused} times, 0 {taken} times");
+        assert!(refused >= 20, "{name}: {refused} times");
     }
 }

@@ -65,7 +65,7 @@ fn items_of(random: &mut Random, items: u32, branches: u32, literals: u32) -> (V
 }
 
 /// A legal listing; the shares of branches and literals vary.
-fn listing(random: &mut Random, items: u32) -> (Vec<u8>, Vec<u32>) {
+pub(super) fn listing(random: &mut Random, items: u32) -> (Vec<u8>, Vec<u32>) {
     let branches = random.choose(&[3, 10, 20, 40, 95]);
     let literals = random.below(101 - branches);
     items_of(random, items, branches, literals)
@@ -132,14 +132,19 @@ pub(super) fn listed(random: &mut Random, call: &mut Call, items: u32) -> u32 {
     cells
 }
 
-/// An output for so many bytes: just so long, longer, or too short; and `out`.
-pub(super) fn lend(random: &mut Random, call: &mut Call, room: usize) {
-    let room = match random.below(6) {
+/// A length of an array for so many: just so long, longer, or too short.
+pub(super) fn length_about(random: &mut Random, room: usize) -> usize {
+    match random.below(6) {
         0 => room.saturating_sub(1),
         1 => room + random.below(30) as usize,
         2 => random.below(room as u32 + 1) as usize,
         _ => room,
-    };
+    }
+}
+
+/// An output for so many bytes, and `out`.
+pub(super) fn lend(random: &mut Random, call: &mut Call, room: usize) {
+    let room = length_about(random, room);
     call.output = any_bytes(random, room);
     call.out = out_with_room(random, 1);
     if random.one_in(12) {

@@ -2,12 +2,15 @@
 
 pub mod areas;
 pub mod files;
+pub mod images;
 pub mod listings;
 pub mod modules;
 pub mod processor;
 pub mod rules;
 pub mod tables;
 pub mod writer;
+pub mod wrong_images;
+pub mod wrong_layouts;
 
 use crate::call::Call;
 use crate::random::Random;

@@ -58,14 +58,19 @@ pub fn fits(value: i64, bytes: usize) -> bool {
     (-half..half).contains(&value)
 }
 
+/// Whether a literal's value needs more bytes.
+fn too_wide(value: u32, bytes: usize) -> bool {
+    !fits(i64::from(value as i32), bytes)
+}
+
 /// The open cell and the bytes used in it.
 struct Open {
     cell: usize,
     used: usize,
 }
 
-/// Lays all items out, with these branches marked.
-fn lay_out(listing: &Listing, entries: &[bool], marks: &[bool]) -> Layout {
+/// Lays all items out, with these entries, and these items marked.
+pub fn lay_out(listing: &Listing, entries: &[bool], marks: &[bool]) -> Layout {
     let mut open: Option<Open> = None;
     let mut cells = 0;
     let mut placements = Vec::with_capacity(listing.items());
@@ -104,14 +109,14 @@ fn lay_out(listing: &Listing, entries: &[bool], marks: &[bool]) -> Layout {
     }
 }
 
-/// A branch has the mark that the rounds gave it; a literal counts as marked where it is too wide for
-/// the bytes that are left.
+/// A branch has the mark that the rounds gave it, and rounds mark no literal: one counts as marked where
+/// it is too wide for the bytes that are left.
 fn form(listing: &Listing, marks: &[bool], item: usize, placement: &Placement) -> Form {
     let free = placement.free();
     let marked = match listing.kind(item) {
         Kind::Plain => return Form::Plain,
         Kind::Branch => marks[item],
-        Kind::Literal => free > 0 && !fits(i64::from(listing.operands[item] as i32), free),
+        Kind::Literal => marks[item] || free > 0 && too_wide(listing.operands[item], free),
     };
     if free > 0 && !marked {
         Form::Immediate
