@@ -8,6 +8,7 @@ use crate::cases::{files, images, listings, modules, processor, rules};
 use crate::cuts;
 use crate::demand3::follow;
 use crate::firsts::{self, Firsts};
+use crate::images::{try_call, Images};
 use crate::random::Random;
 use crate::shorts::{self, Shorts};
 use crate::shrink::{call_text, returned_text, smallest};
@@ -207,6 +208,14 @@ pub fn try_shorts(implementation: &Implementation, cases: u32) -> Result<Shorts,
     let file = files::any;
     tried("there and back", 7, cases, file, |_, call, tally| {
         shorts::try_file(implementation, call, tally)
+    })
+}
+
+/// Reads images and packs what was read; packs listings and reads their images.
+pub fn try_images(implementation: &Implementation, cases: u32) -> Result<Images, String> {
+    let either = images::image_or_listing;
+    tried("packed and read", 8, cases, either, |_, call, tally| {
+        try_call(implementation, call, tally)
     })
 }
 

@@ -8,6 +8,7 @@ pub mod cuts;
 pub mod demand3;
 pub mod files;
 pub mod firsts;
+pub mod images;
 pub mod random;
 pub mod reach;
 pub mod reference;

@@ -1,7 +1,7 @@
 //! Calls on images (document 02, (h)): what the packer writes, the same damaged, and bytes that no packer
 //! wrote.
 
-use super::listings::{length_about, listing, size};
+use super::listings::{self, length_about, listing, size};
 use super::{any_bytes, any_cell, any_cells, order_of, wrong_images, GREATEST};
 use crate::call::{Call, Entry};
 use crate::random::Random;
@@ -160,6 +160,14 @@ pub fn unpack(random: &mut Random, _: u32) -> Call {
         spoil_call(random, &mut call);
     }
     call
+}
+
+/// An image to be read, or a listing to be packed.
+pub fn image_or_listing(random: &mut Random, index: u32) -> Call {
+    match index % 2 {
+        0 => unpack(random, index),
+        _ => listings::pack(random, index),
+    }
 }
 
 /// An image as long as the highest address lets it be, or longer by a byte or a cell.
