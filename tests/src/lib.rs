@@ -16,5 +16,6 @@ pub mod shorts;
 pub mod shrink;
 pub mod worked;
 pub mod worked_areas;
+pub mod worked_images;
 pub mod worked_short;
 pub mod worked_tables;
