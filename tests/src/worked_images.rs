@@ -275,6 +275,32 @@ fn sizes(calls: &Implementation) {
     assert_eq!(read_cells(calls, &one_more), Err(NO_LISTING));
 }
 
+/// Two DUPs and a branch to the end, twice, with 520 DUPs behind. A byte is too little for either branch
+/// where it is first laid out. Once both are marked, the second stands behind one DUP only, where two
+/// bytes would do: it keeps its operand cell, and no listing packs to the image where it does not.
+fn marks(calls: &Implementation) {
+    let start = [0x01, 0x01, 0x44, 0x01, 0x01, 0x4C];
+    let kinds = [&start[..], &[0x01; 520], &[0x55]].concat();
+    let targets = kinds.iter().map(|kind| match kind {
+        0x44 | 0x4C => 526,
+        _ => 0,
+    });
+    let operands = targets.collect();
+    let four_dups = 0x0101_0101;
+    let kept = [
+        &[0x0144_0101, 0x228, 0x0101_4C01, 0x228][..],
+        &[four_dups; 129],
+        &[0x0000_0101, 0x0000_0055],
+    ];
+    assert_eq!(read_cells(calls, &kept.concat()), Ok((kinds, operands)));
+    let not_kept = [
+        &[0x0144_0101, 0x224, 0x0082_4D01][..],
+        &[four_dups; 130],
+        &[0x0000_0055],
+    ];
+    assert_eq!(read_cells(calls, &not_kept.concat()), Err(NO_LISTING));
+}
+
 /// An image for another base or another order.
 fn moving(calls: &Implementation) {
     let to_itself = bytes(0, &[0xFFFF_FF43]);
@@ -348,6 +374,7 @@ pub fn rows(calls: &Implementation) {
     opcodes(calls);
     lengths(calls);
     sizes(calls);
+    marks(calls);
     moving(calls);
     judging(calls);
 }

@@ -1,11 +1,14 @@
 //! The cases meet the table in every way, and listing files and images with every answer.
 
-use beetle_tests::call::{perform, reference};
+use beetle_tests::call::{perform, reference, Call};
+use beetle_tests::cases::images::Packed;
 use beetle_tests::cases::wrong_images::DAMAGES;
 use beetle_tests::cases::{images, processor, rules};
 use beetle_tests::compare::{compare, SUITES};
 use beetle_tests::random::Random;
 use beetle_tests::reach::{tally, Tally};
+use beetle_tests::reference::listing::Listing;
+use beetle_tests::reference::packer;
 
 /// Each of these came up so often at least.
 fn at_least(tally: &Tally, least: u32, names: &[&str]) {
@@ -81,6 +84,32 @@ fn files_and_images_meet_every_answer() {
         assert_eq!(met, expected, "{name}");
         assert!(answers.values().all(|times| *times >= 20), "{name}");
     }
+}
+
+/// The listing of a call that reads one.
+fn packed(call: &Call) -> Option<Packed> {
+    let read = perform(&reference(), call);
+    let items = (read.answer == 0).then(|| read.lent.out[0] as usize)?;
+    let listing = Listing {
+        kinds: read.lent.kinds[..items].to_vec(),
+        operands: read.lent.operands[..items].to_vec(),
+    };
+    Some(Packed {
+        layout: packer::layout(&listing),
+        base: call.numbers[0],
+        listing,
+    })
+}
+
+#[test]
+fn images_keep_marks_of_earlier_rounds() {
+    let mut random = Random::new(11);
+    let calls = (0..4_000).map(|index| images::unpack(&mut random, index));
+    let images = calls.filter_map(|call| packed(&call));
+    let keeps_mark = |image: &Packed| (0..image.listing.items()).any(|item| image.keeps_mark(item));
+    let times = images.filter(keeps_mark).count();
+    println!("{times} times");
+    assert!(times >= 20, "{times} times");
 }
 
 /// Each way to damage an image gives images that no listing packs to.

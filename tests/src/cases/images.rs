@@ -1,12 +1,12 @@
 //! Calls on images (document 02, (h)): what the packer writes, the same damaged, and bytes that no packer
 //! wrote.
 
-use super::listings::{self, length_about, listing, size};
+use super::listings::{self, kind_byte, length_about, listing, size};
 use super::{any_bytes, any_cell, any_cells, order_of, wrong_images, GREATEST};
 use crate::call::{Call, Entry};
 use crate::random::Random;
-use crate::reference::listing::Listing;
-use crate::reference::packer::{self, Layout};
+use crate::reference::listing::{kind_of, Kind, Listing};
+use crate::reference::packer::{self, Form, Layout};
 use crate::reference::unpack;
 
 /// A listing and its image, with all that the packer knows of it.
@@ -22,6 +22,23 @@ impl Packed {
         let cells = packer::image(&self.listing, layout, self.base);
         packer::bytes(&cells, order_of(order))
     }
+
+    /// Whether a branch was marked where bytes are left for it.
+    pub fn is_marked(&self, item: usize) -> bool {
+        let place = &self.layout.placements[item];
+        let in_cell = matches!(place.form, Form::Cell(_));
+        self.listing.kind(item) == Kind::Branch && in_cell && place.slot < 3
+    }
+
+    /// Whether a branch that was marked would fit where it stands now.
+    pub fn keeps_mark(&self, item: usize) -> bool {
+        let places = &self.layout.placements;
+        let fits = || {
+            let target = places[self.listing.target(item)].cell as i64;
+            packer::fits(target - places[item].ep as i64, 3 - places[item].slot)
+        };
+        self.is_marked(item) && fits()
+    }
 }
 
 /// A base for so many bytes: as low or as high as one may be, or between.
@@ -34,9 +51,47 @@ fn good_base(random: &mut Random, length: u32) -> u32 {
     }
 }
 
-/// A listing of so many items (more than are accepted, too) at a base where its image may be.
-fn packed(random: &mut Random, items: u32) -> Packed {
-    let (kinds, operands) = listing(random, items);
+/// Kinds and operands.
+type Items = (Vec<u8>, Vec<u32>);
+
+/// Some branches close together, about as far from their target as one byte reaches. Two that are marked
+/// in one round move in the next, and either may then stand where it would fit: it keeps its mark.
+fn far_branches(random: &mut Random) -> Items {
+    let mut branches = Vec::new();
+    for _ in 0..random.between(2, 4) {
+        let before = random.choose(&[1, 2, 2, 2]);
+        branches.extend((0..before).map(|_| kind_byte(random, Kind::Plain)));
+        branches.push(kind_byte(random, Kind::Branch));
+    }
+    let far = random.between(470, 530);
+    let between: Vec<u8> = (0..far).map(|_| kind_byte(random, Kind::Plain)).collect();
+    let (kinds, target) = match random.below(2) {
+        0 => ([&between[..], &branches[..]].concat(), 0),
+        _ => (
+            [&branches[..], &between[..]].concat(),
+            branches.len() as u32 + far - 1,
+        ),
+    };
+    let is_branch = |kind: &u8| kind_of(*kind) == Some(Kind::Branch);
+    let operands = kinds
+        .iter()
+        .map(|kind| if is_branch(kind) { target } else { 0 });
+    let operands = operands.collect();
+    (kinds, operands)
+}
+
+/// A legal listing, of any size.
+fn any_listing(random: &mut Random) -> Items {
+    if random.one_in(12) {
+        far_branches(random)
+    } else {
+        let items = size(random);
+        listing(random, items)
+    }
+}
+
+/// A listing, of more items than are accepted, too, at a base where its image may be.
+fn packed(random: &mut Random, (kinds, operands): Items) -> Packed {
     let listing = Listing { kinds, operands };
     let layout = packer::layout(&listing);
     let base = good_base(random, 4 * layout.cells as u32);
@@ -123,10 +178,10 @@ fn damage(random: &mut Random, packed: &Packed, call: &mut Call) {
     }
 }
 
-/// A call on the image of so many items, damaged by this.
+/// A call on the image of these items, damaged by this.
 fn damaged(
     random: &mut Random,
-    items: u32,
+    items: Items,
     damage: impl FnOnce(&mut Random, &Packed, &mut Call),
 ) -> Call {
     let packed = packed(random, items);
@@ -139,7 +194,7 @@ fn damaged(
 
 /// A call on an image damaged in the way of this number, with room for what it writes.
 pub fn damaged_by(random: &mut Random, number: usize) -> Call {
-    let items = size(random);
+    let items = any_listing(random);
     let mut call = damaged(random, items, wrong_images::DAMAGES[number].1);
     call.kinds = vec![0; 4096];
     call.operands = vec![0; 4096];
@@ -149,7 +204,7 @@ pub fn damaged_by(random: &mut Random, number: usize) -> Call {
 
 /// A call on an image, mostly damaged or as it was packed, else with bad numbers.
 pub fn unpack(random: &mut Random, _: u32) -> Call {
-    let items = size(random);
+    let items = any_listing(random);
     let is_damaged = random.one_in(2);
     let mut call = damaged(random, items, |random, packed, call| {
         if is_damaged {
@@ -187,5 +242,6 @@ pub fn large(random: &mut Random, index: u32) -> Call {
         return longest(random, index / 20);
     }
     let items = [4096, 4097, 4096, 4095, 8192][index as usize % 5];
+    let items = listing(random, items);
     damaged(random, items, |_, _, _| {})
 }

@@ -31,7 +31,7 @@ pub const DAMAGES: [(&str, Damage); 24] = [
     ("the other order", other_order),
     ("another base", other_base),
     ("an operand cell for what fits", needless_operand_cell),
-    ("an immediate that does not fit", immediate_too_wide),
+    ("a branch without its mark", mark_taken_away),
     ("an item taken out of its cell", item_out),
     ("an item taken into the cell before it", item_in),
     ("an item after a call in its cell", item_after_call),

@@ -4,7 +4,6 @@ use super::images::Packed;
 use super::wrong_images::{item_where, leaves_bytes, put_byte};
 use crate::call::Call;
 use crate::random::Random;
-use crate::reference::listing::Kind;
 use crate::reference::packer::{lay_out, Form, Placement};
 
 /// The image laid out with other entries and other marks than the listing's.
@@ -29,13 +28,12 @@ pub fn needless_operand_cell(random: &mut Random, packed: &Packed, call: &mut Ca
     }
 }
 
-/// A branch that reaches too far keeps the low bytes of its value.
-pub fn immediate_too_wide(random: &mut Random, packed: &Packed, call: &mut Call) {
-    let marked = |item: usize, placement: &Placement| {
-        let in_cell = matches!(placement.form, Form::Cell(_)) && placement.slot < 3;
-        packed.listing.kind(item) == Kind::Branch && in_cell
-    };
-    if let Some(item) = item_where(random, packed, marked) {
+/// A branch whose mark is taken away, often one that fits by now. One that does not has the low bytes of
+/// its value.
+pub fn mark_taken_away(random: &mut Random, packed: &Packed, call: &mut Call) {
+    let any = item_where(random, packed, |item, _| packed.is_marked(item));
+    let fitting = item_where(random, packed, |item, _| packed.keeps_mark(item));
+    if let Some(item) = fitting.or(any) {
         lay_out_otherwise(packed, call, |_, marks| marks[item] = false);
     }
 }
