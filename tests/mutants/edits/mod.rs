@@ -2,6 +2,7 @@
 
 mod areas;
 mod files;
+mod images;
 mod modules;
 mod packer;
 mod processor;
@@ -9,8 +10,8 @@ mod tables;
 
 /// A wrong implementation: the reference with one edit.
 pub struct Mutant {
-    /// The group of suites that finds it; or demand3, budgets, firsts, shorts: what it breaks by itself,
-    /// with no second implementation to compare.
+    /// The group of suites that finds it; or demand3, budgets, firsts, shorts, unpacks: what it breaks by
+    /// itself, with no second implementation to compare.
     pub group: &'static str,
     pub name: &'static str,
     pub file: &'static str,
@@ -42,4 +43,5 @@ pub const SUBJECTS: &[&[Mutant]] = &[
     modules::MUTANTS,
     packer::MUTANTS,
     files::MUTANTS,
+    images::MUTANTS,
 ];

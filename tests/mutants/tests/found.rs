@@ -3,7 +3,7 @@
 
 use beetle_tests::call::{reference, Implementation};
 use beetle_tests::compare::{compare, explain, Difference, RULES, SUITES};
-use beetle_tests::compare::{try_budgets, try_cuts, try_firsts, try_rules, try_shorts};
+use beetle_tests::compare::{try_budgets, try_cuts, try_firsts, try_images, try_rules, try_shorts};
 use beetle_tests::implementation;
 
 /// Its group, its name, and its calls.
@@ -35,6 +35,7 @@ fn every_mutant_is_found() {
             "budgets" => try_budgets(&mutant, RULES).err(),
             "firsts" => try_firsts(&mutant, RULES).err(),
             "shorts" => try_shorts(&mutant, RULES).err(),
+            "unpacks" => try_images(&mutant, RULES).err(),
             _ => found(group, &mutant).map(|by| format!("{}, case {}", by.name, by.index)),
         };
         match by {
@@ -55,16 +56,29 @@ fn a_difference_is_made_small() {
     assert!(text.contains("memory: 1024 bytes; ; 0 more"), "{text}");
 }
 
-/// A file goes down to a literal and a branch, the least that shows their operands exchanged.
-#[test]
-fn a_file_is_made_small() {
-    let name = "the operands of branches before those of literals";
+/// A small call that tells the mutant of this name from the reference, in words.
+fn explained(name: &str) -> String {
     let named = mutants().into_iter().find(|mutant| mutant.1 == name);
     let (group, _, mutant) = named.expect("the mutant");
     let difference = found(group, &mutant).expect("a difference");
     let text = explain(&difference, &reference(), &mutant);
     println!("{text}");
+    text
+}
+
+/// A file goes down to a literal and a branch, the least that shows their operands exchanged.
+#[test]
+fn a_file_is_made_small() {
+    let text = explained("the operands of branches before those of literals");
     assert!(text.contains("  file, 18: 2 0 0 0 0 0 0 0 52 "), "{text}");
+}
+
+/// An image goes down to a literal with an operand cell and a branch in the same cell: the branch's EP
+/// value is behind both.
+#[test]
+fn an_image_is_made_small() {
+    let text = explained("a branch measured from the cell behind its own");
+    assert!(text.contains("  file, 8: 52 "), "{text}");
 }
 
 #[test]
@@ -116,6 +130,20 @@ fn files_of_the_reference_come_back() {
         files.packed,
         files.not_packed,
         files.refused,
+    ] {
+        assert!(kind > RULES / 40);
+    }
+}
+
+#[test]
+fn images_of_the_reference_come_back() {
+    let images = try_images(&reference(), RULES / 4).expect("packed and read");
+    println!("{images:?}");
+    for kind in [
+        images.images_back,
+        images.listings_back,
+        images.not_read,
+        images.not_packed,
     ] {
         assert!(kind > RULES / 40);
     }
