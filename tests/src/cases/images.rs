@@ -1,5 +1,5 @@
-//! Calls on images (document 02, (h)): what the packer writes, the same damaged, and bytes that no packer
-//! wrote.
+//! Calls on images (document 02, (h)): what the packer writes, the same damaged, and bytes that no
+//! packer wrote.
 
 use super::listings::{self, kind_byte, length_about, listing, size};
 use super::{any_bytes, any_cell, any_cells, order_of, wrong_images, GREATEST};
@@ -90,7 +90,7 @@ fn any_listing(random: &mut Random) -> Items {
     }
 }
 
-/// A listing, of more items than are accepted, too, at a base where its image may be.
+/// A listing, also one of more items than are accepted, at a base where its image may be.
 fn packed(random: &mut Random, (kinds, operands): Items) -> Packed {
     let listing = Listing { kinds, operands };
     let layout = packer::layout(&listing);

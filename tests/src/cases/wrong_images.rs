@@ -71,7 +71,7 @@ fn put_cell(call: &mut Call, cell: usize, number: u32) {
     }
 }
 
-/// A cell of the image, and where its bytes are; 0 if the image has none.
+/// Some cell of the image; 0 if it has none.
 fn some_cell(random: &mut Random, call: &Call) -> usize {
     let cells = call.file.len() as u32 / 4;
     random.below(cells.max(1)) as usize
@@ -249,7 +249,7 @@ fn random_bytes(random: &mut Random, packed: &Packed, call: &mut Call) {
     };
 }
 
-/// Cells of opcodes in either form, a low byte or two of them not 00h.
+/// Cells whose used bytes are opcodes in either form.
 fn random_opcodes(random: &mut Random, packed: &Packed, call: &mut Call) {
     call.numbers[0] = packed.base.min(0x1000);
     call.file.clear();

@@ -54,8 +54,8 @@ impl Reader<'_> {
         Some(bytes)
     }
 
-    /// The kind that an opcode stands for, and its operand: in the rest of the cell where the kind is one
-    /// below the opcode.
+    /// The kind that an opcode stands for, and its operand: in the rest of the cell where the kind is
+    /// one below the opcode.
     fn take_item(&mut self, opcode: u8, rest: &[u8]) -> Option<(u8, Held)> {
         match kind_of(opcode) {
             Some(Kind::Plain) => Some((opcode, Held::Nothing)),
