@@ -27,9 +27,10 @@
  *
  * The answer is 0, 1 where the machine stopped, 2 where the list machine stands outside, or a
  * refusal, below 0. On a refusal nothing that was lent is written. A `registers`, `pointers`, `out`
- * or `output` shorter than what a success writes is refused with BEETLE_SHORT_OUTPUT, the last of
- * the refusals to be judged. What is longer keeps its rest. Areas that come in `registers` or
- * `pointers` are not judged where the array is too short to hold them; a table always is.
+ * or `output`, and `kinds` and `operands` where they are written, shorter than what a success writes
+ * is refused with BEETLE_SHORT_OUTPUT, the last of the refusals to be judged. What is longer keeps its
+ * rest. Areas that come in `registers` or `pointers` are not judged where the array is too short to
+ * hold them; a table always is.
  */
 #ifndef BEETLE_H
 #define BEETLE_H
@@ -41,7 +42,7 @@
 extern "C" {
 #endif
 
-/* ready, went on, spent, loaded, saved, packed; all the items asked for carried out */
+/* ready, went on, spent, loaded, saved, packed, unpacked; all the items asked for carried out */
 #define BEETLE_DONE 0
 #define BEETLE_STOPPED 1
 /* the list machine stopped in front of an item that it cannot carry out */
@@ -72,6 +73,8 @@ extern "C" {
                                          judged after BEETLE_BAD_ORDER */
 #define BEETLE_BAD_TABLE (-4112)      /* a table with an unaligned end, its ends exchanged, below 10h or
                                          past memory; judged after BEETLE_BAD_AREAS */
+#define BEETLE_NO_LISTING (-4116)     /* an image that no listing packs to at this base and in this
+                                         order; judged after BEETLE_BAD_BASE */
 #define BEETLE_BAD_SHORT_FILE (-4119) /* a short file of under 12 bytes, judged before BEETLE_BAD_COUNT;
                                          or its m is not the number of its literals and branches, or
                                          its length not 12 + n + 4m, judged after BEETLE_BAD_COUNT and
@@ -165,6 +168,19 @@ int32_t beetle_pack_short(
     uint8_t order,
     const uint8_t *file, size_t file_length,
     uint8_t *output, size_t output_length,
+    uint32_t *out, size_t out_length);
+
+/* Reads an image back: finds the listing that beetle_pack, given this base and order, packs to exactly
+ * these bytes. There is never a second one. Its kinds and operands go into the first places of both
+ * arrays. Where there is none the image is refused with BEETLE_NO_LISTING: so is an empty one, and one
+ * whose length is no multiple of 4. BEETLE_BAD_BASE counts the image's bytes whatever they hold. At
+ * another base the same bytes may be refused, or be the image of another listing. out: [items]. */
+int32_t beetle_unpack(
+    uint8_t order,
+    const uint8_t *image, size_t image_length,
+    uint32_t base,
+    uint8_t *kinds, size_t kinds_length,
+    uint32_t *operands, size_t operands_length,
     uint32_t *out, size_t out_length);
 
 /* Makes the short file, 12 + n + 4m bytes, of a listing file. Kinds and operands are judged, the base

@@ -103,6 +103,18 @@ extern "C" {
         out: *mut u32,
         out_length: usize,
     ) -> u32;
+    pub fn beetle_unpack(
+        order: u8,
+        image: *const u8,
+        image_length: usize,
+        base: u32,
+        kinds: *mut u8,
+        kinds_length: usize,
+        operands: *mut u32,
+        operands_length: usize,
+        out: *mut u32,
+        out_length: usize,
+    ) -> u32;
     pub fn beetle_shorten(
         file: *const u8,
         file_length: usize,

@@ -157,6 +157,26 @@ pub fn pack_short(order: u8, file: &[u8], output: &mut [u8], out: &mut [u32]) ->
     unsafe { c::beetle_pack_short(order, f, f_length, w, w_length, o, o_length) }
 }
 
+pub fn unpack(
+    order: u8,
+    image: &[u8],
+    base: u32,
+    kinds: &mut [u8],
+    operands: &mut [u32],
+    out: &mut [u32],
+) -> u32 {
+    let (i, i_length) = (image.as_ptr(), image.len());
+    let (k, k_length) = (kinds.as_mut_ptr(), kinds.len());
+    let (v, v_length) = (operands.as_mut_ptr(), operands.len());
+    let (o, o_length) = (out.as_mut_ptr(), out.len());
+    // SAFETY: as above.
+    unsafe {
+        c::beetle_unpack(
+            order, i, i_length, base, k, k_length, v, v_length, o, o_length,
+        )
+    }
+}
+
 pub fn shorten(file: &[u8], output: &mut [u8], out: &mut [u32]) -> u32 {
     let (f, f_length) = (file.as_ptr(), file.len());
     let (w, w_length) = (output.as_mut_ptr(), output.len());
