@@ -12,6 +12,7 @@ mod library;
 mod limits;
 mod listing;
 mod memory;
+mod module;
 mod names;
 mod number;
 mod reading;

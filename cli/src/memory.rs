@@ -8,8 +8,12 @@ use crate::failure::Failure;
 /// The bytes that a machine gets where nothing else is asked for.
 const USUAL: u64 = 65_536;
 
+/// The bytes of the shortest and of the longest memory.
+pub const SHORTEST: usize = 1024;
+const LONGEST: usize = 16_777_216;
+
 /// One cell above the longest memory: enough for the library to refuse it.
-const MOST: u64 = 16_777_216 + 4;
+const MOST: u64 = LONGEST as u64 + 4;
 
 /// Memory of zeros, as long as `--memory` says. The library judges its length.
 pub fn lent(arguments: &Arguments) -> Result<Vec<u8>, Failure> {
