@@ -82,6 +82,12 @@ impl Arguments {
         self.option(name).ok_or_else(missing)
     }
 
+    /// The address that an option has to give.
+    pub fn needed_address(&self, name: &str) -> Result<u32, Failure> {
+        let missing = || usage(format!("{name} ADDRESS is missing"));
+        self.cell(name)?.ok_or_else(missing)
+    }
+
     pub fn switch(&self, name: &str) -> bool {
         self.switches.iter().any(|given| given == name)
     }

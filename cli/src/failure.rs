@@ -94,6 +94,7 @@ pub fn meaning(refusal: i32) -> &'static str {
              empty, outside memory or overlapping"
         }
         BAD_TABLE => "the table is unaligned, ends before it begins, lies below 10h or past memory",
+        -4116 => "no listing packs to this image at this base and in this byte order",
         BAD_SHORT_FILE => {
             "the short file has under 12 bytes, an m that is not the number of its literals and \
              branches, or a length that is not 12 + n + 4m"

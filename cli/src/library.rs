@@ -95,11 +95,14 @@ pub struct Listing {
 const STOPPED: u32 = 1;
 const OUTSIDE: u32 = 2;
 
-/// No listing packs to more bytes: 4,096 items, each in a cell with an operand cell.
-const MOST_IMAGE_BYTES: usize = 4 * 2 * 4096;
+/// No listing has more items.
+const MOST_ITEMS: usize = 4096;
 
-/// No file of a listing has more bytes, short or not: 4,096 items, each with an operand.
-const MOST_FILE_BYTES: usize = 12 + 5 * 4096;
+/// No listing packs to more bytes: each item in a cell with an operand cell.
+const MOST_IMAGE_BYTES: usize = 4 * 2 * MOST_ITEMS;
+
+/// No file of a listing has more bytes, short or not: each item with an operand.
+const MOST_FILE_BYTES: usize = 12 + 5 * MOST_ITEMS;
 
 /// A refusal is a number below 0.
 fn accepted(answer: u32) -> Result<u32, Failure> {
@@ -204,6 +207,21 @@ pub fn pack_short(order: u8, file: &[u8]) -> Result<Vec<u8>, Failure> {
         beetle_bindings::pack_short(order, file, image, out)
     });
     image.map_err(|failure| short::explain(failure, file))
+}
+
+/// The listing that packs to these bytes at this base.
+pub fn unpack(order: u8, image: &[u8], base: u32) -> Result<Listing, Failure> {
+    let (mut kinds, mut operands) = (vec![0; MOST_ITEMS], vec![0; MOST_ITEMS]);
+    let mut out = [0];
+    let answer = beetle_bindings::unpack(order, image, base, &mut kinds, &mut operands, &mut out);
+    accepted(answer)?;
+    kinds.truncate(out[0] as usize);
+    operands.truncate(out[0] as usize);
+    Ok(Listing {
+        base,
+        kinds,
+        operands,
+    })
 }
 
 /// The short file of a listing file.

@@ -56,7 +56,7 @@ impl File {
     }
 }
 
-/// A listing file that the packer accepted, with the image that it packs to.
+/// An accepted listing, with the image that it packs to.
 pub struct Packed {
     pub listing: Listing,
     pub order: u8,
@@ -64,6 +64,22 @@ pub struct Packed {
 }
 
 impl Packed {
+    /// The listing that packs to an image at a base.
+    pub fn unpacked(order: u8, image: Vec<u8>, base: u32) -> Result<Self, Failure> {
+        let listing = library::unpack(order, &image, base)?;
+        Ok(Packed {
+            listing,
+            order,
+            image,
+        })
+    }
+
+    /// What was written to a file with this name.
+    pub fn told(&self, target: &str) -> String {
+        let (items, base, cells) = (self.listing.kinds.len(), self.listing.base, self.cells());
+        format!("{target}: {items} items, base {base:X}h, packs to {cells} cells")
+    }
+
     pub fn cells(&self) -> u32 {
         (self.image.len() / 4) as u32
     }

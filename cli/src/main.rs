@@ -37,16 +37,19 @@ beetle COMMAND ..
   lengthen RULE.short -o RULE.lst  and back
   show RULE.lst                    the listing and its packed cells, side by side
   pack RULE.lst                    the packed cells
+  unpack CELLS.bin --base ADDRESS -o RULE.lst
+                                   packed cells back to the listing file
   save RULE.lst -o RULE.mod        the packed cells as an object module
   load MODULE                      the cells of a module, all or the first of them
   run MODULE                       a module, run until it stops
   follow RULE.lst                  the listing, carried out item by item
 
-With --short, show, pack, save and follow read a short file, and assemble writes one.
+With --short, show, pack, save and follow read a short file, and assemble and unpack write
+one.
 
-'beetle COMMAND --help' says more of each. Shortening and lengthening, packing, loading,
-saving, running and following are done by the proved library; reading text and printing
-is not proved.
+'beetle COMMAND --help' says more of each. Shortening and lengthening, packing and unpacking,
+loading, saving, running and following are done by the proved library; reading text and
+printing is not proved.
 
 Exit status: 0 done; 1 refused, mistakes in a text, a file that cannot be read or
 written, a run that HALT did not end, or two machines that differ; 2 wrong command line.

@@ -45,10 +45,6 @@ pub fn carry_out(words: &[String], out: &mut dyn Write) -> Result<u8, Failure> {
     let file = File::of(&listing, arguments.switch("--short"))?;
     let packed = file.packed(0)?;
     files::write(target, &file.bytes)?;
-    let (items, base, cells) = (listing.kinds.len(), listing.base, packed.cells());
-    writeln!(
-        out,
-        "{target}: {items} items, base {base:X}h, packs to {cells} cells"
-    )?;
+    writeln!(out, "{}", packed.told(target))?;
     Ok(0)
 }

@@ -9,6 +9,7 @@ mod run;
 mod save;
 mod shorten;
 mod show;
+mod unpack;
 
 use std::io::Write;
 
@@ -22,7 +23,7 @@ pub struct Command {
 }
 
 /// All commands, in the order in which a rule goes through them.
-pub const COMMANDS: [Command; 9] = [
+pub const COMMANDS: [Command; 10] = [
     Command {
         name: "assemble",
         help: assemble::HELP,
@@ -47,6 +48,11 @@ pub const COMMANDS: [Command; 9] = [
         name: "pack",
         help: pack::HELP,
         carry_out: pack::carry_out,
+    },
+    Command {
+        name: "unpack",
+        help: unpack::HELP,
+        carry_out: unpack::carry_out,
     },
     Command {
         name: "save",

@@ -14,9 +14,10 @@ operands and the bytes of both files. A listing file has an operand for every it
 short file for literals and branches alone, in the order of their items. 'beetle lengthen'
 gives the file back, byte for byte. Kinds and operands are judged, the base is not.
 
-assemble, show, pack, save and follow take --short, for a short file instead of a listing
-file. Nothing in a file says which of the two it is, and some files read as either: with
---short it is read as a short file, without it as a listing file, and never as the other.
+assemble, show, pack, unpack, save and follow take --short, for a short file instead of a
+listing file. Nothing in a file says which of the two it is, and some files read as
+either: with --short it is read as a short file, without it as a listing file, and never
+as the other.
 ";
 
 const TAKES: Takes = Takes {

@@ -131,7 +131,8 @@ fn help_for_each_command() {
     let folder = Folder::new("help");
     let all = folder.done("--help");
     let commands = [
-        "assemble", "shorten", "lengthen", "show", "pack", "save", "load", "run", "follow",
+        "assemble", "shorten", "lengthen", "show", "pack", "unpack", "save", "load", "run",
+        "follow",
     ];
     for command in commands {
         assert!(all.contains(&format!("\n  {command} ")));
