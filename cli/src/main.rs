@@ -36,6 +36,7 @@ beetle COMMAND ..
   shorten RULE.lst -o RULE.short   a listing file to a short one
   lengthen RULE.short -o RULE.lst  and back
   show RULE.lst                    the listing and its packed cells, side by side
+  show MODULE --base ADDRESS       the same of a module: the listing that packs to it
   pack RULE.lst                    the packed cells
   unpack CELLS.bin --base ADDRESS -o RULE.lst
                                    packed cells back to the listing file

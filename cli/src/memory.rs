@@ -10,7 +10,7 @@ const USUAL: u64 = 65_536;
 
 /// The bytes of the shortest and of the longest memory.
 pub const SHORTEST: usize = 1024;
-const LONGEST: usize = 16_777_216;
+pub const LONGEST: usize = 16_777_216;
 
 /// One cell above the longest memory: enough for the library to refuse it.
 const MOST: u64 = LONGEST as u64 + 4;

@@ -5,15 +5,16 @@ use std::io::{self, Write};
 use crate::arguments::{Arguments, Takes};
 use crate::failure::Failure;
 use crate::listing::{File, Packed};
-use crate::memory;
 use crate::names::{kind_of, name_of, Kind};
 use crate::number::shown;
 use crate::reading::{self, address, Form, Place};
+use crate::{files, memory, module};
 
 pub const HELP: &str = "\
 beetle show RULE.lst [--short] [--order 0|1]
+beetle show MODULE --base ADDRESS [--order 0|1]
 
-Prints a listing file as text, an item a line, beside the cells that it packs to:
+Prints a listing as text, an item a line, beside the cells that it packs to:
   item         its number
   entry        * where a branch, a call, a return or a throw may lead
   cell         the address of the cell that holds its opcode
@@ -25,30 +26,48 @@ Prints a listing file as text, an item a line, beside the cells that it packs to
   operand      a literal's value, or the item that a branch leads to and its address
   operand cell the address and the cell, for the form cell
 
-The packed cells come from the proved packer. The other columns are read back from
-those cells against the listing and are not proved; where something does not read back,
-that is an error.
+The listing is that of a listing file, or with --base that of an object module: the one
+that packs to the module's cells, found by the proved library, or a refusal where there is
+none. The packed cells come from the proved packer or loader. The other columns are read
+back from those cells against the listing and are not proved; where something does not
+read back, that is an error.
 
-  --short      RULE.lst is a short file; 'beetle shorten --help' tells of those
-  --order 0|1  byte order of the image. The cells are the same numbers in either
+  --short         RULE.lst is a short file; 'beetle shorten --help' tells of those
+  --base ADDRESS  the file is a module of either byte order, and its listing was packed
+                  for this base: a module does not say for which, 'beetle save' does. At
+                  another one it may be refused, or have another listing
+  --order 0|1     byte order of the image. The cells are the same numbers in either
 ";
 
 const TAKES: Takes = Takes {
-    files: &["RULE.lst"],
-    options: &["--order"],
+    files: &["RULE.lst or MODULE"],
+    options: &["--base", "--order"],
     switches: &["--short"],
 };
 
 pub fn carry_out(words: &[String], out: &mut dyn Write) -> Result<u8, Failure> {
     let arguments = Arguments::read(words, &TAKES)?;
     let name = arguments.file(0);
-    let order = arguments.order()?;
-    let packed = File::given(&arguments)?.packed(order)?;
+    let packed = given(&arguments)?;
     let places = reading::places(&packed).map_err(Failure::Other)?;
     let (items, base, cells) = (places.len(), packed.listing.base, packed.cells());
     writeln!(out, "{name}: {items} items, base {base:X}h, {cells} cells")?;
     table(out, &packed, &places)?;
     Ok(0)
+}
+
+/// The listing of a file, or with `--base` that of a module: the bytes do not decide.
+fn given(arguments: &Arguments) -> Result<Packed, Failure> {
+    let order = arguments.order()?;
+    let Some(base) = arguments.cell("--base")? else {
+        return File::given(arguments)?.packed(order);
+    };
+    if arguments.switch("--short") {
+        let text = "--base is for a module, --short for a short file: not both";
+        return Err(Failure::Usage(text.to_string()));
+    }
+    let file = files::read(arguments.file(0))?;
+    Packed::unpacked(order, module::image(order, &file)?, base)
 }
 
 fn table(out: &mut dyn Write, packed: &Packed, places: &[Place]) -> io::Result<()> {

@@ -19,6 +19,8 @@ listing packs to is refused.
                   At another one it may be refused, or be the image of another listing
   --short         RULE.lst becomes a short file; 'beetle shorten --help' tells of those
   --order 0|1     byte order: 0 (as without it) least significant byte first, 1 most
+
+'beetle show MODULE --base ADDRESS' prints the listing of a module.
 ";
 
 const TAKES: Takes = Takes {
