@@ -1,5 +1,5 @@
 //! Listings of many shapes: whatever the packer accepts can be shown, followed beside the processor,
-//! and shortened.
+//! shortened, and read back from its cells.
 
 use crate::folder::Folder;
 
@@ -73,5 +73,26 @@ fn accepted_listings_are_shortened() {
         assert_eq!(folder.read("back.lst"), file);
         let packed = folder.done("pack rule.short --short");
         assert_eq!(packed, folder.done("pack rule.lst"));
+    }
+}
+
+#[test]
+fn accepted_listings_are_read_back() {
+    let folder = Folder::new("unpacked_listings");
+    let mut numbers = Numbers(3);
+    for items in [1, 2, 3, 5, 8, 13, 30, 100, 400, 1500, 4096] {
+        for order in ["0", "1"] {
+            let file = file(&mut numbers, items);
+            folder.write("rule.lst", &file);
+            let shown = folder.done("show rule.lst");
+            folder.done(&format!("pack rule.lst -o cells.bin --order {order}"));
+            folder.done(&format!(
+                "unpack cells.bin --base 400h -o back.lst --order {order}"
+            ));
+            assert_eq!(folder.read("back.lst"), file);
+            folder.done(&format!("save rule.lst -o rule.mod --order {order}"));
+            let of_module = folder.done("show rule.mod --base 400h");
+            assert_eq!(of_module.replace("rule.mod", "rule.lst"), shown);
+        }
     }
 }

@@ -9,4 +9,6 @@ mod refused;
 mod short;
 mod short_refused;
 mod tables;
+mod unpack;
+mod unpack_refused;
 mod worked;
