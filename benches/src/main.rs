@@ -19,7 +19,7 @@ use std::process::ExitCode;
 use sides::Side;
 
 /// `count SIDE loop AT CYCLES` runs a loop, `count SIDE module AT TIMES` loads or saves, `count proved
-/// file AT TIMES` takes a listing's file, and does nothing else, for callgrind to count.
+/// listing AT TIMES` takes a listing in one of its forms, and does nothing else, for callgrind to count.
 fn count(words: &[String]) -> Option<()> {
     let [_, side, what, at, amount] = words else {
         return None;
@@ -33,7 +33,7 @@ fn count(words: &[String]) -> Option<()> {
             drop(case.run(case.run_of(side)?, amount));
         }
         "module" => modules::repeat(&side.calls()?, at, amount)?,
-        "file" if side == Side::Proved => files::repeat(at, amount)?,
+        "listing" if side == Side::Proved => files::repeat(at, amount)?,
         _ => return None,
     }
     Some(())
