@@ -41,16 +41,16 @@ module _ (order base : ℕ) (kinds operands s : List ℕ) (equal : length operan
   abbrev l : Listing
   l = listed kinds operands
 
-  -- a packing of that listing into as many bytes is not refused
-  pub pack-passes : Packs order base l s → judgePack order kinds operands base (length s) ≡ judged.Passed
+  -- a packing of that listing into as many bytes or more is not refused
+  pub pack-passes : Packs order base l s → (room : ℕ) → length s ≤ room → judgePack order kinds operands base room ≡ judged.Passed
   unfolding judgePack judgedArrays judgeRoom judgePlace
-  pack-passes p =
+  pack-passes p room h =
       let n = packs-size order base l s p in
       let o = both-pass (judgeOrder order) (judge (unaligned base ∷ bytesOutOfPlace base (length s) ∷ [])) place in
       let q : judgedPlace base (imageCells l) ≡ judged.Passed =
       ap (λ (k : ℕ). judge (unaligned base ∷ bytesOutOfPlace base k ∷ [])) (sym n) ∙ o .1
       in
-      rw (o .0, eq-eqb (length kinds) (length operands) (sym equal), p .input, q, le-ltb (length s) (4 * imageCells l) (omega arith))
+      rw (o .0, eq-eqb (length kinds) (length operands) (sym equal), p .input, q, le-ltb room (4 * imageCells l) (omega arith))
 
   packs-then : (b : Bool) → packsTo order base l s ≡ b → (Packs order base l s → false ≡ b) → false ≡ b
   packs-then true e f = f (packs-is order base l s e)
@@ -59,7 +59,7 @@ module _ (order base : ℕ) (kinds operands s : List ℕ) (equal : length operan
   module _ (out : List ℕ) (room : length out ≡ length s) where
     passing : Packs order base l s → packOf order kinds operands base out ≡ packIf judged.Passed order base l out
     unfolding packOf
-    passing p = ap (λ (j : Judged). packIf j order base l out) (ap (judgePack order kinds operands base) room ∙ pack-passes p)
+    passing p = ap (λ (j : Judged). packIf j order base l out) (pack-passes p (length out) (omega arith))
 
     pub packed-refused : (next : List ℕ) (r : Refusal) → packedTo next (packed.Refused r) ≡ packOf order kinds operands base out
         → false ≡ packsTo order base l s

@@ -1,5 +1,5 @@
 -- Laws that belong to no one function.
 mod Copying
-mod Comparing
-mod Recovering
+pub mod Comparing
+pub mod Recovering
 mod Answering

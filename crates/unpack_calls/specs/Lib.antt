@@ -1,0 +1,2 @@
+-- What crate `unpack_calls` means.
+pub mod Images

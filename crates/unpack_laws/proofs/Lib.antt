@@ -1,0 +1,4 @@
+-- The theorems of crate `unpack_laws`, and the rows computed.
+mod Cells
+pub mod Theorems
+pub mod Rows
