@@ -10,8 +10,10 @@ use Rattle.cell.specs.declared.Judged.the-variants.{Passed, Refused}
 use Rattle.packer.specs.declared.Packed.the-variants as packed
 use Rattle.packer.specs.Pack.{PackResult, packedTo, packOf}
 use Rattle.unpacker.specs.declared.Unpacked.the-variants as unpacked
-use Rattle.unpacker.specs.Judgement.{judgePlace, judgeRead}
-use Rattle.unpacker.specs.Unpack.{UnpackResult, unpackedTo, over, unpackOf}
+use Rattle.unpack_parts.specs.Judgement.{judgePlace}
+use Rattle.unpack_parts.specs.Writing.{over}
+use Rattle.unpacker.specs.Judgement.{judgeRead}
+use Rattle.unpacker.specs.Unpack.{UnpackResult, unpackedTo, unpackOf}
 
 -- operands as they are lent: cells
 abbrev pub Words : List ℕ → Type 0

@@ -4,8 +4,8 @@ use mathlib.Core.Path.{_≡_, refl, sym, ap, _∙_}
 use mathlib.Core.Bool.{Bool, true, false, _||_}
 use mathlib.Core.Logic.{inl, inr}
 use mathlib.Core.List.{List, [], _∷_}
-use Prim.Native.Nat.{ℕ, _+_, _*_, _/_, _≤_, _<_}
-use native.Mathlib.Nat.{zero-add}
+use Prim.Native.Nat.{ℕ, _+_, _*_, _/_, _%_, _^_, _≤_, _<_}
+use native.Mathlib.Nat.{zero-add, add-mod-mod, mod-add-mod}
 use native.Mathlib.Omega.{arith}
 use borrow.Author.Tests.{eq-eqb}
 use lib.Dec.{eqb}
@@ -37,3 +37,9 @@ cell-inside order s j h =
 
 pub cell-behind : (order : ℕ) (s : List ℕ) (j : ℕ) → length s < 4 * j + 4 → getD (cellsOf order s) j 0 ≡ 0
 cell-behind order s j h = List·getD-eq-default (cellsOf order s) 0 (omega (arith, cells-size order s))
+
+-- an address so many cells on, modulo 2^32
+pub cells-on : (base next v m e n : ℕ) → m ≡ 4 * next % 2 ^ 32 → e ≡ (base + m) % 2 ^ 32 → n ≡ 4 * v % 2 ^ 32
+    → (e + n) % 2 ^ 32 ≡ (base + 4 * next + 4 * v) % 2 ^ 32
+cells-on base next v m e n p q r =
+    rw (r, q, p, add-mod-mod base (4 * next) (2 ^ 32), add-mod-mod ((base + 4 * next) % 2 ^ 32) (4 * v) (2 ^ 32)) (mod-add-mod (base + 4 * next) (2 ^ 32) (4 * v))

@@ -3,6 +3,7 @@ ghost use mathlib.Core.Path.{_≡_};
 ghost use Prim.Native.Nat.{_+_, _≤_, _<_};
 ghost use lib.ListN.{getD};
 ghost use Rattle.cell.specs.Memory.{cellCount};
+ghost use Rattle.cell.specs.Place.{address};
 ghost use Rattle.pack_layout.specs.Layout.{extra};
 ghost use Rattle.pack_layout.specs.Kinds.{classOf};
 ghost use Rattle.pack_layout.specs.Reading.{cellsOf, done, atCell, behindItem, valueRead, leadsTo, heldOf, formRead, kindRead, opcodeRead};
@@ -13,6 +14,8 @@ use crate::opcode::kind_read;
 use cell::Address;
 use cell::CellCount;
 use cell::memory::load_at;
+use cell::number::add;
+use cell::number::multiply;
 use cell::number::shift_byte;
 use pack_judging::kinds::class_of;
 use pack_layout::Class;
@@ -100,15 +103,16 @@ fn value_read(order: u8, image: &[u8], g: ItemForm, r: Reader) -> u32
 }
 
 // The address that a branch leads to: next the index of its EP value, v its value.
-fn leads_to(base: Address, g: ItemForm, next: CellCount, v: u32) -> u32
-    ensures { λ a. ⌜ a ≡ leadsTo (base .0) g (next .0) v ⌝ }
+fn leads_to(base: Address, g: ItemForm, next: CellCount, v: u32) -> Address
+    ensures { λ a. ⌜ a ≡ address (leadsTo (base .0) g (next .0) v) ⌝ }
 {
     match g {
-        ItemForm::Alone => 0,
+        ItemForm::Alone => Address(0),
         ItemForm::Immediate => {
-            ((base.0 as u64 + 4 * (next.0 as u64) + 4 * (v as u64)) % 0x1_0000_0000) as u32
+            let ep = add(base.0, multiply(4, next.0));
+            Address(add(ep, multiply(4, v)))
         }
-        ItemForm::InCell => v,
+        ItemForm::InCell => Address(v),
     }
 }
 
@@ -128,7 +132,8 @@ fn held_of(order: u8, image: &[u8], base: Address, c: Class, g: ItemForm, r: Rea
         Class::Literal => value_read(order, image, g, r),
         Class::Branch => {
             let next = r.next;
-            leads_to(base, g, next, value_read(order, image, g, r))
+            let a = leads_to(base, g, next, value_read(order, image, g, r));
+            a.0
         }
         Class::NoKind => 0,
     }

@@ -8,20 +8,21 @@ use crate::NO_ITEM;
 use cell::Address;
 use cell::number::subtract;
 use pack_judging::entries::is_branch;
+use pack_layout::ItemNumber;
 
-// The item that begins the cell at address a.
-fn item_at(firsts: &[u16], base: Address, a: u32) -> u32
-    ensures { λ x. ⌜ x ≡ itemIn (base .0) (now (firsts .entry)) a ⌝ }
+// The item that begins the cell at an address.
+fn item_at(firsts: &[u16], base: Address, a: Address) -> ItemNumber
+    ensures { λ x. ⌜ x .0 ≡ itemIn (base .0) (now (firsts .entry)) (a .0) ⌝ }
 {
-    let d = subtract(a, base.0);
+    let d = subtract(a.0, base.0);
     if d % 4 != 0 {
-        return NO_ITEM as u32;
+        return ItemNumber(NO_ITEM as u32);
     }
     let c = (d / 4) as usize;
     if firsts.len() <= c {
-        return NO_ITEM as u32;
+        return ItemNumber(NO_ITEM as u32);
     }
-    firsts[c] as u32
+    ItemNumber(firsts[c] as u32)
 }
 
 // Puts the item's number where a branch holds an address.
@@ -35,7 +36,8 @@ pub fn find_targets(kinds: &[u8], operands: &mut [u32], firsts: &[u16], base: Ad
     while i < n {
         let next = i + 1;
         if is_branch(kinds[i]) {
-            operands[i] = item_at(firsts, base, operands[i]);
+            let t = item_at(firsts, base, Address(operands[i]));
+            operands[i] = t.0;
         }
         i = next;
     }

@@ -18,16 +18,11 @@ use Rattle.cell.proofs.JudgementLaws.{one-clear}
 use Rattle.pack_layout.specs.Reading.{cellsOf, itemsRead, kindsRead, operandsRead}
 use Rattle.unpacker.specs.declared.Unpacked.{Unpacked}
 use Rattle.unpacker.specs.declared.Unpacked.the-variants as unpacked
-use Rattle.unpacker.specs.Judgement.{judgeRead, judgeArrays, judgeUnpack}
+use Rattle.unpack_parts.specs.Judgement.{judgeArrays}
+use Rattle.unpack_parts.specs.Writing.{overIf}
+use Rattle.unpacker.specs.Judgement.{judgeRead, judgeUnpack}
 use Rattle.unpacker.specs.Unpack.{UnpackResult, unpackedTo, unpackIf, unpackOf, readIf, Recovered}
 use Rattle.unpacker.proofs.Recovering.{part, passed-items, kinds-length}
-
--- arrays that are not refused have room
-pub arrays-room : (n k x : ℕ) → judgeArrays n k x ≡ judged.Passed → (n ≤ k) × (n ≤ x)
-unfolding judgeArrays
-arrays-room n k x e =
-    let p = neither (ltb k n) (ltb x n) (one-clear (ltb k n || ltb x n) refusal.ShortOutput judged.Passed e .0) in
-    (ltb-false k n (p .0), ltb-false x n (p .1))
 
 -- what the answer of a reading says of its judgement
 pub read-refused : (j : Judged) (n : ℕ) (a : Unpacked) (r : Refusal) → a ≡ readIf j n → a ≡ unpacked.Refused r → j ≡ judged.Refused r
@@ -37,6 +32,12 @@ read-refused (judged.Refused s) n a r e q = let z : _≡_ {A = Unpacked} (unpack
 pub read-passed : (j : Judged) (n : ℕ) (a : Unpacked) (m : ℕ) → a ≡ readIf j n → a ≡ unpacked.Items m → (j ≡ judged.Passed) × (m ≡ n)
 read-passed judged.Passed n a m e q = (refl, (let z : _≡_ {A = Unpacked} (unpacked.Items m) (unpacked.Items n) = sym q ∙ e in cc))
 read-passed (judged.Refused s) n a m e q = absurd (let z : _≡_ {A = ℕ} 0 1 = cc in omega arith)
+
+-- a listing of m items, written or not
+written-so : (j : Judged) (ks xs kinds operands : List ℕ) (m : ℕ) → m ≡ length ks
+    → unpackedTo (overIf j ks kinds) (overIf j xs operands) (readIf j m) ≡ unpackIf j ks xs kinds operands
+written-so judged.Passed ks xs kinds operands m e = rw e
+written-so (judged.Refused r) ks xs kinds operands m e = refl
 
 module _ (order base : ℕ) (s : List ℕ) where
   abbrev img : List ℕ
@@ -70,12 +71,22 @@ module _ (order base : ℕ) (s : List ℕ) where
       operands-part : take (m - 0) xs ≡ operandsRead img base
       operands-part = ap (λ (k : ℕ). take k xs) (part m ∙ count) ∙ got .operands-front pass
 
-      pub unpack-written : (p : UnpackResult)
+      unpack-as : (p : UnpackResult)
           → p ≡ unpackIf (judgeArrays (length (take (m - 0) ks)) (length kinds) (length operands)) (take (m - 0) ks) (take (m - 0) xs) kinds operands
           → p ≡ unpackOf order s base kinds operands
       unfolding unpackOf
-      unpack-written p e =
+      unpack-as p e =
           e
           ∙ ap₂ (λ (k x : List ℕ). unpackIf (judgeArrays (length k) (length kinds) (length operands)) k x kinds operands) kinds-part operands-part
           ∙ ap (λ (j : Judged). unpackIf j (kindsRead img) (operandsRead img base) kinds operands)
           (judged-passed (length (kindsRead img)) (length kinds) (length operands) pass (kinds-length img))
+
+      -- both arrays as they were written, and the answer
+      pub unpack-written : m ≤ length ks → (j : Judged) (k x : List ℕ) (a : Unpacked)
+          → j ≡ judgeArrays (length (take (m - 0) ks)) (length kinds) (length operands)
+          → k ≡ overIf j (take (m - 0) ks) kinds → x ≡ overIf j (take (m - 0) xs) operands → a ≡ readIf j m
+          → unpackedTo k x a ≡ unpackOf order s base kinds operands
+      unpack-written h j k x a ej ek ex ea =
+          unpack-as (unpackedTo k x a)
+          (rw (ek, ex, ea) (written-so j (take (m - 0) ks) (take (m - 0) xs) kinds operands m (sym (rw (part m) (length-take-le m ks h))))
+          ∙ ap (λ (i : Judged). unpackIf i (take (m - 0) ks) (take (m - 0) xs) kinds operands) ej)

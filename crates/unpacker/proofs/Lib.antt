@@ -1,5 +1,3 @@
 -- Laws that belong to no one function.
-mod Copying
-pub mod Comparing
 pub mod Recovering
 mod Answering

@@ -29,12 +29,13 @@ use Rattle.pack_layout.proofs.Reading.{each-length, each-is}
 use Rattle.pack_layout.proofs.Unpacking.{Packs, packs-is}
 use Rattle.pack_prepare.proofs.Checking.{cells-most}
 use Rattle.pack_refusals.specs.Judgement.{judgeOrder}
+use Rattle.unpack_parts.specs.Judgement.{bytesOutOfPlace, judgePlace}
+use Rattle.unpack_parts.proofs.Comparing.{packs-size}
 use Rattle.unpack_reading.specs.Readers.{itemIn, operandIn, Filled}
 use Rattle.unpack_reading.proofs.Finding.{item-is}
 use Rattle.unpacker.specs.declared.Unpacked.the-variants as unpacked
-use Rattle.unpacker.specs.Judgement.{bytesOutOfPlace, judgePlace, judgeRead}
+use Rattle.unpacker.specs.Judgement.{judgeRead}
 use Rattle.unpacker.specs.Unpack.{readIf, Recovered}
-use Rattle.unpacker.proofs.Comparing.{packs-size}
 
 -- every item read begins inside the image
 items-inside : (img : List ℕ) (k i j : ℕ) → i ≤ j → j < itemsFrom img k i → reader img j .at < length img

@@ -1,13 +1,14 @@
 -- What an unpacking leaves and answers. Document 02, (h): a success writes the kinds and the operands of the listing, and nothing else; a
 -- refusal has a number, a count of 0 and leaves both arrays.
 use mathlib.Core.Path.{_≡_}
-use mathlib.Core.List.{List, _++_}
+use mathlib.Core.List.{List}
 use Prim.Native.Nat.{ℕ}
-use lib.ListN.{length, take, drop}
+use lib.ListN.{length, take}
 use Rattle.cell.specs.Refusals.{refusalNumber}
 use Rattle.cell.specs.declared.Judged.{Judged}
 use Rattle.cell.specs.declared.Judged.the-variants as judged
 use Rattle.pack_layout.specs.Reading.{cellsOf, itemsRead, kindsRead, operandsRead}
+use Rattle.unpack_parts.specs.Writing.{over}
 use Rattle.unpacker.specs.declared.Unpacked.{Unpacked}
 use Rattle.unpacker.specs.declared.Unpacked.the-variants as unpacked
 use Rattle.unpacker.specs.Judgement.{judgeRead, judgeUnpack}
@@ -31,10 +32,6 @@ pub record UnpackResult : Type 0 where
 
 abbrev pub unpackedTo : List ℕ → List ℕ → Unpacked → UnpackResult
 unpackedTo kinds operands a = record { kinds = kinds; operands = operands; answer = a; number = unpackNumber a; count = unpackCount a }
-
--- a list written over the first places of another
-abbrev pub over : List ℕ → List ℕ → List ℕ
-over xs l = xs ++ drop (length xs) l
 
 -- refused, or a listing's kinds and operands in the first places
 abbrev pub unpackIf : Judged → List ℕ → List ℕ → List ℕ → List ℕ → UnpackResult

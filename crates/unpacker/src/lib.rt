@@ -1,8 +1,5 @@
 // The unpacker: an image becomes the listing that packs to it.
 pub mod answers;
-pub mod arrays;
-pub mod compare;
-pub mod judgement;
 pub mod recover;
 pub mod unpack;
 

@@ -8,17 +8,18 @@ ghost use Rattle.pack_layout.specs.Listing.{listed};
 ghost use Rattle.pack_layout.specs.Reading.{cellsOf, itemsRead};
 ghost use Rattle.pack_layout.specs.Unpacking.{packsTo};
 ghost use Rattle.unpack_reading.specs.Readers.{operandIn};
+ghost use Rattle.unpack_parts.specs.Judgement as place;
 ghost use Rattle.unpacker.specs.Judgement as judgement;
 ghost use Rattle.unpacker.specs.Unpack as answers;
 use crate::MOST_BYTES;
 use crate::MOST_CELLS;
 use crate::Unpacked;
-use crate::compare::packs_to;
-use crate::judgement::judge_place;
 use cell::Address;
 use cell::Judged;
 use cell::Refusal;
 use pack_layout::MOST_ITEMS;
+use unpack_parts::compare::packs_to;
+use unpack_parts::judgement::judge_place;
 use unpack_reading::NO_ITEM;
 use unpack_reading::items::read_items;
 use unpack_reading::targets::find_targets;
@@ -34,7 +35,7 @@ fn packs_again(
     copy: &mut [u8],
 ) -> bool
     requires { ⌜ (length (now operands) ≡ length (now kinds)) × (length (now copy) ≡ length (now image)) ⌝ }
-    requires { ⌜ judgement.judgePlace order (base .0) (length (now image)) ≡ Passed ⌝ }
+    requires { ⌜ place.judgePlace order (base .0) (length (now image)) ≡ Passed ⌝ }
     ensures { λ r. ⌜ r ≡ packsTo order (base .0) (listed (now (kinds .entry)) (now (operands .exit))) (now (image .entry)) ⌝ }
     ensures { λ r. ⌜ ((j : ℕ) → j < length (now (operands .entry)) → getD (now (operands .exit)) j 0 ≡ operandIn (classOf (getD (now (kinds .entry)) j 0)) (base .0) (now (firsts .entry)) (getD (now (operands .entry)) j 0)) ⌝ }
 {
@@ -54,7 +55,7 @@ fn recover_in(
 ) -> Unpacked
     requires { ⌜ (length (now kinds) ≡ 4096) × (length (now operands) ≡ 4096) × (length (now firsts) ≡ length (now image) / 4) × (length (now copy) ≡ length (now image)) ⌝ }
     requires { ⌜ ((c : ℕ) → c < length (now firsts) → getD (now firsts) c 0 ≡ 4096) ⌝ }
-    requires { ⌜ judgement.judgePlace order (base .0) (length (now image)) ≡ Passed ⌝ }
+    requires { ⌜ place.judgePlace order (base .0) (length (now image)) ≡ Passed ⌝ }
     ensures { λ r. ⌜ r ≡ answers.readIf (judgement.judgeRead order (base .0) (now (image .entry))) (itemsRead (cellsOf order (now (image .entry)))) ⌝ }
     ensures { λ r. ⌜ answers.Recovered order (base .0) (now (image .entry)) (now (kinds .exit)) (now (operands .exit)) ⌝ }
 {

@@ -4,12 +4,12 @@ ghost use lib.ListN.{length};
 ghost use Rattle.unpacker.specs.Judgement as judgement;
 ghost use Rattle.unpacker.specs.Unpack as answers;
 use crate::Unpacked;
-use crate::arrays::write_listing;
-use crate::judgement::judge_arrays;
 use crate::recover::recover;
 use cell::Address;
 use cell::Judged;
 use pack_layout::MOST_ITEMS;
+use unpack_parts::arrays::write_listing;
+use unpack_parts::judgement::judge_arrays;
 
 // An unpacking into arrays of some lengths.
 pub fn judge_unpack(order: u8, image: &[u8], base: Address, kinds: usize, operands: usize) -> Judged
@@ -40,7 +40,10 @@ fn unpack_in(
         Unpacked::Refused(r) => Unpacked::Refused(r),
         Unpacked::Items(n) => {
             let m = n as usize;
-            write_listing(&ks[0..m], &xs[0..m], kinds, operands)
+            match write_listing(&ks[0..m], &xs[0..m], kinds, operands) {
+                Judged::Refused(r) => Unpacked::Refused(r),
+                Judged::Passed => Unpacked::Items(n),
+            }
         }
     }
 }

@@ -2,6 +2,7 @@
 -- Assumes nothing.
 use mathlib.Core.Path.{_∙_, ap}
 use borrow.Author.Needs.{needs}
+use Rattle.cell.specs.declared.Address.{Address}
 use Rattle.pack_layout.specs.Reading.{leadsTo}
 use Rattle.unpack_reading.proofs.item.held_of.Statement.{statement}
 use Rattle.unpack_reading.proofs.item.held_of.Tie as tie
@@ -34,7 +35,7 @@ returns-2 : tie.Need-returns-2
 returns-2 c = rw (c .before .enum-told2 .given .1) (c .value-read .ensures)
 
 returns-3 : tie.Need-returns-3
-returns-3 c = rw (c .before .before .before .enum-told3 .given .1) (c .leads-to .ensures ∙ ap (leadsTo (c .before .before .before .before .before .before .args .base .0) (c .before .before .before .before .before .before .args .g) (c .before .before .before .before .before .before .args .r .next .0)) (c .before .value-read2 .ensures))
+returns-3 c = rw (c .before .before .before .enum-told3 .given .1) (ap (λ (a : Address). a .0) (c .leads-to .ensures) ∙ ap (leadsTo (c .before .before .before .before .before .before .args .base .0) (c .before .before .before .before .before .before .args .g) (c .before .before .before .before .before .before .args .r .next .0)) (c .before .value-read2 .ensures))
 
 returns-4 : tie.Need-returns-4
 returns-4 c = rw (c .enum-told4 .given .1)

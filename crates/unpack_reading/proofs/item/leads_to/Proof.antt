@@ -1,6 +1,10 @@
 -- `unpack_reading::item::leads_to` meets its contract.
 -- Assumes nothing.
+use mathlib.Core.Path.{ap, _∙_}
 use borrow.Author.Needs.{needs}
+use Rattle.cell.specs.Number.{sum, product}
+use Rattle.cell.specs.Place.{address}
+use Rattle.unpack_reading.proofs.Cells.{cells-on}
 use Rattle.unpack_reading.proofs.item.leads_to.Statement.{statement}
 use Rattle.unpack_reading.proofs.item.leads_to.Tie as tie
 
@@ -10,38 +14,30 @@ enum-told c = search needs
 enum-told-2 : tie.Need-enum-told-2
 enum-told-2 c = search needs
 
-cast-result : tie.Need-cast-result
-cast-result c = search needs
+multiply-requires : tie.Need-multiply-requires
+multiply-requires c κs = search needs
 
-cast-result-2 : tie.Need-cast-result-2
-cast-result-2 c = search needs
+add-requires : tie.Need-add-requires
+add-requires c κs = search needs
 
-mul-result : tie.Need-mul-result
-mul-result c = search needs
+multiply-requires-2 : tie.Need-multiply-requires-2
+multiply-requires-2 c κs = search needs
 
-add-result : tie.Need-add-result
-add-result c = search needs
-
-mul-result-2 : tie.Need-mul-result-2
-mul-result-2 c = search needs
-
-add-result-2 : tie.Need-add-result-2
-add-result-2 c = search needs
-
-cast-result-3 : tie.Need-cast-result-3
-cast-result-3 c = search needs
+add-requires-2 : tie.Need-add-requires-2
+add-requires-2 c κs = search needs
 
 enum-told-3 : tie.Need-enum-told-3
 enum-told-3 c = search needs
 
 returns : tie.Need-returns
-returns c = search needs
+returns c = rw (c .enum-told .given .1)
 
 returns-2 : tie.Need-returns-2
-returns-2 c = rw (c .before .before .enum-told2 .given .1)
+unfolding sum product
+returns-2 c = rw (c .before .before .before .before .enum-told2 .given .1) (ap address (c .add2 .ensures ∙ cells-on (c .before .before .before .before .before .before .args .base .0) (c .before .before .before .before .before .before .args .next .0) (c .before .before .before .before .before .before .args .v) (c .before .before .before .multiply .result) (c .before .before .add .result) (c .before .multiply2 .result) (c .before .before .before .multiply .ensures) (c .before .before .add .ensures) (c .before .multiply2 .ensures)))
 
 returns-3 : tie.Need-returns-3
-returns-3 c = search needs
+returns-3 c = rw (c .enum-told3 .given .1)
 
 pub leads-to-spec : {M : Type 1} → statement M
 leads-to-spec =
@@ -49,13 +45,10 @@ leads-to-spec =
     (tie.spec
     enum-told
     enum-told-2
-    cast-result
-    cast-result-2
-    mul-result
-    add-result
-    mul-result-2
-    add-result-2
-    cast-result-3
+    multiply-requires
+    add-requires
+    multiply-requires-2
+    add-requires-2
     enum-told-3
     returns
     returns-2

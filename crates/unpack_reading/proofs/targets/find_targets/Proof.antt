@@ -27,11 +27,11 @@ shared-slice-read-is-branch c = omega (arith, c .before .before .before .before 
 is-branch-requires : tie.Need-is-branch-requires Inv-loop μ-loop
 is-branch-requires c κs = search needs
 
-mul-item-at : tie.Need-mul-item-at Inv-loop μ-loop
-mul-item-at c = omega arith
+mul-t13 : tie.Need-mul-t13 Inv-loop μ-loop
+mul-t13 c = omega arith
 
-slice-read-item-at : tie.Need-slice-read-item-at Inv-loop μ-loop
-slice-read-item-at c = omega (arith, c .before .before .before .before .loop-test .taken, c .before .before .before .before .before .loop .inv .same-length)
+slice-read-t15 : tie.Need-slice-read-t15 Inv-loop μ-loop
+slice-read-t15 c = omega (arith, c .before .before .before .before .loop-test .taken, c .before .before .before .before .before .loop .inv .same-length)
 
 item-at-requires : tie.Need-item-at-requires Inv-loop μ-loop
 item-at-requires c κs = search needs
@@ -70,8 +70,8 @@ find-targets-spec =
     add-next
     shared-slice-read-is-branch
     is-branch-requires
-    mul-item-at
-    slice-read-item-at
+    mul-t13
+    slice-read-t15
     item-at-requires
     mul-operands
     slice-write-operands
