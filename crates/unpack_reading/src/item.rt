@@ -45,7 +45,7 @@ pub fn at_cell(order: u8, image: &[u8], index: CellCount) -> Reader
     }
 }
 
-// Whether a cell is read to its end, above what stands above the opcode of an item in the form g.
+// Whether a cell is read to its end by an item in the form g, with `above` above its opcode.
 fn is_done(g: ItemForm, above: u32) -> bool
     ensures { λ r. ⌜ r ≡ done g above ⌝ }
 {
