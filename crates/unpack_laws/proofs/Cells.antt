@@ -20,7 +20,7 @@ use Rattle.pack_layout.specs.Kinds.{classOf}
 use Rattle.pack_layout.specs.Layout.{extra}
 use Rattle.pack_layout.specs.Reading.{Reader, done, atCell, behindItem, cellsOf, reader, itemsRead, formReadAt, kindReadAt, valueRead, firstAt, heldOf, operandOf, operandReadAt, operandsRead}
 use Rattle.pack_layout.proofs.Reading.{each-length, each-at}
-use Rattle.unpack_reading.proofs.Cells.{cell-inside, cell-behind}
+use Rattle.unpack_items.proofs.Cells.{cell-inside, cell-behind}
 use Rattle.unpack_laws.specs.Claims.{Words}
 
 asr-below : (x : ℕ) → x < 2 ^ 32 → asr8 x < 2 ^ 32

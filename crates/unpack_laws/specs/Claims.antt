@@ -38,7 +38,7 @@ PacksAgain =
     packOf order (take (r .count) (r .kinds)) (take (r .count) (r .operands)) base out
     ≡ packedTo (s ++ drop (length s) out) (packed.Cells (cellCount (length s / 4)))
 
--- no two listings share an image at one base and byte order
+-- listings that differ have images that differ, where both are packed for one base and in one byte order
 abbrev pub OneListing : Type 0
 OneListing =
     (order base : ℕ) (kinds operands out kinds2 operands2 out2 : List ℕ) → Words operands → Words operands2

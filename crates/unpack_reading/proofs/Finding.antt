@@ -18,7 +18,7 @@ use Rattle.pack_layout.specs.declared.Class.{Class}
 use Rattle.pack_layout.specs.declared.Class.the-variants.{Plain as plain, Literal as literal, Branch as branch, NoKind as noKind}
 use Rattle.pack_layout.specs.Kinds.{classOf, isBranch}
 use Rattle.pack_layout.specs.Reading.{reader, firstAt}
-use Rattle.unpack_reading.specs.Readers.{itemIn, operandIn}
+use Rattle.unpack_reading.specs.Arrays.{itemIn, operandIn}
 
 -- what a list has at one of its places does not depend on the number given for the others
 default : (l : List ℕ) (i a b : ℕ) → i < length l → getD l i a ≡ getD l i b

@@ -1,4 +1,3 @@
 -- Laws that belong to no one function.
-pub mod Cells
 mod Steps
 pub mod Finding

@@ -20,7 +20,7 @@ use Rattle.pack_layout.specs.Layout.{extra}
 use Rattle.pack_layout.specs.Reading.{Reader, done, atCell, behindItem, reader, itemsFrom, itemsRead, firstAt, formRead, kindRead, opcodeRead, formReadAt, kindReadAt, heldOf, heldAt}
 use Rattle.pack_layout.proofs.Placing.{extra-most}
 use Rattle.pack_layout.proofs.Reading.{items-are}
-use Rattle.unpack_reading.specs.Readers.{Filled, firstNoted}
+use Rattle.unpack_reading.specs.Arrays.{Filled, firstNoted}
 
 -- an item takes at most two cells
 behind-most : (img : List ℕ) (g : ItemForm) (r : Reader) → behindItem img g r .next ≤ r .next + 2

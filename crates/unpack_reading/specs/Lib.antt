@@ -1,2 +1,2 @@
 -- What crate `unpack_reading` means beside the definitions of reading: its arrays.
-pub mod Readers
+pub mod Arrays

@@ -3,14 +3,15 @@ ghost use mathlib.Core.Path.{_≡_};
 ghost use Prim.Native.Nat.{ℕ, _/_, _≤_, _<_};
 ghost use lib.ListN.{length, getD};
 ghost use Rattle.pack_layout.specs.Reading.{cellsOf, itemsRead};
-ghost use Rattle.unpack_reading.specs.Readers.{readerOf, firstNoted, Filled};
-use crate::Reader;
-use crate::item::at_cell;
-use crate::item::behind_item;
-use crate::item::read_item;
+ghost use Rattle.unpack_items.specs.Readers.{readerOf};
+ghost use Rattle.unpack_reading.specs.Arrays.{firstNoted, Filled};
 use cell::Address;
 use cell::CellCount;
 use pack_layout::MOST_ITEMS;
+use unpack_items::Reader;
+use unpack_items::item::at_cell;
+use unpack_items::item::behind_item;
+use unpack_items::item::read_item;
 
 // Notes the item that begins a cell.
 fn note_first(firsts: &mut [u16], r: Reader, i: usize)

@@ -3,7 +3,7 @@ ghost use mathlib.Core.Path.{_≡_};
 ghost use Prim.Native.Nat.{ℕ, _<_};
 ghost use lib.ListN.{length, getD};
 ghost use Rattle.pack_layout.specs.Kinds.{classOf};
-ghost use Rattle.unpack_reading.specs.Readers.{itemIn, operandIn};
+ghost use Rattle.unpack_reading.specs.Arrays.{itemIn, operandIn};
 use crate::NO_ITEM;
 use cell::Address;
 use cell::number::subtract;

@@ -31,7 +31,7 @@ use Rattle.pack_prepare.proofs.Checking.{cells-most}
 use Rattle.pack_refusals.specs.Judgement.{judgeOrder}
 use Rattle.unpack_parts.specs.Judgement.{bytesOutOfPlace, judgePlace}
 use Rattle.unpack_parts.proofs.Comparing.{packs-size}
-use Rattle.unpack_reading.specs.Readers.{itemIn, operandIn, Filled}
+use Rattle.unpack_reading.specs.Arrays.{itemIn, operandIn, Filled}
 use Rattle.unpack_reading.proofs.Finding.{item-is}
 use Rattle.unpacker.specs.declared.Unpacked.the-variants as unpacked
 use Rattle.unpacker.specs.Judgement.{judgeRead}

@@ -7,7 +7,7 @@ ghost use Rattle.pack_layout.specs.Kinds.{classOf};
 ghost use Rattle.pack_layout.specs.Listing.{listed};
 ghost use Rattle.pack_layout.specs.Reading.{cellsOf, itemsRead};
 ghost use Rattle.pack_layout.specs.Unpacking.{packsTo};
-ghost use Rattle.unpack_reading.specs.Readers.{operandIn};
+ghost use Rattle.unpack_reading.specs.Arrays.{operandIn};
 ghost use Rattle.unpack_parts.specs.Judgement as place;
 ghost use Rattle.unpacker.specs.Judgement as judgement;
 ghost use Rattle.unpacker.specs.Unpack as answers;

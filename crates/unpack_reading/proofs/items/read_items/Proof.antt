@@ -6,8 +6,8 @@ use native.Mathlib.Numerals.{add-one}
 use native.Mathlib.Omega.{arith}
 use borrow.Author.Needs.{needs}
 use Rattle.pack_layout.specs.Reading.{cellsOf}
-use Rattle.unpack_reading.specs.Readers.{readerOf}
-use Rattle.unpack_reading.proofs.Cells.{cells-size}
+use Rattle.unpack_items.specs.Readers.{readerOf}
+use Rattle.unpack_items.proofs.Cells.{cells-size}
 use Rattle.unpack_reading.proofs.Steps.{Reached, room, read-on, read-none, over, more, too-many}
 use Rattle.unpack_reading.proofs.items.read_items.Statement.{statement}
 use Rattle.unpack_reading.proofs.items.read_items.Tie as tie

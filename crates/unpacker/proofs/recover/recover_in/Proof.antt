@@ -8,7 +8,7 @@ use lib.ListN.{length, take}
 use lib.Seq.{length-take-le}
 use Rattle.pack_layout.specs.Listing.{listed}
 use Rattle.pack_layout.specs.Unpacking.{packsTo}
-use Rattle.unpack_reading.proofs.Cells.{cells-size}
+use Rattle.unpack_items.proofs.Cells.{cells-size}
 use Rattle.unpacker.proofs.Recovering.{part, found-in, too-many, differs, agrees}
 use Rattle.unpacker.proofs.recover.recover_in.Statement.{statement}
 use Rattle.unpacker.proofs.recover.recover_in.Tie as tie
