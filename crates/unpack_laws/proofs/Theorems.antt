@@ -156,6 +156,17 @@ packs-again order s base ks xs out e h =
     )
     (packs-there order base s p out h)
 
+-- the operands that were written are cells
+pub words-again : (order : ℕ) (s : List ℕ) (base : ℕ) (ks xs : List ℕ) → Bytewise s → unpackOf order s base ks xs .number ≡ 0
+    → Words (take (unpackOf order s base ks xs .count) (unpackOf order s base ks xs .operands))
+unfolding unpackOf judgeUnpack
+words-again order s base ks xs low e =
+    let q = unpacked-of order s base ks xs (judgeUnpack order base s (length ks) (length xs)) e in
+    let p = both-pass (judgeRead order base s) _ q .0 in
+    let img = cellsOf order s in
+    rw (q, take-at (operandsRead img base) (drop (length (operandsRead img base)) xs) (length (kindsRead img)) (operands-length img base ∙ sym (kinds-length img)))
+    (words-read order base s low (omega (arith, passed-items order base s p)))
+
 -- bytes that were packed are not refused, and bytes that are not refused were packed
 packed-passes : (order base : ℕ) (s : List ℕ) → Packed order base s → judgeRead order base s ≡ judged.Passed
 packed-passes order base _ (byPack kinds operands out words e) =

@@ -1,0 +1,2 @@
+-- The theorem of crate `recovered`.
+pub mod Theorem

@@ -1,0 +1,2 @@
+-- What crate `recovered` claims.
+pub mod Recovered
