@@ -19,10 +19,10 @@ recovered-runs order s base ks xs low e m h =
     let operands = take (r .count) (r .operands) in
     let q = packs-again order s base ks xs s e (omega arith) in
     let stands : StandsAt (packOf order kinds operands base s) m base =
-        rw q (record {
-          inside = omega (arith, h .inside);
-          bytes = λ i b. h .bytes i (omega arith) ∙ sym (List·getD-append s (drop (length s) s) 0 i (omega arith));
-        })
+    rw q (record {
+      inside = omega (arith, h .inside);
+      bytes = λ i b. h .bytes i (omega arith) ∙ sym (List·getD-append s (drop (length s) s) 0 i (omega arith));
+    })
     in
     packed-runs order base (recovered r) (packOf order kinds operands base s)
     (ofArrays kinds operands base s (words-again order s base ks xs low e))
