@@ -38,8 +38,8 @@ beetle COMMAND ..
   show RULE.lst                    the listing and its packed cells, side by side
   show MODULE --base ADDRESS       the same of a module: the listing that packs to it
   pack RULE.lst                    the packed cells
-  unpack CELLS.bin --base ADDRESS -o RULE.lst
-                                   packed cells back to the listing file
+  unpack CELLS.bin --base ADDRESS [-o RULE.lst]
+                                   packed cells back to the listing, or its file
   save RULE.lst -o RULE.mod        the packed cells as an object module
   load MODULE                      the cells of a module, all or the first of them
   run MODULE                       a module, run until it stops

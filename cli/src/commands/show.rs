@@ -47,13 +47,17 @@ const TAKES: Takes = Takes {
 
 pub fn carry_out(words: &[String], out: &mut dyn Write) -> Result<u8, Failure> {
     let arguments = Arguments::read(words, &TAKES)?;
-    let name = arguments.file(0);
-    let packed = given(&arguments)?;
-    let places = reading::places(&packed).map_err(Failure::Other)?;
+    print(out, arguments.file(0), &given(&arguments)?)?;
+    Ok(0)
+}
+
+/// Prints the listing of a file with this name beside its cells.
+pub fn print(out: &mut dyn Write, name: &str, packed: &Packed) -> Result<(), Failure> {
+    let places = reading::places(packed).map_err(Failure::Other)?;
     let (items, base, cells) = (places.len(), packed.listing.base, packed.cells());
     writeln!(out, "{name}: {items} items, base {base:X}h, {cells} cells")?;
-    table(out, &packed, &places)?;
-    Ok(0)
+    table(out, packed, &places)?;
+    Ok(())
 }
 
 /// The listing of a file, or with `--base` that of a module: the bytes do not decide.

@@ -198,7 +198,7 @@ fn wrong_command_lines() {
         ("unpack", "CELLS.bin is missing"),
         ("unpack a", "--base ADDRESS is missing"),
         ("unpack a -o b", "--base ADDRESS is missing"),
-        ("unpack a --base 10h", "-o FILE is missing"),
+        ("unpack a --base 10h --short", "--short is for -o RULE.lst"),
         ("unpack a b --base 10h -o c", "one file too many: b"),
         ("unpack a --base", "--base wants a value"),
         (
