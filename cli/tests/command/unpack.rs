@@ -18,7 +18,9 @@ fn what_was_done_is_told() {
         assert_eq!(folder.done(&words), told);
         assert_eq!(folder.read("made.lst"), file);
     }
-    let shown = folder.done("show rule.lst").replace("rule.lst", "cells.bin");
+    let shown = folder
+        .done("show rule.lst")
+        .replace("rule.lst", "cells.bin");
     assert_eq!(folder.done("unpack cells.bin --base 10h"), shown);
     let shown = folder.done("show rule.mod --base 10h");
     let first = "rule.mod: 4 items, base 10h, 3 cells";
