@@ -51,6 +51,7 @@ refusal-some refusal.PlainOperand e = omega arith
 refusal-some refusal.Target e = omega arith
 refusal-some refusal.Base e = omega arith
 refusal-some refusal.NoListing e = omega arith
+refusal-some refusal.ModuleSet e = omega arith
 
 pub machine-good : (len order : ℕ) → judgeMachine len order ≡ Passed → GoodMachine len order
 unfolding judgeMachine

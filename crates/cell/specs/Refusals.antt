@@ -1,6 +1,7 @@
 -- Refusals: their numbers, and the first that applies. Document 01, Turned back for the input, Turned back for the state, and
 -- the order below them: what a call is lent comes first, then its input, then places, and the room of outputs last. Document 02, (a) and (b): areas
--- come after the byte order, then the table; (l): a short file's -4119 is a part of the input list; (h): -4116 comes after -4110.
+-- come after the byte order, then the table; (l): a short file's -4119 is a part of the input list; (h): -4116 comes after -4110; (d): -4113 comes after
+-- every module has passed by itself.
 use mathlib.Core.Path.{_≡_}
 use mathlib.Core.Bool.{Bool, not, _||_}
 use mathlib.Core.List.{List, [], _∷_}
@@ -8,7 +9,7 @@ use Prim.Native.Nat.{ℕ, _-_, _%_, _^_, _≤_}
 use lib.Dec.{ltb, eqb}
 use Rattle.cell.specs.Choice.{if}
 use Rattle.cell.specs.declared.Refusal.{Refusal}
-use Rattle.cell.specs.declared.Refusal.the-variants.{MemoryLength, ByteOrder, StackAreas, Table, Header, FileLength, Unaligned, Outside, ShortOutput, ItemCount, OperandCount, Kind, PlainOperand, Target, Base, NoListing}
+use Rattle.cell.specs.declared.Refusal.the-variants.{MemoryLength, ByteOrder, StackAreas, Table, Header, FileLength, Unaligned, Outside, ShortOutput, ItemCount, OperandCount, Kind, PlainOperand, Target, Base, NoListing, ModuleSet}
 use Rattle.cell.specs.declared.Judged.{Judged}
 use Rattle.cell.specs.declared.Judged.the-variants.{Passed, Refused}
 
@@ -30,6 +31,7 @@ refusalNumber PlainOperand = 2 ^ 32 - 4108
 refusalNumber Target = 2 ^ 32 - 4109
 refusalNumber Base = 2 ^ 32 - 4110
 refusalNumber NoListing = 2 ^ 32 - 4116
+refusalNumber ModuleSet = 2 ^ 32 - 4113
 
 -- a refusal, with whether it applies
 pub record Ground : Type 0 where

@@ -43,5 +43,6 @@ pub fn refusal_number(r: Refusal) -> u32
         Refusal::Target => 0xFFFFEFF3,
         Refusal::Base => 0xFFFFEFF2,
         Refusal::NoListing => 0xFFFFEFEC,
+        Refusal::ModuleSet => 0xFFFFEFEF,
     }
 }

@@ -67,6 +67,7 @@ pub enum Refusal {
     Target,
     Base,
     NoListing,
+    ModuleSet,
 }
 
 // What the judgement of a call's input says.
