@@ -1,0 +1,4 @@
+-- Laws that belong to no one function.
+pub mod MemberLaws
+pub mod PassLaws
+pub mod SharingLaws

@@ -1,0 +1,37 @@
+-- Modules that share a byte: by their counts and by their lengths alike.
+use mathlib.Core.Path.{_≡_, refl, ap}
+use mathlib.Core.List.{List, [], _∷_}
+use Prim.Native.Nat.{ℕ, _+_, _-_, _*_}
+use native.Mathlib.Omega.{arith}
+use Rattle.cell.specs.declared.Judged.the-variants.{Passed}
+use Rattle.set_judging.specs.declared.Member.{Member}
+use Rattle.set_judging.specs.Sharing.{endOf, endBySize, sharesOne, sharing}
+use Rattle.set_judging.specs.Conditions.{Fits}
+use Rattle.set_judging.specs.Grounds.{judgeMember, judgeMembers}
+use Rattle.set_judging.proofs.MemberLaws.{Each, none, more}
+use Rattle.set_judging.proofs.PassLaws.{member-fits, each-passes}
+
+-- ends that are told alike
+module _ (e f : Member → ℕ) where
+  one-alike : (x : Member) (ys : List Member) → e x ≡ f x → Each (λ (y : Member). e y ≡ f y) ys → sharesOne e x ys ≡ sharesOne f x ys
+  one-alike x [] q s = refl
+  one-alike x (y ∷ ys) q (more p s) = rw (q, p, one-alike x ys q s)
+
+  sharing-alike : (xs : List Member) → Each (λ (x : Member). e x ≡ f x) xs → sharing e xs ≡ sharing f xs
+  sharing-alike [] s = refl
+  sharing-alike (x ∷ xs) (more p s) = rw (one-alike x xs p s, sharing-alike xs s)
+
+-- a file that is as long as its header says ends with its last cell
+end-by-size : (len : ℕ) (buffer : List ℕ) (x : Member) → Fits len buffer x → endOf buffer x ≡ endBySize x
+end-by-size len buffer x f = let w = f .whole in omega (arith, w)
+
+ends-each : (len order : ℕ) (buffer : List ℕ) (xs : List Member) → Each (λ (x : Member). judgeMember len order buffer x ≡ Passed) xs
+    → Each (λ (x : Member). endOf buffer x ≡ endBySize x) xs
+ends-each len order buffer [] none = none
+ends-each len order buffer (x ∷ xs) (more p s) =
+    more (end-by-size len buffer x (member-fits len order buffer x p)) (ends-each len order buffer xs s)
+
+pub sharing-by-size : (len order : ℕ) (buffer : List ℕ) (xs : List Member) → judgeMembers len order buffer xs ≡ Passed
+    → sharing (endOf buffer) xs ≡ sharing endBySize xs
+sharing-by-size len order buffer xs e =
+    sharing-alike (endOf buffer) endBySize xs (ends-each len order buffer xs (each-passes len order buffer xs e))
