@@ -2,7 +2,7 @@
 ghost use mathlib.Core.Path.{_≡_};
 ghost use Rattle.unpack_calls.specs.Images as images;
 use cell::Address;
-use short_calls::notes::no_place;
+use lent_arrays::lending::no_place;
 use unpack_calls::notes::note_unpacked;
 use unpacker::unpack::judge_unpack;
 use unpacker::unpack::unpack;

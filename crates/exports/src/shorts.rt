@@ -3,7 +3,7 @@ ghost use mathlib.Core.Path.{_≡_};
 ghost use Rattle.calls.specs.Modules as modules;
 ghost use Rattle.short_calls.specs.Shorts as shorts;
 use calls::listings::note_packed;
-use short_calls::notes::no_place;
+use lent_arrays::lending::no_place;
 use short_calls::notes::note_converted;
 use short_files::lengthen::judge_lengthen;
 use short_files::lengthen::lengthen;

@@ -4,9 +4,10 @@ use Prim.Native.Nat.{ℕ, _+_}
 use lib.Dec.{ltb}
 use lib.ListN.{length, getD, drop}
 use Rattle.cell.specs.Choice.{if}
-use Rattle.cell.specs.Refusals.{Ground, judge, after}
+use Rattle.cell.specs.Refusals.{Ground, refusalNumber, judge, after}
 use Rattle.cell.specs.declared.Refusal.the-variants.{ShortOutput}
 use Rattle.cell.specs.declared.Judged.{Judged}
+use Rattle.cell.specs.declared.Judged.the-variants as judged
 use Rattle.areas.specs.Areas.{areasOf, noAreas, filed}
 use Rattle.areas.specs.declared.Areas.{Areas}
 use Rattle.areas.specs.declared.RegisterFile.{RegisterFile}
@@ -41,3 +42,8 @@ shortArray size needed = record { applies = ltb size needed; refusal = ShortOutp
 
 abbrev pub withRoom : Judged → ℕ → ℕ → Judged
 withRoom j size needed = after j (judge (shortArray size needed ∷ []))
+
+-- the number answered where `out` has no place: -4105, unless the input or the output is refused before it
+abbrev pub noPlace : Judged → ℕ
+noPlace (judged.Refused r) = refusalNumber r
+noPlace judged.Passed = refusalNumber ShortOutput

@@ -13,6 +13,7 @@ use cell::Address;
 use cell::CellCount;
 use cell::Judged;
 use cell::Refusal;
+use cell::judgement::refusal_number;
 use machine::Registers;
 use machine::Table;
 
@@ -29,6 +30,16 @@ pub fn with_room(judged: Judged, size: usize, needed: usize) -> Judged
                 Judged::Passed
             }
         }
+    }
+}
+
+// The number answered where `out` has no place.
+pub fn no_place(judged: Judged) -> u32
+    ensures { λ n. ⌜ n ≡ lending.noPlace judged ⌝ }
+{
+    match judged {
+        Judged::Refused(r) => refusal_number(r),
+        Judged::Passed => refusal_number(Refusal::ShortOutput),
     }
 }
 

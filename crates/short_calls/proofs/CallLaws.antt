@@ -7,7 +7,7 @@ use borrow.Author.Tests.{lt-ltb, le-ltb}
 use lib.ListN.{length}
 use Rattle.cell.specs.declared.Judged.{Judged}
 use Rattle.cell.specs.declared.Judged.the-variants.{Passed, Refused}
-use Rattle.lent_arrays.specs.Lending.{withRoom}
+use Rattle.lent_arrays.specs.Lending.{withRoom, noPlace}
 use Rattle.calls.specs.Listings.{packNoted, packIf as packCallIf}
 use Rattle.calls.specs.Modules.{Noted, noted, Moved, moved}
 use Rattle.pack_layout.specs.Listing.{Listing}
@@ -17,7 +17,7 @@ use Rattle.short_judging.specs.ShortFile.{shortBase, shortListing}
 use Rattle.short_files.specs.declared.Converted.{Converted}
 use Rattle.short_files.specs.Converted.{ConvertResult, convertedTo, convertIf, judgeShorten, judgeLengthen, shortenOf, lengthenOf}
 use Rattle.short_packing.specs.Packing.{judgePackShort, packShortOf}
-use Rattle.short_calls.specs.Shorts.{convertNoted, told, convertIf as callIf, shortenCall, lengthenCall, packShortCall, noPlace}
+use Rattle.short_calls.specs.Shorts.{convertNoted, told, convertIf as callIf, shortenCall, lengthenCall, packShortCall}
 
 without : (j : Judged) (result : ConvertResult) (output out : List ℕ) → length out < 1
     → moved output out (noPlace j) ≡ callIf (withRoom j (length out) 1) result output out

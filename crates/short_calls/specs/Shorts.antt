@@ -3,7 +3,6 @@ use mathlib.Core.List.{List, [], _∷_}
 use Prim.Native.Nat.{ℕ}
 use lib.ListN.{length}
 use Rattle.cell.specs.Refusals.{refusalNumber}
-use Rattle.cell.specs.declared.Refusal.the-variants.{ShortOutput}
 use Rattle.cell.specs.declared.Judged.{Judged}
 use Rattle.cell.specs.declared.Judged.the-variants as judged
 use Rattle.lent_arrays.specs.Lending.{written, withRoom}
@@ -39,8 +38,3 @@ lengthenCall file output out =
 unfoldable pub packShortCall : ℕ → List ℕ → List ℕ → List ℕ → Moved
 packShortCall order file output out =
     packIf (withRoom (judgePackShort order file (length output)) (length out) 1) (packShortOf order file output) output out
-
--- the number answered where `out` has no place: -4105, unless the input or the output is refused before it
-abbrev pub noPlace : Judged → ℕ
-noPlace (judged.Refused r) = refusalNumber r
-noPlace judged.Passed = refusalNumber ShortOutput

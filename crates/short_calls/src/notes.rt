@@ -4,8 +4,6 @@ ghost use Prim.Native.Nat.{_≤_};
 ghost use lib.ListN.{length};
 ghost use Rattle.calls.specs.Modules as modules;
 ghost use Rattle.short_calls.specs.Shorts as shorts;
-use cell::Judged;
-use cell::Refusal;
 use cell::judgement::refusal_number;
 use lent_arrays::lending::write_one;
 use short_files::Converted;
@@ -20,15 +18,5 @@ pub fn note_converted(answer: Converted, out: &mut [u32]) -> u32
             write_one(out, n);
             0
         }
-    }
-}
-
-// The number answered where `out` has no place.
-pub fn no_place(judged: Judged) -> u32
-    ensures { λ n. ⌜ n ≡ shorts.noPlace judged ⌝ }
-{
-    match judged {
-        Judged::Refused(r) => refusal_number(r),
-        Judged::Passed => refusal_number(Refusal::ShortOutput),
     }
 }

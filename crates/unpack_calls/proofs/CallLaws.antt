@@ -7,10 +7,9 @@ use borrow.Author.Tests.{lt-ltb, le-ltb}
 use lib.ListN.{length}
 use Rattle.cell.specs.declared.Judged.{Judged}
 use Rattle.cell.specs.declared.Judged.the-variants.{Passed, Refused}
-use Rattle.lent_arrays.specs.Lending.{withRoom}
+use Rattle.lent_arrays.specs.Lending.{withRoom, noPlace}
 use Rattle.calls.specs.Modules.{Noted, noted}
 use Rattle.pack_layout.specs.Reading.{cellsOf, kindsRead, operandsRead}
-use Rattle.short_calls.specs.Shorts.{noPlace}
 use Rattle.unpacker.specs.declared.Unpacked.{Unpacked}
 use Rattle.unpacker.specs.Judgement.{judgeUnpack}
 use Rattle.unpacker.specs.Unpack.{UnpackResult, unpackedTo, unpackIf, unpackOf}
