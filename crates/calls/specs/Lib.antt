@@ -1,3 +1,4 @@
 -- What crate `calls` means.
 pub mod Modules
+pub mod Sets
 pub mod Listings

@@ -4,4 +4,5 @@ pub mod listings;
 pub mod lists;
 pub mod machines;
 pub mod modules;
+pub mod sets;
 pub mod shorts;

@@ -2,3 +2,4 @@
 pub mod MemberLaws
 pub mod PassLaws
 pub mod SharingLaws
+pub mod SetLaws

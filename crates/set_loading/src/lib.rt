@@ -1,0 +1,2 @@
+// Sets of modules: loading them together.
+pub mod loading;
