@@ -12,7 +12,7 @@ pub type ListRun =
 pub type ListResume =
     fn(u8, &[u8], &[u32], u32, &mut [u8], u32, u32, u32, u8, &mut [u32], u32, &mut [u32]) -> u32;
 
-/// The fourteen calls of the interface.
+/// The fifteen calls of the interface.
 #[derive(Clone, Copy)]
 pub struct Implementation {
     pub start: Start,
@@ -20,6 +20,7 @@ pub struct Implementation {
     pub run: fn(u8, &mut [u8], u32, u32, &mut [u32], u32, &mut [u32]) -> u32,
     pub load: fn(u8, &mut [u8], &[u8], u32, &mut [u32]) -> u32,
     pub load_first: fn(u8, &mut [u8], &[u8], u32, u32, &mut [u32]) -> u32,
+    pub load_set: fn(u8, &mut [u8], &[u8], &[u32], &mut [u32]) -> u32,
     pub save: fn(u8, &[u8], u32, u32, &mut [u8], &mut [u32]) -> u32,
     pub pack: fn(u8, &[u8], &[u32], u32, &mut [u8], &mut [u32]) -> u32,
     pub pack_file: fn(u8, &[u8], &mut [u8], &mut [u32]) -> u32,
@@ -41,6 +42,7 @@ macro_rules! implementation {
             run: $($module)::+::run,
             load: $($module)::+::load,
             load_first: $($module)::+::load_first,
+            load_set: $($module)::+::load_set,
             save: $($module)::+::save,
             pack: $($module)::+::pack,
             pack_file: $($module)::+::pack_file,
@@ -72,6 +74,7 @@ pub enum Entry {
     Run,
     Load,
     LoadFirst,
+    LoadSet,
     Save,
     Pack,
     PackFile,
@@ -96,8 +99,10 @@ pub struct Call {
     /// start, cycle, run, list_run, list_resume: the table's first byte and its end.
     pub table: [u32; 2],
     pub memory: Vec<u8>,
-    /// unpack: the image.
+    /// load_set: the buffer; unpack: the image.
     pub file: Vec<u8>,
+    /// load_set: address, place and length of each module.
+    pub modules: Vec<u32>,
     pub kinds: Vec<u8>,
     pub operands: Vec<u32>,
     pub output: Vec<u8>,
@@ -116,6 +121,7 @@ impl Call {
             table: [0; 2],
             memory: Vec::new(),
             file: Vec::new(),
+            modules: Vec::new(),
             kinds: Vec::new(),
             operands: Vec::new(),
             output: Vec::new(),
@@ -184,6 +190,7 @@ impl<T: Copy + PartialEq> Margined<T> {
 struct Arrays {
     memory: Margined<u8>,
     file: Margined<u8>,
+    modules: Margined<u32>,
     kinds: Margined<u8>,
     operands: Margined<u32>,
     output: Margined<u8>,
@@ -196,6 +203,7 @@ impl Arrays {
         Arrays {
             memory: Margined::new(&call.memory, 0xA5),
             file: Margined::new(&call.file, 0xA5),
+            modules: Margined::new(&call.modules, 0xA5A5_A5A5),
             kinds: Margined::new(&call.kinds, 0xA5),
             operands: Margined::new(&call.operands, 0xA5A5_A5A5),
             output: Margined::new(&call.output, 0xA5),
@@ -220,6 +228,7 @@ impl Arrays {
             Entry::Run => (to.run)(order, m, t, end, r, x, o),
             Entry::Load => (to.load)(order, m, f, x, o),
             Entry::LoadFirst => (to.load_first)(order, m, f, x, y, o),
+            Entry::LoadSet => (to.load_set)(order, m, f, self.modules.lent(), o),
             Entry::Save => (to.save)(order, m, x, y, w, o),
             Entry::Pack => (to.pack)(order, k, v, x, w, o),
             Entry::PackFile => (to.pack_file)(order, f, w, o),
@@ -248,6 +257,7 @@ pub fn perform(implementation: &Implementation, call: &Call) -> Returned {
         table: call.table,
         memory: arrays.memory.taken_back(&mut kept),
         file: arrays.file.taken_back(&mut kept),
+        modules: arrays.modules.taken_back(&mut kept),
         kinds: arrays.kinds.taken_back(&mut kept),
         operands: arrays.operands.taken_back(&mut kept),
         output: arrays.output.taken_back(&mut kept),

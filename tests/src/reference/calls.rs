@@ -1,5 +1,5 @@
-//! The fourteen calls of the C interface: refusals in document 01's order, with -4111 and -4112 after
-//! -4102, -4116 after -4110, and -4105 last; what is lent is written on success only.
+//! The fifteen calls of the C interface: refusals in document 01's order, with -4111 and -4112 after
+//! -4102, -4116 and -4113 after -4110, and -4105 last; what is lent is written on success only.
 
 use super::instructions::Registers;
 use super::list_machine::{ListMachine, Position, Step};
@@ -9,6 +9,7 @@ use super::module;
 use super::packer;
 use super::processor::{self, Outcome};
 use super::refusal::{demand, Refusal};
+use super::set;
 use super::short;
 use super::stacks::{Areas, Numbers};
 use super::tables::{Range, Table};
@@ -176,13 +177,30 @@ pub fn load_first(
     number((|| {
         memory_length(memory)?;
         let order = byte_order(order)?;
-        let module = module::read(file)?;
-        let all = module.code.len() / 4;
-        let at = module::place(memory, address, all as u64)?;
+        let (module, at) = module::judge(memory, file, address)?;
         room(out, 1)?;
-        let first = all.min(cells as usize);
+        let first = module.cells().min(cells as usize);
         module::copy_in(order, memory, &module, at, first);
         out[0] = first as u32;
+        Ok(WENT_ON)
+    })())
+}
+
+/// Modules loaded together (document 02, (d)).
+pub fn load_set(
+    order: u8,
+    memory: &mut [u8],
+    buffer: &[u8],
+    modules: &[u32],
+    out: &mut [u32],
+) -> u32 {
+    number((|| {
+        memory_length(memory)?;
+        let order = byte_order(order)?;
+        let (loaded, cells) = set::load(order, memory, buffer, modules)?;
+        room(out, 1)?;
+        memory.copy_from_slice(&loaded);
+        out[0] = cells as u32;
         Ok(WENT_ON)
     })())
 }

@@ -14,6 +14,7 @@ pub mod opcodes;
 pub mod packer;
 pub mod processor;
 pub mod refusal;
+pub mod set;
 pub mod short;
 pub mod stacks;
 pub mod tables;

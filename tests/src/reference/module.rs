@@ -13,6 +13,12 @@ pub struct Module<'f> {
     pub code: &'f [u8],
 }
 
+impl Module<'_> {
+    pub fn cells(&self) -> usize {
+        self.code.len() / 4
+    }
+}
+
 /// Reads a file: -2 for the first eight bytes, then -4103 for the length.
 pub fn read(file: &[u8]) -> Result<Module<'_>, Refusal> {
     demand(file.len() >= 8 && &file[..7] == MAGIC, Refusal::Header)?;
@@ -35,6 +41,17 @@ pub fn place(memory: &[u8], address: u32, cells: u64) -> Result<usize, Refusal> 
     let inside = address < length && address + 4 * cells <= length;
     demand(inside, Refusal::OutsideMemory)?;
     Ok(address as usize)
+}
+
+/// A module by itself: its file, then its place.
+pub fn judge<'f>(
+    memory: &[u8],
+    file: &'f [u8],
+    address: u32,
+) -> Result<(Module<'f>, usize), Refusal> {
+    let module = read(file)?;
+    let at = place(memory, address, module.cells() as u64)?;
+    Ok((module, at))
 }
 
 /// Copies the first cells of the code to their place, each reversed where the orders differ.

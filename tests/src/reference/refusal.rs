@@ -1,4 +1,4 @@
-//! What is refused, with its number (document 01, the two lists; document 02, (a), (b), (h) and (l)).
+//! What is refused, with its number (document 01, the two lists; document 02, (a), (b), (d), (h) and (l)).
 
 #[derive(Clone, Copy, PartialEq, Eq, Debug)]
 pub enum Refusal {
@@ -32,6 +32,8 @@ pub enum Refusal {
     Base,
     /// -4116.
     NoListing,
+    /// -4113.
+    ModuleSet,
     /// -4105.
     ShortOutput,
 }
@@ -54,6 +56,7 @@ impl Refusal {
             Refusal::OutsideMemory => -1,
             Refusal::Base => -4110,
             Refusal::NoListing => -4116,
+            Refusal::ModuleSet => -4113,
             Refusal::ShortOutput => -4105,
         }
     }
