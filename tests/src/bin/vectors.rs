@@ -7,7 +7,8 @@
 //! is a line of order, table, EP, handler, areas and memory, `=`, and the same. A listing is a line of a
 //! file's bytes (`-` for none), `=`, and the cells or the refusal's number. A load that halts is a line
 //! of order, length of a memory of 5Ah, file, address and cells, `=`, and `refused` with the number, or
-//! the cells loaded and each changed byte. A short listing is a line of a short file's bytes, `=`, the
+//! the cells loaded and each changed byte; modules loaded together are a line of order, length, buffer and
+//! the numbers of the modules, `=`, and the same. A short listing is a line of a short file's bytes, `=`, the
 //! cells that it packs to in order 0, `=`, and the old file's bytes, with `refused` and the number in
 //! place of either. An image is a line of order, base and the image's bytes, `=`, and `refused` with the
 //! number, or the number of items, their kinds in one word, and an operand for each.
@@ -23,7 +24,7 @@ struct Kind {
     agrees: fn(&Implementation, &str) -> bool,
 }
 
-const KINDS: [Kind; 6] = [
+const KINDS: [Kind; 7] = [
     Kind {
         name: "cycles",
         files: &["cycles.txt", "plusloops.txt", "areas.txt"],
@@ -43,6 +44,11 @@ const KINDS: [Kind; 6] = [
         name: "firsts",
         files: &["firsts.txt"],
         agrees: first_agrees,
+    },
+    Kind {
+        name: "sets",
+        files: &["sets.txt"],
+        agrees: set_agrees,
     },
     Kind {
         name: "short",
@@ -244,22 +250,35 @@ fn image_agrees(calls: &Implementation, line: &str) -> bool {
     listing_words(calls, order as u8, base, &image) == expected
 }
 
-fn first_agrees(calls: &Implementation, line: &str) -> bool {
+/// Whether a load agrees with a line: it is given the order, a memory, the file or buffer, all numbers
+/// behind that, and where the cells are counted.
+fn load_agrees(
+    line: &str,
+    load: impl FnOnce(u8, &mut [u8], &[u8], &[u32], &mut [u32]) -> u32,
+) -> bool {
     let (given, expected) = sides(line);
     let order = hexadecimal(given[0]) as u8;
     let before = vec![0x5A; hexadecimal(given[1]) as usize];
     let file = bytes_or_none(given[2]);
-    let (address, cells) = (hexadecimal(given[3]), hexadecimal(given[4]));
+    let numbers: Vec<u32> = given[3..].iter().map(|word| hexadecimal(word)).collect();
     let mut memory = before.clone();
     let mut out = [0];
-    let answer = (calls.load_first)(order, &mut memory, &file, address, cells, &mut out);
-    let mut told = if answer == 0 {
-        vec![format!("{:X}", out[0])]
-    } else {
-        vec!["refused".to_string(), (answer as i32).to_string()]
+    let mut told = match load(order, &mut memory, &file, &numbers, &mut out) {
+        0 => vec![format!("{:X}", out[0])],
+        refusal => answer_words(refusal, 0),
     };
     told.extend(changes(&before, &memory));
     told == expected
+}
+
+fn first_agrees(calls: &Implementation, line: &str) -> bool {
+    load_agrees(line, |order, memory, file, numbers, out| {
+        (calls.load_first)(order, memory, file, numbers[0], numbers[1], out)
+    })
+}
+
+fn set_agrees(calls: &Implementation, line: &str) -> bool {
+    load_agrees(line, calls.load_set)
 }
 
 /// Prints the lines that disagree, and how many agree; whether all do.
