@@ -4,7 +4,7 @@ use std::collections::BTreeMap;
 
 use crate::budgets::{self, Budgets};
 use crate::call::{agree, perform, Call, Implementation};
-use crate::cases::{files, images, listings, modules, processor, rules};
+use crate::cases::{files, images, listings, modules, processor, rules, sets};
 use crate::cuts;
 use crate::demand3::follow;
 use crate::firsts::{self, Firsts};
@@ -16,7 +16,7 @@ use crate::shrink::{call_text, returned_text, smallest};
 /// Calls of one sort, with the number that is drawn by default.
 pub struct Suite {
     pub name: &'static str,
-    /// processor, modules, packer, files or images.
+    /// processor, modules, sets, packer, files or images.
     pub group: &'static str,
     pub cases: u32,
     pub make: fn(&mut Random, u32) -> Call,
@@ -36,7 +36,7 @@ const fn suite(
     }
 }
 
-pub const SUITES: [Suite; 20] = [
+pub const SUITES: [Suite; 22] = [
     suite("cycles", "processor", 400_000, processor::cycle),
     suite("starts", "processor", 20_000, processor::start),
     suite("runs", "processor", 40_000, processor::run),
@@ -45,6 +45,8 @@ pub const SUITES: [Suite; 20] = [
     suite("first cells", "modules", 60_000, modules::load_first),
     suite("saves", "modules", 60_000, modules::save),
     suite("large modules", "modules", 24, modules::large),
+    suite("sets", "sets", 40_000, sets::load_set),
+    suite("large sets", "sets", 24, sets::large),
     suite("packs", "packer", 20_000, listings::pack),
     suite("pack files", "packer", 20_000, listings::pack_file),
     suite("list runs", "packer", 60_000, rules::list_run),

@@ -14,6 +14,7 @@ pub mod reach;
 pub mod reference;
 pub mod shorts;
 pub mod shrink;
+pub mod smaller_sets;
 pub mod worked;
 pub mod worked_areas;
 pub mod worked_images;

@@ -41,6 +41,14 @@ impl Random {
         self.below(times) == 0
     }
 
+    /// Brings items into any order.
+    pub fn shuffle<T>(&mut self, items: &mut [T]) {
+        for last in (1..items.len()).rev() {
+            let at = self.below(last as u32 + 1) as usize;
+            items.swap(at, last);
+        }
+    }
+
     pub fn choose<T: Copy>(&mut self, from: &[T]) -> T {
         from[self.below(from.len() as u32) as usize]
     }

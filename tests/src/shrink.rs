@@ -3,6 +3,7 @@
 use crate::call::{Call, Returned};
 use crate::files::{closed, opened};
 use crate::reference::listing::{kind_of, Kind};
+use crate::smaller_sets::{lower_addresses, with_cell_less, without_bytes, without_module};
 
 /// Searches for a smaller call that still shows the difference.
 pub struct Shrinking<'d> {
@@ -32,6 +33,7 @@ fn shrunk(call: &Call, differs: &dyn Fn(&Call) -> bool) -> Call {
     loop {
         let before = shrinking.best.clone();
         shrinking.shorten_listing();
+        shrinking.shorten_set();
         shrinking.shorten_memory();
         shrinking.shorten_file();
         shrinking.lower_areas();
@@ -105,6 +107,24 @@ impl Shrinking<'_> {
         }
     }
 
+    /// The set without one module and another, each with as few cells and as low an address as it may be.
+    fn shorten_set(&mut self) {
+        let mut module = 0;
+        while 3 * module + 2 < self.best.modules.len() {
+            if self.attempt(without_module(&self.best, module)) {
+                continue;
+            }
+            while with_cell_less(&self.best, module).is_some_and(|less| self.attempt(less)) {}
+            let address = 3 * module;
+            self.attempt_with(|call| call.modules[address] = 0);
+            while self.attempt_with(|call| {
+                call.modules[address] = call.modules[address].saturating_sub(4);
+            }) {}
+            module += 1;
+        }
+        self.attempt_with(lower_addresses);
+    }
+
     fn shorten_memory(&mut self) {
         if self.best.memory.len() > 1024 && self.best.memory.len().is_multiple_of(4) {
             self.attempt_with(|call| call.memory.truncate(1024));
@@ -116,7 +136,7 @@ impl Shrinking<'_> {
         for size in pieces(2 * self.best.file.len()).chain([4]) {
             let mut start = 0;
             while start + size <= self.best.file.len() && self.tries > 0 {
-                if !self.attempt_with(|call| drop(call.file.drain(start..start + size))) {
+                if !self.attempt(without_bytes(&self.best, start, size)) {
                     start += size;
                 }
             }
@@ -216,6 +236,7 @@ pub fn call_text(call: &Call) -> String {
     }
     text += &array_text("registers or pointers", &call.registers);
     text += &array_text("file", &call.file);
+    text += &array_text("modules", &call.modules);
     text += &array_text("kinds", &call.kinds);
     text += &array_text("operands", &call.operands);
     text += &format!(
@@ -251,6 +272,7 @@ pub fn returned_text(left: &Returned, right: &Returned) -> String {
     text += &format!("  out {:X?} and {:X?}\n", l.out, r.out);
     text += &differences_text("memory", &l.memory, &r.memory);
     text += &differences_text("file", &l.file, &r.file);
+    text += &differences_text("modules", &l.modules, &r.modules);
     text += &differences_text("kinds", &l.kinds, &r.kinds);
     text += &differences_text("output", &l.output, &r.output);
     text += &differences_text("operands", &l.operands, &r.operands);

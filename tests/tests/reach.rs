@@ -1,4 +1,5 @@
-//! The cases meet the table in every way, and listing files and images with every answer.
+//! The cases meet the table and sets of modules in every way, and sets, listing files and images with
+//! every answer.
 
 use beetle_tests::call::{perform, reference, Call};
 use beetle_tests::cases::images::Packed;
@@ -61,12 +62,14 @@ fn runs_meet_tables() {
 }
 
 #[test]
-fn files_and_images_meet_every_answer() {
+fn sets_files_and_images_meet_every_answer() {
+    let loaded = &[0, -1, -2, -4101, -4102, -4103, -4104, -4105, -4113][..];
     let shortened = &[0, -4105, -4106, -4107, -4108, -4109][..];
     let lengthened = &[0, -4105, -4106, -4107, -4109, -4119][..];
     let packed = &[lengthened, &[-4102, -4104, -4110]].concat()[..];
     let unpacked = &[0, -4102, -4104, -4105, -4110, -4116][..];
     for (name, expected) in [
+        ("sets", loaded),
         ("shortens", shortened),
         ("lengthens", lengthened),
         ("pack shorts", packed),

@@ -7,6 +7,7 @@ pub mod listings;
 pub mod modules;
 pub mod processor;
 pub mod rules;
+pub mod sets;
 pub mod tables;
 pub mod writer;
 pub mod wrong_images;

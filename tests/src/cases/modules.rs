@@ -17,7 +17,7 @@ fn cell_count(random: &mut Random, length: u32) -> u32 {
 }
 
 /// An address for so many cells: anywhere, or where they just fit, or just do not.
-fn address(random: &mut Random, length: u32, cells: u32) -> u32 {
+pub(super) fn address(random: &mut Random, length: u32, cells: u32) -> u32 {
     match random.below(4) {
         0 => pointer(random, length),
         1 => length.wrapping_sub(4 * cells),
@@ -30,7 +30,7 @@ fn address(random: &mut Random, length: u32, cells: u32) -> u32 {
 }
 
 /// Corrupts a module's file: header, count, or length.
-fn corrupt(random: &mut Random, file: &mut Vec<u8>) {
+pub(super) fn corrupt(random: &mut Random, file: &mut Vec<u8>) {
     match random.below(6) {
         0 => {
             let length = random.below(file.len() as u32 + 1) as usize;
@@ -62,6 +62,16 @@ fn corrupt(random: &mut Random, file: &mut Vec<u8>) {
     }
 }
 
+/// The file of so many cells, in either order.
+pub(super) fn good_file(random: &mut Random, cells: u32) -> Vec<u8> {
+    let mut file = b"BEETLE\0".to_vec();
+    let order = random.below(2) as u8;
+    file.push(order);
+    file.extend(order_of(order).bytes_of(cells));
+    file.extend(any_bytes(random, 4 * cells as usize));
+    file
+}
+
 /// How many cells of so many go in before a load is told to halt.
 fn halt(random: &mut Random, cells: u32) -> u32 {
     match random.below(8) {
@@ -84,11 +94,7 @@ pub fn load_first(random: &mut Random, _: u32) -> Call {
     let cells = cell_count(random, length as u32);
     call.numbers[0] = address(random, length as u32, cells);
     call.numbers[1] = halt(random, cells);
-    call.file = b"BEETLE\0".to_vec();
-    let order = random.below(2) as u8;
-    call.file.push(order);
-    call.file.extend(order_of(order).bytes_of(cells));
-    call.file.extend(any_bytes(random, 4 * cells as usize));
+    call.file = good_file(random, cells);
     call.out = out_with_room(random, 1);
     if random.one_in(3) {
         corrupt(random, &mut call.file);
@@ -143,6 +149,15 @@ pub fn save(random: &mut Random, _: u32) -> Call {
     call
 }
 
+/// The greatest length of memory, or a cell more.
+pub(super) fn large_length(index: u32) -> u32 {
+    if index % 8 < 6 {
+        GREATEST
+    } else {
+        GREATEST + 4
+    }
+}
+
 /// Loads and saves at the end of the greatest memory, or of one just too long.
 pub fn large(random: &mut Random, index: u32) -> Call {
     let mut call = match index % 3 {
@@ -151,11 +166,7 @@ pub fn large(random: &mut Random, index: u32) -> Call {
         _ => save(random, index),
     };
     let old = call.memory.len() as u32;
-    let length = if index % 8 < 6 {
-        GREATEST
-    } else {
-        GREATEST + 4
-    };
+    let length = large_length(index);
     call.memory.resize(length as usize, 0x3C);
     call.numbers[0] = call.numbers[0].wrapping_add(length).wrapping_sub(old);
     call
