@@ -10,6 +10,7 @@ use crate::demand3::follow;
 use crate::firsts::{self, Firsts};
 use crate::images::{try_call, Images};
 use crate::random::Random;
+use crate::sets::{try_set, Sets};
 use crate::shorts::{self, Shorts};
 use crate::shrink::{call_text, returned_text, smallest};
 
@@ -202,6 +203,14 @@ pub fn try_firsts(implementation: &Implementation, loads: u32) -> Result<Firsts,
     let load = modules::load_first;
     tried("halts", 6, loads, load, |random, call, tally| {
         firsts::try_load(implementation, random, call, tally)
+    })
+}
+
+/// Holds modules loaded together against single loads, in three sequences.
+pub fn try_sets(implementation: &Implementation, cases: u32) -> Result<Sets, String> {
+    let set = sets::load_set;
+    tried("any sequence", 9, cases, set, |random, call, tally| {
+        try_set(implementation, random, call, tally)
     })
 }
 

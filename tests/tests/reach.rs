@@ -8,6 +8,7 @@ use beetle_tests::cases::{images, processor, rules};
 use beetle_tests::compare::{compare, SUITES};
 use beetle_tests::random::Random;
 use beetle_tests::reach::{tally, Tally};
+use beetle_tests::reach_sets;
 use beetle_tests::reference::listing::Listing;
 use beetle_tests::reference::packer;
 
@@ -59,6 +60,14 @@ fn runs_meet_tables() {
         at_least(&tally, 40, &ALWAYS);
         at_least(&tally, 15, &["-20"]);
     }
+}
+
+#[test]
+fn sets_come_in_every_way() {
+    let tally = reach_sets::tally(12, 4_000);
+    let names: Vec<&str> = tally.keys().copied().collect();
+    assert_eq!(names.len(), 27);
+    at_least(&tally, 20, &names);
 }
 
 #[test]
