@@ -20,5 +20,6 @@ pub mod smaller_sets;
 pub mod worked;
 pub mod worked_areas;
 pub mod worked_images;
+pub mod worked_sets;
 pub mod worked_short;
 pub mod worked_tables;

@@ -1,7 +1,7 @@
 //! The worked rows, on the reference and, where it is linked, on the library.
 
 use beetle_tests::call::{reference, Implementation};
-use beetle_tests::{worked, worked_areas, worked_images, worked_short, worked_tables};
+use beetle_tests::{worked, worked_areas, worked_images, worked_sets, worked_short, worked_tables};
 
 fn all_rows(implementation: &Implementation) {
     worked::running(implementation);
@@ -11,6 +11,7 @@ fn all_rows(implementation: &Implementation) {
     worked::packing(implementation);
     worked_areas::rows(implementation);
     worked_tables::rows(implementation);
+    worked_sets::rows(implementation);
     worked_short::rows(implementation);
     worked_images::rows(implementation);
 }
