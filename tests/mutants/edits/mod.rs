@@ -6,12 +6,13 @@ mod images;
 mod modules;
 mod packer;
 mod processor;
+mod sets;
 mod tables;
 
 /// A wrong implementation: the reference with one edit.
 pub struct Mutant {
-    /// The group of suites that finds it; or demand3, budgets, firsts, shorts, unpacks: what it breaks by
-    /// itself, with no second implementation to compare.
+    /// The group of suites that finds it; or demand3, budgets, firsts, sequences, shorts, unpacks: what it
+    /// breaks by itself, with no second implementation to compare.
     pub group: &'static str,
     pub name: &'static str,
     pub file: &'static str,
@@ -41,6 +42,7 @@ pub const SUBJECTS: &[&[Mutant]] = &[
     areas::MUTANTS,
     tables::MUTANTS,
     modules::MUTANTS,
+    sets::MUTANTS,
     packer::MUTANTS,
     files::MUTANTS,
     images::MUTANTS,

@@ -3,7 +3,8 @@
 
 use beetle_tests::call::{reference, Implementation};
 use beetle_tests::compare::{compare, explain, Difference, RULES, SUITES};
-use beetle_tests::compare::{try_budgets, try_cuts, try_firsts, try_images, try_rules, try_shorts};
+use beetle_tests::compare::{try_budgets, try_cuts, try_firsts, try_images, try_rules};
+use beetle_tests::compare::{try_sets, try_shorts};
 use beetle_tests::implementation;
 
 /// Its group, its name, and its calls.
@@ -34,6 +35,7 @@ fn every_mutant_is_found() {
         let by = match group {
             "budgets" => try_budgets(&mutant, RULES).err(),
             "firsts" => try_firsts(&mutant, RULES).err(),
+            "sequences" => try_sets(&mutant, RULES).err(),
             "shorts" => try_shorts(&mutant, RULES).err(),
             "unpacks" => try_images(&mutant, RULES).err(),
             _ => found(group, &mutant).map(|by| format!("{}, case {}", by.name, by.index)),
@@ -81,6 +83,14 @@ fn an_image_is_made_small() {
     assert!(text.contains("  file, 8: 52 "), "{text}");
 }
 
+/// A set goes down to two modules at one address: one with no cells, and after it one with a cell.
+#[test]
+fn a_set_is_made_small() {
+    let text = explained("an empty module shares a byte with one after it");
+    assert!(text.contains("  file, 28: "), "{text}");
+    assert!(text.contains("  modules, 6: 0 0 C 0 C 10\n"), "{text}");
+}
+
 #[test]
 fn the_reference_agrees_with_itself() {
     for suite in &SUITES {
@@ -116,6 +126,20 @@ fn loads_of_the_reference_can_halt() {
     let loads = try_firsts(&reference(), RULES / 4).expect("halts");
     println!("{loads:?}");
     for kind in [loads.halted, loads.whole, loads.refused] {
+        assert!(kind > RULES / 400);
+    }
+}
+
+#[test]
+fn sets_of_the_reference_load_in_any_sequence() {
+    let sets = try_sets(&reference(), RULES / 4).expect("any sequence");
+    println!("{sets:?}");
+    for kind in [
+        sets.loaded,
+        sets.not_alone,
+        sets.not_together,
+        sets.without_room,
+    ] {
         assert!(kind > RULES / 400);
     }
 }
