@@ -56,7 +56,8 @@ extern "C" {
 #define BEETLE_PAST_END 4
 
 #define BEETLE_OUTSIDE (-1)           /* a module would not lie whole inside memory */
-#define BEETLE_BAD_HEADER (-2)        /* the file does not begin as a module does */
+#define BEETLE_BAD_HEADER (-2)        /* the file does not begin as a module does, or in a set
+                                         reaches past the buffer */
 #define BEETLE_BAD_MEMORY (-4101)     /* memory length */
 #define BEETLE_BAD_ORDER (-4102)      /* byte order above 1 */
 #define BEETLE_BAD_FILE_LENGTH (-4103) /* file length not 12 + 4l */
@@ -73,6 +74,9 @@ extern "C" {
                                          judged after BEETLE_BAD_ORDER */
 #define BEETLE_BAD_TABLE (-4112)      /* a table with an unaligned end, its ends exchanged, below 10h or
                                          past memory; judged after BEETLE_BAD_AREAS */
+#define BEETLE_BAD_SET (-4113)        /* no module or over sixteen, two that have a byte of memory in
+                                         common, or `modules` not in threes; judged once every module
+                                         has passed, before BEETLE_SHORT_OUTPUT */
 #define BEETLE_NO_LISTING (-4116)     /* an image that no listing packs to at this base and in this
                                          order; judged after BEETLE_BAD_BASE */
 #define BEETLE_BAD_SHORT_FILE (-4119) /* a short file of under 12 bytes, judged before BEETLE_BAD_COUNT;
@@ -136,6 +140,28 @@ int32_t beetle_load_first(
     const uint8_t *file, size_t file_length,
     uint32_t address,
     uint32_t cells,
+    uint32_t *out, size_t out_length);
+
+/* Loads a rule set: one to sixteen modules, each of either byte order, all of them or none. `modules`
+ * holds three numbers for each: the byte address that it goes to, the place of its first byte in
+ * `buffer`, and its length there in bytes. In the buffer they may lie over one another. The first of
+ * these that applies is answered:
+ *   BEETLE_BAD_MEMORY, BEETLE_BAD_ORDER;
+ *   of each module in turn, up to the last whole three numbers, all that is wrong with it before the
+ *   next one is looked at: BEETLE_BAD_HEADER where place + length, not wrapped round, is past the
+ *   buffer's end, then what beetle_load would answer to those bytes at that address, which is
+ *   BEETLE_BAD_HEADER, BEETLE_BAD_FILE_LENGTH, BEETLE_UNALIGNED or BEETLE_OUTSIDE;
+ *   BEETLE_BAD_SET; a module of no cells has no byte of memory, and modules end to end have none in
+ *   common;
+ *   BEETLE_SHORT_OUTPUT.
+ * A success writes the cells of every module, each in the machine's order, and no other byte of
+ * memory: what beetle_load, module after module and in whatever sequence, would have left. A refusal
+ * leaves memory and out as they were. out: [cells in all]. */
+int32_t beetle_load_set(
+    uint8_t order,
+    uint8_t *memory, size_t memory_length,
+    const uint8_t *buffer, size_t buffer_length,
+    const uint32_t *modules, size_t modules_length,
     uint32_t *out, size_t out_length);
 
 /* Saves a number of cells from a byte address as a module of 12 + 4 * cells bytes. out: [bytes]. */

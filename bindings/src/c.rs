@@ -62,6 +62,17 @@ extern "C" {
         out: *mut u32,
         out_length: usize,
     ) -> u32;
+    pub fn beetle_load_set(
+        order: u8,
+        memory: *mut u8,
+        memory_length: usize,
+        buffer: *const u8,
+        buffer_length: usize,
+        modules: *const u32,
+        modules_length: usize,
+        out: *mut u32,
+        out_length: usize,
+    ) -> u32;
     pub fn beetle_save(
         order: u8,
         memory: *const u8,

@@ -106,6 +106,21 @@ pub fn load_first(
     unsafe { c::beetle_load_first(order, m, m_length, f, f_length, address, cells, o, o_length) }
 }
 
+pub fn load_set(
+    order: u8,
+    memory: &mut [u8],
+    buffer: &[u8],
+    modules: &[u32],
+    out: &mut [u32],
+) -> u32 {
+    let (m, m_length) = (memory.as_mut_ptr(), memory.len());
+    let (b, b_length) = (buffer.as_ptr(), buffer.len());
+    let (n, n_length) = (modules.as_ptr(), modules.len());
+    let (o, o_length) = (out.as_mut_ptr(), out.len());
+    // SAFETY: as above.
+    unsafe { c::beetle_load_set(order, m, m_length, b, b_length, n, n_length, o, o_length) }
+}
+
 pub fn save(
     order: u8,
     memory: &[u8],
