@@ -4,6 +4,7 @@ use std::ops::Range;
 
 use crate::arguments::Arguments;
 use crate::failure::Failure;
+use crate::memory::share_bytes;
 
 /// An area: so many cells, all below its top.
 #[derive(Clone, Copy, PartialEq, Eq, Debug, Default)]
@@ -116,10 +117,6 @@ impl Areas {
         }
         faults
     }
-}
-
-fn share_bytes(left: &Range<i64>, right: &Range<i64>) -> bool {
-    left.start.max(right.start) < left.end.min(right.end)
 }
 
 #[cfg(test)]

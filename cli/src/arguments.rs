@@ -23,6 +23,15 @@ pub struct Arguments {
 impl Arguments {
     /// Reads the words after the command's name.
     pub fn read(words: &[String], takes: &Takes) -> Result<Self, Failure> {
+        let read = Self::read_several(words, takes)?;
+        match read.files.get(takes.files.len()) {
+            Some(more) => Err(usage(format!("one file too many: {more}"))),
+            None => Ok(read),
+        }
+    }
+
+    /// The same, where more files may follow the last one.
+    pub fn read_several(words: &[String], takes: &Takes) -> Result<Self, Failure> {
         let mut read = Arguments {
             files: Vec::new(),
             options: Vec::new(),
@@ -43,8 +52,10 @@ impl Arguments {
                 read.files.push(word.clone());
             }
         }
-        read.count_files(takes)?;
-        Ok(read)
+        match takes.files.get(read.files.len()) {
+            Some(missing) => Err(usage(format!("{missing} is missing"))),
+            None => Ok(read),
+        }
     }
 
     fn set_option(&mut self, name: &str, value: &str) -> Result<(), Failure> {
@@ -55,19 +66,14 @@ impl Arguments {
         Ok(())
     }
 
-    fn count_files(&self, takes: &Takes) -> Result<(), Failure> {
-        if let Some(missing) = takes.files.get(self.files.len()) {
-            return Err(usage(format!("{missing} is missing")));
-        }
-        match self.files.get(takes.files.len()) {
-            Some(more) => Err(usage(format!("one file too many: {more}"))),
-            None => Ok(()),
-        }
-    }
-
     /// The file at this place.
     pub fn file(&self, at: usize) -> &str {
         &self.files[at]
+    }
+
+    /// All files, in the order given.
+    pub fn files(&self) -> &[String] {
+        &self.files
     }
 
     /// The value of an option, if it is given.
@@ -116,7 +122,7 @@ impl Arguments {
         let Some(word) = self.option(name) else {
             return Ok(None);
         };
-        let cell = |word| u32::try_from(number::whole(word).ok()?).ok();
+        let cell = number::unsigned;
         let both = word.split_once(',');
         match both.and_then(|(left, right)| Some([cell(left)?, cell(right)?])) {
             Some(both) => Ok(Some(both)),

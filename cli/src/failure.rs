@@ -66,9 +66,13 @@ impl Failure {
     }
 }
 
-/// The refusals of stack areas, of a table and of a short file.
+/// The refusals of a memory, of a byte order, of stack areas, of a table, of a rule set and of a short
+/// file.
+pub const BAD_MEMORY: i32 = -4101;
+pub const BAD_ORDER: i32 = -4102;
 pub const BAD_AREAS: i32 = -4111;
 pub const BAD_TABLE: i32 = -4112;
+pub const BAD_SET: i32 = -4113;
 pub const BAD_SHORT_FILE: i32 = -4119;
 
 /// What a refusal's number means (document 01, the two lists of refusals; document 02).
@@ -76,8 +80,8 @@ pub fn meaning(refusal: i32) -> &'static str {
     match refusal {
         -1 => "the module's address is MEMORY or more, or its cells pass MEMORY",
         -2 => "the file does not begin as a module does, or its byte order is above 1",
-        -4101 => "the memory's length is not a multiple of 4 from 1,024 to 16,777,216",
-        -4102 => "the byte order is above 1",
+        BAD_MEMORY => "the memory's length is not a multiple of 4 from 1,024 to 16,777,216",
+        BAD_ORDER => "the byte order is above 1",
         -4103 => "the file's length is not 12 and 4 for each cell of the module",
         -4104 => "the address or base is no multiple of 4",
         -4105 => "a lent output is too short",
@@ -94,6 +98,7 @@ pub fn meaning(refusal: i32) -> &'static str {
              empty, outside memory or overlapping"
         }
         BAD_TABLE => "the table is unaligned, ends before it begins, lies below 10h or past memory",
+        BAD_SET => "no module, over sixteen of them, or two with a byte of memory in common",
         -4116 => "no listing packs to this image at this base and in this byte order",
         BAD_SHORT_FILE => {
             "the short file has under 12 bytes, an m that is not the number of its literals and \

@@ -1,11 +1,16 @@
 //! Files, with their names in the errors.
 
 use std::fs;
+use std::path::Path;
 
 use crate::failure::Failure;
 
 fn named(file: &str, error: std::io::Error) -> Failure {
     Failure::Other(format!("{file}: {error}"))
+}
+
+pub fn exists(file: &str) -> bool {
+    Path::new(file).exists()
 }
 
 pub fn read(file: &str) -> Result<Vec<u8>, Failure> {

@@ -3,6 +3,7 @@
 use crate::areas::Areas;
 use crate::failure::Failure;
 use crate::limits::Limits;
+use crate::set::Set;
 use crate::short;
 use crate::table::Table;
 
@@ -184,6 +185,14 @@ pub fn load_first(
     let mut out = [0];
     let answer = beetle_bindings::load_first(order, memory, file, address, cells, &mut out);
     accepted(answer)?;
+    Ok(out[0])
+}
+
+/// Loads the modules of a set together: their number of cells in all.
+pub fn load_set(order: u8, memory: &mut [u8], set: &Set) -> Result<u32, Failure> {
+    let mut out = [0];
+    let answer = beetle_bindings::load_set(order, memory, &set.buffer, &set.numbers(), &mut out);
+    accepted(answer).map_err(|failure| set.explain(failure, memory.len()))?;
     Ok(out[0])
 }
 

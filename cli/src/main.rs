@@ -11,13 +11,16 @@ mod following;
 mod library;
 mod limits;
 mod listing;
+mod loaded;
 mod memory;
 mod module;
 mod names;
 mod number;
+mod placed;
 mod reading;
 mod reasons;
 mod report;
+mod set;
 mod short;
 mod table;
 mod text;
@@ -42,7 +45,9 @@ beetle COMMAND ..
                                    packed cells back to the listing, or its file
   save RULE.lst -o RULE.mod        the packed cells as an object module
   load MODULE                      the cells of a module, all or the first of them
+  load FILE@ADDRESS ..             a rule set: modules that go in together, all or none
   run MODULE                       a module, run until it stops
+  run FILE@ADDRESS ..              a rule set, run from the address of its first module
   follow RULE.lst                  the listing, carried out item by item
 
 With --short, show, pack, save and follow read a short file, and assemble and unpack write

@@ -51,3 +51,8 @@ pub fn top(order: u8, memory: &[u8], pointer: u32, stack: &Range<u32>, most: usi
         .map_while(|place| cell_at(order, memory, place))
         .collect()
 }
+
+/// Whether two ranges have a byte in common.
+pub fn share_bytes<T: Copy + Ord>(left: &Range<T>, right: &Range<T>) -> bool {
+    left.start.max(right.start) < left.end.min(right.end)
+}

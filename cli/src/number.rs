@@ -45,6 +45,11 @@ pub fn cell(word: &str) -> Result<u32, NoCell> {
     }
 }
 
+/// A number from 0 to 2^32 - 1, as an address or a count.
+pub fn unsigned(word: &str) -> Option<u32> {
+    u32::try_from(whole(word).ok()?).ok()
+}
+
 /// A cell in decimal, and in hexadecimal where that says more.
 pub fn shown(value: u32) -> String {
     if value < 10 {

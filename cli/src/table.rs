@@ -35,14 +35,17 @@ impl Asked {
         Ok(Asked::These(Table { first, end }))
     }
 
-    /// The table, where the rule's own cells are these.
-    pub fn table(self, code: Range<u32>) -> Table {
+    /// The table, where the rule's own cells are these, if they are one range.
+    pub fn table(
+        self,
+        code: impl FnOnce() -> Result<Range<u32>, Failure>,
+    ) -> Result<Table, Failure> {
         match self {
-            Asked::Code => Table {
-                first: code.start,
-                end: code.end,
-            },
-            Asked::These(table) => table,
+            Asked::Code => {
+                let Range { start: first, end } = code()?;
+                Ok(Table { first, end })
+            }
+            Asked::These(table) => Ok(table),
         }
     }
 }

@@ -130,7 +130,7 @@ fn begin(arguments: &Arguments) -> Result<Begun, Failure> {
         return Err(Failure::Other(text));
     };
     place.copy_from_slice(&packed.image);
-    let table = table.table(base..packed.end());
+    let table = table.table(|| Ok(base..packed.end()))?;
     let limits = Limits { areas, table };
     let (registers, _) = library::start(packed.order, &mut memory, base, handler, limits)?;
     Ok(Begun {

@@ -1,32 +1,36 @@
-//! `beetle run`: a module is loaded, started and run until it stops.
+//! `beetle run`: a module, or a rule set, is loaded, started and run until it stops.
 
 use std::io::Write;
 use std::time::{Duration, Instant};
 
-use super::load::USUAL_ADDRESS;
 use crate::areas::Areas;
 use crate::arguments::{Arguments, Takes};
 use crate::failure::Failure;
 use crate::library::{self, Registers};
 use crate::limits::Limits;
+use crate::memory;
+use crate::placed::Given;
 use crate::reasons::{self, BAD_HANDLER, BAD_STACK};
 use crate::report::{self, State};
 use crate::table::{Asked, Table};
-use crate::{files, memory};
 
 pub const HELP: &str = "\
 beetle run MODULE [--memory BYTES] [--order 0|1] [--address ADDRESS]
            [--entry ADDRESS] [--handler ADDRESS] [--budget CYCLES]
            [--data-area TOP,CELLS --return-area TOP,CELLS]
            [--table code | --table FIRST,END]
+beetle run FILE@ADDRESS .. [the same without --address]
 
 Loads an object module, starts the machine and runs it, all by the proved library, then
-prints why it stopped, the cycles done, the registers and the tops of both stacks.
+prints why it stopped, the cycles done, the registers and the tops of both stacks. With
+FILE@ADDRESS a rule set is loaded instead, up to sixteen modules each at its own address,
+all of them or none: 'beetle load --help' says more.
 
   --memory BYTES     length of the machine's memory, 65536 without it
   --order 0|1        the machine's byte order: 0 (as without it) least byte first
-  --address ADDRESS  where to load, 10h without it
-  --entry ADDRESS    where to begin, the address of loading without it
+  --address ADDRESS  where to load MODULE, 10h without it
+  --entry ADDRESS    where to begin, the address of loading without it; of a rule set that
+                     of the module named first
   --handler ADDRESS  'THROW, where a throw leads. FFFFFFFFh without it, which is no
                      address: the first throw stops the machine with -259
   --budget CYCLES    the most cycles to run; without it the run ends when the machine
@@ -39,8 +43,10 @@ prints why it stopped, the cycles done, the registers and the tops of both stack
   --table code, --table FIRST,END
                      cells that the rule can read but not write: with 'code' those of the
                      module as it was loaded, else those from FIRST up to END, END not one
-                     of them. A store there throws -20. A throw whose own code would go
-                     there stops the machine with -258
+                     of them. The cells of a rule set are all those of its modules, which
+                     have to lie end to end for 'code', named in whatever sequence. A
+                     store there throws -20. A throw whose own code would go there stops
+                     the machine with -258
 
 Numbers are decimal, or hexadecimal with an h. The exit status is 0 if HALT stopped the
 machine, and 1 for a refusal, a stop with -258 or -259, or a budget that was spent. (A
@@ -48,7 +54,7 @@ rule may give -258 or -259 to HALT; the status is 1 then too.)
 ";
 
 const TAKES: Takes = Takes {
-    files: &["MODULE"],
+    files: &["MODULE or FILE@ADDRESS"],
     options: &[
         "--memory",
         "--order",
@@ -76,19 +82,21 @@ struct Ended {
 }
 
 pub fn carry_out(words: &[String], out: &mut dyn Write) -> Result<u8, Failure> {
-    let arguments = Arguments::read(words, &TAKES)?;
+    let arguments = Arguments::read_several(words, &TAKES)?;
     let order = arguments.order()?;
-    let address = arguments.cell("--address")?.unwrap_or(USUAL_ADDRESS);
-    let entry = arguments.cell("--entry")?.unwrap_or(address);
+    let given = Given::read(&arguments)?;
+    let entry = arguments.cell("--entry")?.unwrap_or(given.address());
     let handler = arguments.cell("--handler")?.unwrap_or(NO_HANDLER);
     let budget = arguments.number("--budget", u64::MAX)?;
     let areas = Areas::asked_for(&arguments)?;
     let table = Asked::read(&arguments)?;
     let mut lent = memory::lent(&arguments)?;
-    let file = files::read(arguments.file(0))?;
-    let count = library::load(order, &mut lent, &file, address)?;
-    writeln!(out, "loaded {count} cells at {address:X}h")?;
-    let table = table.table(address..address + 4 * count);
+    let loaded = given.load(order, &mut lent)?;
+    let table = table.table(|| loaded.code())?;
+    let lines = loaded.modules.iter().map(|module| loaded.line(module));
+    for line in lines.chain(loaded.last_line()) {
+        writeln!(out, "loaded {line}")?;
+    }
     let limits = Limits { areas, table };
     let (mut registers, stopped) = library::start(order, &mut lent, entry, handler, limits)?;
     let ended = match stopped {
