@@ -6,6 +6,8 @@ mod folder;
 mod listings;
 mod machines;
 mod refused;
+mod sets;
+mod sets_refused;
 mod short;
 mod short_refused;
 mod tables;
