@@ -1,5 +1,5 @@
-//! The rules of `examples/` run as their stored output says, in both byte orders, with their own
-//! cells protected and without.
+//! The rules of `examples/` and the rule set run as their stored output says, in both byte orders, with
+//! their own cells protected and without.
 
 use crate::folder::Folder;
 use std::ffi::OsString;
@@ -11,13 +11,13 @@ pub fn example(file: &str) -> String {
     fs::read_to_string(format!("{EXAMPLES}{file}")).expect("an example")
 }
 
-/// The names of all rules there.
+/// The names of all texts there.
 pub fn names() -> Vec<String> {
     let files = fs::read_dir(EXAMPLES).expect("the folder of examples");
     let files = files.map(|file| file.expect("a file").file_name());
     let name = |file: OsString| Some(file.to_str()?.strip_suffix(".txt")?.to_string());
     let names: Vec<String> = files.filter_map(name).collect();
-    assert_eq!(names.len(), 6);
+    assert_eq!(names.len(), 8);
     names
 }
 
@@ -142,4 +142,41 @@ fn school_with_a_table() {
         assert_eq!(followed.matches("\nthrew ").count(), 1);
         assert!(followed.contains(threw), "{followed}");
     }
+}
+
+/// A folder with both modules of the rule set, each saved in its own byte order.
+fn with_set(test: &str, orders: [&str; 2]) -> Folder {
+    let folder = Folder::new(test);
+    for (name, order) in ["pupils", "years"].into_iter().zip(orders) {
+        folder.rule(&example(&format!("{name}.txt")));
+        folder.done(&format!("save rule.lst -o {name}.mod --order {order}"));
+    }
+    folder
+}
+
+#[test]
+fn pupils_with_years() {
+    let expected = example("pupils.expected");
+    for orders in [["0", "0"], ["0", "1"], ["1", "0"], ["1", "1"]] {
+        let folder = with_set("pupils_with_years", orders);
+        for order in ["0", "1"] {
+            for table in [TABLES[0], "--table 10h,424h"] {
+                let options = format!("--order {order} {table}");
+                let words = format!("run pupils.mod@10h years.mod@400h {options}");
+                assert_eq!(folder.done(&words), expected);
+            }
+        }
+    }
+}
+
+/// The rule alone has nothing to call, and the list machine stands in front of the call.
+#[test]
+fn pupils_without_years() {
+    let folder = with_rule("pupils_without_years", "pupils");
+    let said = folder.beetle("run rule.mod");
+    assert_eq!(said.status, 1);
+    assert!(said.output.contains("\nthrown: -256, "), "{said:?}");
+    let followed = folder.done("follow rule.lst --beside");
+    let outside = "(EXECUTE): it transfers to no entry, after 22 items and 26 cycles\n";
+    assert!(followed.ends_with(outside), "{followed}");
 }

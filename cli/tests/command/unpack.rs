@@ -28,7 +28,7 @@ fn what_was_done_is_told() {
     assert_eq!(shown.lines().count(), 2 + 4);
 }
 
-/// A base other than that of the examples.
+/// A base other than that of most examples.
 const HIGHER: &str = "base 400h\n1 BRANCH on DUP on: 800000h CALL on DUP DUP DUP BRANCH on";
 
 /// The base as `save` tells it.
@@ -40,7 +40,7 @@ fn base_told(saved: &str) -> &str {
     base
 }
 
-/// The texts of all examples, and one with another base.
+/// The texts of all examples, and one more.
 fn texts() -> Vec<String> {
     let examples = names().into_iter().map(|name| format!("{name}.txt"));
     let mut texts: Vec<String> = examples.map(|file| example(&file)).collect();
