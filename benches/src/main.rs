@@ -10,6 +10,7 @@ mod measure;
 mod modules;
 mod packing;
 mod peer;
+mod sets;
 mod sides;
 mod tables;
 
@@ -18,8 +19,9 @@ use std::process::ExitCode;
 
 use sides::Side;
 
-/// `count SIDE loop AT CYCLES` runs a loop, `count SIDE module AT TIMES` loads or saves, `count proved
-/// listing AT TIMES` takes a listing in one of its forms, and does nothing else, for callgrind to count.
+/// `count SIDE loop AT CYCLES` runs a loop, `count SIDE module AT TIMES` loads or saves, `count SIDE set
+/// AT TIMES` loads cells as one module or as sixteen, `count proved listing AT TIMES` takes a listing in
+/// one of its forms, and does nothing else, for callgrind to count.
 fn count(words: &[String]) -> Option<()> {
     let [_, side, what, at, amount] = words else {
         return None;
@@ -33,6 +35,7 @@ fn count(words: &[String]) -> Option<()> {
             drop(case.run(case.run_of(side)?, amount));
         }
         "module" => modules::repeat(&side.calls()?, at, amount)?,
+        "set" => sets::repeat(&side.calls()?, at, amount)?,
         "listing" if side == Side::Proved => files::repeat(at, amount)?,
         _ => return None,
     }
@@ -47,6 +50,7 @@ fn main() -> ExitCode {
             packing::table();
             files::table();
             modules::tables();
+            sets::table();
             Some(ExitCode::SUCCESS)
         }
         Some("bounds") if words.len() == 1 => Some(bounds::check()),

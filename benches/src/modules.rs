@@ -32,8 +32,14 @@ const SIZES: [u32; 2] = [1 << 18, (1 << 22) - 4];
 const COUNTED: u32 = 20_000;
 const TIMES: [u32; 2] = [1, 11];
 
-/// A module file of so many cells, in an order.
-fn module(order: u8, cells: u32) -> Vec<u8> {
+/// The bytes of so many cells.
+pub fn code(cells: u32) -> Vec<u8> {
+    (0..4 * cells).map(|at| (at % 251) as u8).collect()
+}
+
+/// A module file of these cells, in an order.
+pub fn module(order: u8, code: &[u8]) -> Vec<u8> {
+    let cells = (code.len() / 4) as u32;
     let mut file = b"BEETLE\0".to_vec();
     file.push(order);
     file.extend(if order == 0 {
@@ -41,7 +47,7 @@ fn module(order: u8, cells: u32) -> Vec<u8> {
     } else {
         cells.to_be_bytes()
     });
-    file.extend((0..4 * cells).map(|at| (at % 251) as u8));
+    file.extend(code);
     file
 }
 
@@ -49,7 +55,7 @@ fn module(order: u8, cells: u32) -> Vec<u8> {
 fn doing(calls: Implementation, act: Act, cells: u32) -> impl FnMut() {
     let mut memory = vec![7; 16 + 4 * cells as usize];
     let mut file = match act {
-        Act::Load(order) | Act::First(order) => module(order, cells),
+        Act::Load(order) | Act::First(order) => module(order, &code(cells)),
         Act::Save => vec![0; 12 + 4 * cells as usize],
     };
     move || {
@@ -73,7 +79,7 @@ pub fn repeat(calls: &Implementation, at: usize, times: u32) -> Option<()> {
 
 /// The shortest time of an act in microseconds. Each is timed by itself, with its bytes in the
 /// host's caches where they fit, so that a plain copy can be held against it.
-fn microseconds(act: impl FnMut()) -> f64 {
+pub fn microseconds(act: impl FnMut()) -> f64 {
     let [time] = nanoseconds([act]);
     time / 1000.0
 }
