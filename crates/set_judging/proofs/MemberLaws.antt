@@ -1,11 +1,11 @@
 -- The modules of a list of numbers, from each number on.
-use mathlib.Core.Path.{_≡_, refl, ap, _∙_}
+use mathlib.Core.Path.{_≡_, refl, _∙_}
 use mathlib.Core.List.{List, [], _∷_}
 use Prim.Native.Nat.{ℕ, zero, suc, _+_, _*_, _/_, _≤_, _<_}
 use native.Mathlib.Omega.{arith}
-use lib.ListN.{length, getD, drop}
+use lib.ListN.{length, drop}
 use Rattle.set_judging.specs.declared.Member.{Member}
-use Rattle.set_judging.specs.Members.{member, membersOf, memberAt}
+use Rattle.set_judging.specs.Members.{membersOf, memberAt}
 
 -- a third as many modules as numbers
 pub members-length : (numbers : List ℕ) → length (membersOf numbers) ≡ length numbers / 3
@@ -15,7 +15,7 @@ members-length (a ∷ place ∷ []) = refl
 members-length (a ∷ place ∷ size ∷ rest) = let e = members-length rest in omega (arith, e)
 
 -- module k behind three other numbers is the one before it without them
-at-next : (a place size : ℕ) (rest : List ℕ) (k : ℕ) → memberAt (a ∷ place ∷ size ∷ rest) (suc k) ≡ memberAt rest k
+pub at-next : (a place size : ℕ) (rest : List ℕ) (k : ℕ) → memberAt (a ∷ place ∷ size ∷ rest) (suc k) ≡ memberAt rest k
 at-next a place size rest k =
     let e : 3 * suc k ≡ suc (suc (suc (3 * k))) = omega arith in
     let f : suc (suc (suc (3 * k))) + 1 ≡ suc (suc (suc (3 * k + 1))) = omega arith in

@@ -1,7 +1,7 @@
 -- Modules that share a byte: by their counts and by their lengths alike.
-use mathlib.Core.Path.{_≡_, refl, ap}
+use mathlib.Core.Path.{_≡_, refl}
 use mathlib.Core.List.{List, [], _∷_}
-use Prim.Native.Nat.{ℕ, _+_, _-_, _*_}
+use Prim.Native.Nat.{ℕ}
 use native.Mathlib.Omega.{arith}
 use Rattle.cell.specs.declared.Judged.the-variants.{Passed}
 use Rattle.set_judging.specs.declared.Member.{Member}
