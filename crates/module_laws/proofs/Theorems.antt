@@ -53,7 +53,7 @@ saved-exactly order m a l out =
     }
 
 -- what an accepted save wrote is the module
-saved-file : (order : ℕ) (m : List ℕ) (b l : ℕ) (out : List ℕ) → Savable order m b l out
+pub saved-file : (order : ℕ) (m : List ℕ) (b l : ℕ) (out : List ℕ) → Savable order m b l out
     → savedFile (saveOf order m b l out) ≡ moduleOf order m b l
 unfolding saveOf
 saved-file order m b l out g =

@@ -1,0 +1,2 @@
+-- The theorem of crate `approved_sets`.
+pub mod Theorem

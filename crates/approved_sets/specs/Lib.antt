@@ -1,0 +1,2 @@
+-- What crate `approved_sets` claims.
+pub mod ApprovedSets
