@@ -75,7 +75,7 @@ approved-set-runs theirs base l p packs q office b low stands out saved ours cen
     let c : countOf (fileOf buffer x) ≡ p .count = ap countOf (given .bytes) ∙ n in
     let place : GoodPlace (length before) base (p .count) =
     record {
-      aligned = rw (← given .address) (g .place .aligned);
+      aligned = omega (arith, g .place .aligned, given .address);
       inside = omega (arith, g .place .inside, given .address);
       room = omega (arith, g .place .room, given .address, c);
     } in
