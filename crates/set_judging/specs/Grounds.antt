@@ -27,7 +27,7 @@ abbrev pub judgeMembers : ℕ → ℕ → List ℕ → List Member → Judged
 judgeMembers len order buffer [] = Passed
 judgeMembers len order buffer (x ∷ xs) = after (judgeMember len order buffer x) (judgeMembers len order buffer xs)
 
--- -4113: numbers that are not three for each module, no module, more than sixteen, or two that share a byte, told where each ends
+-- -4113: numbers left over behind the last three, a set of none or of seventeen and up, or a byte that two of it take, told where each ends
 abbrev pub moduleSet : (Member → ℕ) → List ℕ → Ground
 moduleSet end numbers =
     let xs = membersOf numbers in
