@@ -2,6 +2,9 @@
 use borrow.Author.Tests.{lt-ltb, le-ltb}
 use Rattle.set_judging.specs.Grounds as grounds
 use borrow.Author.Needs.{needs}
+use Prim.Native.Nat.{_+_}
+use native.Mathlib.Omega.{arith}
+use lib.ListN.{length}
 use Rattle.set_judging.proofs.judgement.judge_member.Statement.{statement}
 use Rattle.set_judging.proofs.judgement.judge_member.Tie as tie
 
@@ -16,7 +19,9 @@ add-if1 c = search needs
 
 returns : tie.Need-returns
 unfolding grounds.judgeMember
-returns c = rw (lt-ltb _ _ (c .if1 .taken))
+returns c =
+    let x = c .before .before .before .before .args in
+    rw (lt-ltb (length (x .buffer .now)) (x .x .place + x .x .size) (omega (arith, c .if1 .taken)))
 
 file-of-requires : tie.Need-file-of-requires
 file-of-requires c κs = search needs
@@ -26,7 +31,10 @@ judge-load-requires c κs = search needs
 
 returns-2 : tie.Need-returns-2
 unfolding grounds.judgeMember
-returns-2 c = rw (le-ltb _ _ (c .before .before .before .if1 .left)) (rw (c .judge-load .ensures, c .before .file-of .ensures))
+returns-2 c =
+    let x = c .before .before .before .before .before .before .before .args in
+    rw (le-ltb (length (x .buffer .now)) (x .x .place + x .x .size) (omega (arith, c .before .before .before .if1 .left)))
+    (rw (c .judge-load .ensures, c .before .file-of .ensures))
 
 pub judge-member-spec : {M : Type 1} → statement M
 judge-member-spec =
