@@ -5,7 +5,7 @@ ghost use lib.ListN.{length};
 ghost use Rattle.machine.specs.Places as places;
 ghost use Rattle.machine.specs.Commits as commits;
 ghost use Rattle.instruction.specs.Dispatch as dispatch;
-use crate::from_2c::execute_from_2c;
+use dispatch_2c::from_2c::execute_from_2c;
 use commits::commit::commit_one;
 use commits::commit::commit_two;
 use instruction::shape::push;

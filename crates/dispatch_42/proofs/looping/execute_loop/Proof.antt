@@ -1,7 +1,7 @@
 -- `execute_loop` meets its contract: the opcode gives the form and the loop.
 use borrow.Author.Needs.{needs}
-use Rattle.dispatch.proofs.looping.execute_loop.Statement.{statement}
-use Rattle.dispatch.proofs.looping.execute_loop.Tie as tie
+use Rattle.dispatch_42.proofs.looping.execute_loop.Statement.{statement}
+use Rattle.dispatch_42.proofs.looping.execute_loop.Tie as tie
 use denote.Ref.{now}
 use mathlib.Core.Path.{_∙_, ap}
 use Rattle.machine.specs.Commits as commits

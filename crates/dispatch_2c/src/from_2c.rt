@@ -5,7 +5,7 @@ ghost use lib.ListN.{length};
 ghost use Rattle.machine.specs.Places as places;
 ghost use Rattle.machine.specs.Commits as commits;
 ghost use Rattle.instruction.specs.Dispatch as dispatch;
-use crate::from_42::execute_from_42;
+use dispatch_42::from_42::execute_from_42;
 use commits::commit::commit_byte;
 use commits::commit::commit_none;
 use commits::commit::commit_one;

@@ -6,8 +6,8 @@ use Rattle.machine.specs.Commits as commits
 use Rattle.instruction.specs.Plain as plain
 use Rattle.instruction.specs.Dispatch as dispatch
 use Rattle.instruction.proofs.OpcodeLaws.{past}
-use Rattle.dispatch.proofs.from_2c.execute_from_2c.Statement.{statement}
-use Rattle.dispatch.proofs.from_2c.execute_from_2c.Tie as tie
+use Rattle.dispatch_2c.proofs.from_2c.execute_from_2c.Statement.{statement}
+use Rattle.dispatch_2c.proofs.from_2c.execute_from_2c.Tie as tie
 
 cells-requires : tie.Need-cells-requires
 cells-requires c κs = search needs

@@ -1,6 +1,6 @@
 -- `form_of` meets its contract.
-use Rattle.dispatch.proofs.looping.form_of.Statement.{statement}
-use Rattle.dispatch.proofs.looping.form_of.Tie as tie
+use Rattle.dispatch_42.proofs.looping.form_of.Statement.{statement}
+use Rattle.dispatch_42.proofs.looping.form_of.Tie as tie
 use borrow.Author.Tests.{eq-eqb, ne-eqb}
 
 returns : tie.Need-returns

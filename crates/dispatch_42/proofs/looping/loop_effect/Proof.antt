@@ -1,7 +1,7 @@
 -- `loop_effect` meets its contract.
 use borrow.Author.Needs.{needs}
-use Rattle.dispatch.proofs.looping.loop_effect.Statement.{statement}
-use Rattle.dispatch.proofs.looping.loop_effect.Tie as tie
+use Rattle.dispatch_42.proofs.looping.loop_effect.Statement.{statement}
+use Rattle.dispatch_42.proofs.looping.loop_effect.Tie as tie
 use borrow.Author.Tests.{lt-ltb, le-ltb}
 
 step-loop-requires : tie.Need-step-loop-requires

@@ -10,8 +10,8 @@ use Rattle.instruction.specs.Plain as plain
 use Rattle.instruction.specs.declared.OperandForm.the-variants.{InCell, Immediate}
 use Rattle.instruction.specs.Dispatch as dispatch
 use Rattle.instruction.proofs.OpcodeLaws.{past, loop-quarter, illegal-is}
-use Rattle.dispatch.proofs.from_42.execute_from_42.Statement.{statement}
-use Rattle.dispatch.proofs.from_42.execute_from_42.Tie as tie
+use Rattle.dispatch_42.proofs.from_42.execute_from_42.Statement.{statement}
+use Rattle.dispatch_42.proofs.from_42.execute_from_42.Tie as tie
 
 branch-requires : tie.Need-branch-requires
 branch-requires c κs = search needs
