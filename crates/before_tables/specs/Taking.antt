@@ -10,7 +10,7 @@ use Rattle.machine.specs.Effects.{cellStore, goOn, jump, Effect, fetched}
 use Rattle.machine.specs.declared.Registers.{Registers}
 use Rattle.machine.specs.declared.Access.the-variants.{DataRead, ReturnRead, ReturnWrite, Stream}
 use Rattle.instruction.specs.Plain.{action, pushes}
-use Rattle.instruction.specs.Counting.{loopEnds, plusEnds}
+use Rattle.counting.specs.Counting.{loopEnds, plusEnds}
 use Rattle.instruction.specs.Taking.{Taking, branch, questionBranch, call, loop, plusLoop, literal, afterOf}
 use Rattle.instruction.specs.declared.OperandForm.{OperandForm}
 use Rattle.instruction.specs.declared.OperandForm.the-variants.{InCell, Immediate}

@@ -1,4 +1,3 @@
 -- Laws that belong to no one function.
 pub mod ShapeLaws
-pub mod CountingLaws
 pub mod OpcodeLaws

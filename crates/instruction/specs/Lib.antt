@@ -1,5 +1,4 @@
 -- What each instruction asks for and does, and its opcode.
 pub mod Plain
-pub mod Counting
 pub mod Taking
 pub mod Dispatch

@@ -16,7 +16,7 @@ use Rattle.machine.specs.declared.Outcome.{Outcome}
 use Rattle.machine.specs.declared.Outcome.the-variants.{Went, Next, Raise, Halt, Throw}
 use Rattle.machine.specs.declared.Access.the-variants.{Stream, ReturnWrite}
 use Rattle.instruction.specs.Plain.{action, pushes, data1, return2}
-use Rattle.instruction.specs.Counting.{loopEnds, plusEnds}
+use Rattle.counting.specs.Counting.{loopEnds, plusEnds}
 use Rattle.instruction.specs.declared.OperandForm.{OperandForm}
 use Rattle.instruction.specs.declared.OperandForm.the-variants.{InCell, Immediate}
 

@@ -1,6 +1,5 @@
 // The instructions, and the parts that their effects share. The effects, what each instruction of table 7 (document 001) asks for before anything
 // is written, stand in the crates `storage`, `operators` and `flow`.
-pub mod counting;
 pub mod shape;
 
 // The instructions in opcode order. `Illegal` stands for every opcode that raises -256.

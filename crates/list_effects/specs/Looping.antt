@@ -9,7 +9,7 @@ use Rattle.machine.specs.Effects.{cellStore, goOn, jump, Effect}
 use Rattle.machine.specs.declared.Machine.{Machine}
 use Rattle.machine.specs.declared.Access.the-variants.{ReturnWrite}
 use Rattle.instruction.specs.Plain.{action, return2}
-use Rattle.instruction.specs.Counting.{plusEnds}
+use Rattle.counting.specs.Counting.{plusEnds}
 
 -- whether the step ends the loop: that of (LOOP), or that of (+LOOP)
 abbrev pub stepEnds : Bool → ℕ → ℕ → ℕ → Bool

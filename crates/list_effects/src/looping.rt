@@ -10,7 +10,7 @@ ghost use Rattle.list_effects.specs.Looping as looping;
 use cell::Address;
 use cell::Fetched;
 use cell::number::add;
-use instruction::counting::plus_ends;
+use counting::plus_ends;
 use instruction::shape::fail_maybe;
 use instruction::shape::write_nothing;
 use machine::Machine;

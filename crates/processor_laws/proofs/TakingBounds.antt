@@ -9,7 +9,7 @@ use Rattle.cell.specs.declared.Fetched.{Fetched}
 use Rattle.machine.specs.declared.Machine.{Machine}
 use Rattle.machine.specs.declared.Registers.{Registers}
 use Rattle.machine.specs.declared.Access.the-variants.{Stream, DataRead, ReturnRead}
-use Rattle.instruction.specs.Counting.{loopEnds, plusEnds}
+use Rattle.counting.specs.Counting.{loopEnds, plusEnds}
 use Rattle.instruction.specs.Taking.{Taking, branch, questionBranch, call, loop, plusLoop, literal, takingOf, takingAt, branchOperand, literalOperand, operandOf, afterOf}
 use Rattle.instruction.specs.declared.OperandForm.{OperandForm}
 use Rattle.instruction.specs.declared.OperandForm.the-variants.{InCell, Immediate}

@@ -15,7 +15,7 @@ use Rattle.machine.specs.Effects.{Store, Control, Action, Effect, act, raise, f
 use Rattle.machine.specs.declared.Machine.{Machine}
 use Rattle.machine.specs.declared.Access.{Access}
 use Rattle.machine.specs.declared.Access.the-variants.{DataRead, ReturnRead, NamedRead}
-use Rattle.instruction.specs.Counting.{loopEnds, plusEnds}
+use Rattle.counting.specs.Counting.{loopEnds, plusEnds}
 use Rattle.instruction.specs.Plain.{action, pushes, fetchDeep, halted, plainOf}
 use Rattle.instruction.specs.Taking.{Taking, branch, questionBranch, call, loop, plusLoop, literal, takingOf}
 use Rattle.instruction.specs.declared.Instruction.{Instruction}

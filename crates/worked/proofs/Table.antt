@@ -15,7 +15,7 @@ use Rattle.machine.specs.Effects.{rollStores}
 use Rattle.machine.specs.Commits.{placesOf, storedOf, commitOf}
 use Rattle.throws.specs.Throws.{handlerOf, throwOf, throwingOf, nextOf, finishOf}
 use Rattle.instruction.specs.Plain.{plainOf}
-use Rattle.instruction.specs.Counting.{plusEnds}
+use Rattle.counting.specs.Counting.{plusEnds}
 use Rattle.instruction.specs.Taking.{takingOf}
 use Rattle.instruction.specs.Dispatch.{decodeOf, executeOf}
 use Rattle.cycles.specs.Cycles.{cycleOf, advance, cyclesOf}

@@ -1,12 +1,12 @@
 -- `step_loop` meets its contract: a fetch that fails is raised, and else the effect is the clause of specs/.
 use borrow.Author.Needs.{needs}
-use Rattle.flow.proofs.control.step_loop.Statement.{statement}
-use Rattle.flow.proofs.control.step_loop.Tie as tie
+use Rattle.loops.proofs.step_loop.Statement.{statement}
+use Rattle.loops.proofs.step_loop.Tie as tie
 use Rattle.instruction.specs.Taking as taking
 use Rattle.instruction.specs.Plain as plain
 use borrow.Author.Tests.{eq-eqb, ne-eqb}
 use mathlib.Core.Path.{_∙_, sym, ap}
-use Rattle.flow.proofs.LoopLaws.{loop-ends, loop-fails, loop-goes-on}
+use Rattle.loops.proofs.LoopLaws.{loop-ends, loop-fails, loop-goes-on}
 use denote.Ref.{now}
 
 fetch-return-requires : tie.Need-fetch-return-requires

@@ -1,11 +1,11 @@
 -- `step_plus_loop` meets its contract: a fetch that fails is raised, and else the effect is the clause of specs/.
 use borrow.Author.Needs.{needs}
-use Rattle.flow.proofs.control.step_plus_loop.Statement.{statement}
-use Rattle.flow.proofs.control.step_plus_loop.Tie as tie
+use Rattle.loops.proofs.step_plus_loop.Statement.{statement}
+use Rattle.loops.proofs.step_plus_loop.Tie as tie
 use Rattle.instruction.specs.Taking as taking
 use Rattle.instruction.specs.Plain as plain
 use mathlib.Core.Path.{_∙_, sym, ap, ap₂}
-use Rattle.flow.proofs.LoopLaws.{plus-loop-ends, plus-loop-fails, plus-loop-goes-on}
+use Rattle.loops.proofs.LoopLaws.{plus-loop-ends, plus-loop-fails, plus-loop-goes-on}
 use denote.Ref.{now}
 
 fetch-data-requires : tie.Need-fetch-data-requires

@@ -1,10 +1,10 @@
 -- `plus_ends` meets its contract, by the sign of the step.
 use borrow.Author.Needs.{needs}
-use Rattle.instruction.proofs.counting.plus_ends.Statement.{statement}
-use Rattle.instruction.proofs.counting.plus_ends.Tie as tie
+use Rattle.counting.proofs.plus_ends.Statement.{statement}
+use Rattle.counting.proofs.plus_ends.Tie as tie
 use mathlib.Core.Path.{sym}
 use native.Mathlib.Omega.{arith}
-use Rattle.instruction.proofs.CountingLaws.{up-behind, down-behind}
+use Rattle.counting.proofs.CountingLaws.{up-behind, down-behind}
 
 subtract-requires : tie.Need-subtract-requires
 subtract-requires c κs = search needs

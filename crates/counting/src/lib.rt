@@ -2,7 +2,7 @@
 ghost use mathlib.Core.Path.{_≡_};
 ghost use Prim.Native.Nat.{ℕ, _<_, _^_};
 ghost use Rattle.cell.specs.Number as number;
-ghost use Rattle.instruction.specs.Counting as counting;
+ghost use Rattle.counting.specs.Counting as counting;
 use cell::number::subtract;
 
 // Whether (+LOOP) by n, to the index `next`, ends. It has gone over the border if it is now less than its own step behind it.

@@ -9,7 +9,7 @@ use lib.Dec.{leb, ltb, eqb}
 use lib.IntN.{pos, _+ℤ_, subℕ}
 use borrow.Author.Tests.{leb-true, leb-false, eq-eqb, ne-eqb, lt-leb, le-leb, lt-ltb, le-ltb}
 use Rattle.cell.specs.Number.{sum, difference, negated}
-use Rattle.instruction.specs.Counting.{signed, offCircle, plusEnds, Cases, LoopIsByOne, ByZeroGoesOn, indexAfter, CountsUp, CountsDown}
+use Rattle.counting.specs.Counting.{signed, offCircle, plusEnds, Cases, LoopIsByOne, ByZeroGoesOn, indexAfter, CountsUp, CountsDown}
 
 pub cases : Cases
 unfolding plusEnds sum difference

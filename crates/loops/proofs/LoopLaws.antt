@@ -12,7 +12,7 @@ use Rattle.machine.specs.Effects.{cellStore, goOn, jump, raise}
 use Rattle.machine.specs.declared.Machine.{Machine}
 use Rattle.machine.specs.declared.Access.the-variants.{DataRead, ReturnRead, ReturnWrite}
 use Rattle.instruction.specs.Plain.{action}
-use Rattle.instruction.specs.Counting.{loopEnds, plusEnds}
+use Rattle.counting.specs.Counting.{loopEnds, plusEnds}
 use Rattle.instruction.specs.Taking.{loop, plusLoop, takingOf}
 
 module _ (machine : Machine) (m : List ℕ) (sp rp after index limit : ℕ) (first : fetchOf machine ReturnRead m rp ≡ Cell index)

@@ -1,7 +1,7 @@
 -- `unloop` meets its contract: a fetch that fails is raised, and else the effect is the clause of specs/.
 use borrow.Author.Needs.{needs}
-use Rattle.flow.proofs.control.unloop.Statement.{statement}
-use Rattle.flow.proofs.control.unloop.Tie as tie
+use Rattle.loops.proofs.unloop.Statement.{statement}
+use Rattle.loops.proofs.unloop.Tie as tie
 use Rattle.instruction.specs.Plain as plain
 use mathlib.Core.Path.{_∙_, sym, ap}
 

@@ -1,0 +1,2 @@
+-- Laws of counting loops.
+pub mod CountingLaws

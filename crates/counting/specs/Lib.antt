@@ -1,0 +1,2 @@
+-- When a counting loop ends.
+pub mod Counting
