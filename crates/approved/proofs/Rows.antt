@@ -9,7 +9,7 @@ use Rattle.areas.specs.Areas.{judgeAreas}
 use Rattle.code_tables.specs.Tables.{judgeTable}
 use Rattle.bounds.specs.Bounds.{judgeBounded}
 use Rattle.machine.specs.Places.{placeOf, fetchOf}
-use Rattle.throws.specs.Exceptions.{exceptionOf}
+use Rattle.exceptions.specs.Exceptions.{exceptionOf}
 use Rattle.machine.specs.Commits.{placesOf, storedOf, commitOf}
 use Rattle.throws.specs.Throws.{handlerOf, throwOf, nextOf, finishOf}
 use Rattle.instruction.specs.Plain.{plainOf}

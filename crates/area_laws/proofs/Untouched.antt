@@ -19,7 +19,7 @@ use Rattle.cell.proofs.MemoryLaws.{cell-frame, alike-refl, alike-trans}
 use Rattle.machine.specs.Places.{oneCell, placeOf, fetchOf}
 use Rattle.machine.specs.Effects.{Store, cellStore, Action, Effect, act, raise}
 use Rattle.machine.specs.Commits.{Stepped, placesOf, storedOf, carriedOut, commitOf, touches}
-use Rattle.throws.specs.Exceptions.{exceptionOf, exceptionCode}
+use Rattle.exceptions.specs.Exceptions.{exceptionOf, exceptionCode}
 use Rattle.throws.specs.Throws.{CycleState, cycleState, badStack, badCell, handlerCell, handed, handlerOf, noted, pushed, throwOf, throwingOf, nexted, nextOf, finished, finishOf}
 use Rattle.machine.specs.declared.Machine.{Machine}
 use Rattle.machine.specs.declared.Registers.{Registers}

@@ -7,7 +7,7 @@ use Rattle.cell.specs.Refusals.{Lent}
 use Rattle.cell.specs.declared.Checked.{Checked}
 use Rattle.cell.specs.declared.Fault.{Fault}
 use Rattle.machine.specs.Places.{oneCell, noTable, unbounded}
-use Rattle.throws.specs.Exceptions.{exceptionOf}
+use Rattle.exceptions.specs.Exceptions.{exceptionOf}
 use Rattle.machine.specs.Effects.{Control, goOn, jump, halt, throwing, Action, Effect}
 use Rattle.machine.specs.Commits.{touches}
 use Rattle.throws.specs.Throws.{CycleState}

@@ -13,7 +13,7 @@ use Rattle.cell.specs.Refusals.{Lent}
 use Rattle.cell.specs.declared.Fault.the-variants.{Range, Alignment}
 use Rattle.cell.specs.declared.Checked.the-variants.{Good, Bad}
 use Rattle.machine.specs.Places.{Width, oneByte, oneCell, wholeMemory, noTable, unbounded, within, allowed, faultAt, openTo, placeOf, fetchOf, fetchByteOf}
-use Rattle.throws.specs.Exceptions.{exceptionOf}
+use Rattle.exceptions.specs.Exceptions.{exceptionOf}
 use Rattle.machine.specs.declared.Access.{Access}
 use Rattle.machine.specs.declared.Access.the-variants.{DataRead, DataWrite, ReturnRead, ReturnWrite, NamedRead, NamedWrite, Stream, Push}
 use Rattle.before_tables.proofs.EffectLaws.{Told, Judges, good, bad, Alike, reads}

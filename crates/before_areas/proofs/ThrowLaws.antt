@@ -14,7 +14,7 @@ use Rattle.cell.specs.declared.Fault.{Fault}
 use Rattle.cell.specs.declared.Fault.the-variants as fault
 use Rattle.cell.specs.declared.Fetched.{Fetched}
 use Rattle.machine.specs.Places.{oneCell, noTable, unbounded, placeOf, fetchOf}
-use Rattle.throws.specs.Exceptions.{exceptionOf}
+use Rattle.exceptions.specs.Exceptions.{exceptionOf}
 use Rattle.machine.specs.Commits.{Stepped}
 use Rattle.throws.specs.Throws.{handlerOf, pushed, throwOf, throwingOf, nexted, nextOf, finishOf}
 use Rattle.machine.specs.declared.Machine.{Machine}

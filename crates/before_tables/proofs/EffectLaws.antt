@@ -14,7 +14,7 @@ use Rattle.cell.specs.declared.Checked.the-variants.{Good, Bad}
 use Rattle.cell.specs.declared.Fetched.{Fetched}
 use Rattle.cell.specs.declared.Fetched.the-variants.{Cell, Failed}
 use Rattle.machine.specs.Places.{Width, oneByte, oneCell, fetchOf, fetchByteOf}
-use Rattle.throws.specs.Exceptions.{exceptionOf}
+use Rattle.exceptions.specs.Exceptions.{exceptionOf}
 use Rattle.machine.specs.Effects.{Store, Action, Effect, act, raise, fetched}
 use Rattle.machine.specs.Commits.{firstBad}
 use Rattle.machine.specs.declared.Machine.{Machine}

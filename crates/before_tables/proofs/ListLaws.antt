@@ -6,7 +6,7 @@ use Rattle.cell.specs.Number.{difference}
 use Rattle.cell.specs.declared.Checked.{Checked}
 use Rattle.cell.specs.declared.Fault.{Fault}
 use Rattle.machine.specs.Places.{oneCell}
-use Rattle.throws.specs.Exceptions.{exceptionOf}
+use Rattle.exceptions.specs.Exceptions.{exceptionOf}
 use Rattle.machine.specs.Effects.{Control, goOn, jump, halt, throwing, Action, Effect}
 use Rattle.throws.specs.Throws.{CycleState}
 use Rattle.machine.specs.declared.Machine.{Machine}

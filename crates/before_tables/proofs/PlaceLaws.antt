@@ -12,7 +12,7 @@ use Rattle.cell.specs.declared.Checked.the-variants.{Good, Bad}
 use Rattle.cell.specs.declared.Judged.the-variants.{Passed}
 use Rattle.cell.proofs.JudgementLaws.{both-pass, machine-good}
 use Rattle.machine.specs.Places.{Width, oneByte, oneCell, openTo, placeOf, fetchOf, fetchByteOf}
-use Rattle.throws.specs.Exceptions.{exceptionOf}
+use Rattle.exceptions.specs.Exceptions.{exceptionOf}
 use Rattle.machine.specs.declared.Access.{Access}
 use Rattle.machine.specs.declared.Access.the-variants.{DataRead, DataWrite, ReturnRead, ReturnWrite, NamedRead, NamedWrite, Stream, Push}
 use Rattle.areas.specs.Areas.{judgeAreas}

@@ -8,7 +8,7 @@ use Rattle.cell.specs.declared.Checked.{Checked}
 use Rattle.cell.specs.declared.Fault.{Fault}
 use Rattle.cell.specs.declared.Fetched.{Fetched}
 use Rattle.machine.specs.Places.{oneCell}
-use Rattle.throws.specs.Exceptions.{exceptionOf}
+use Rattle.exceptions.specs.Exceptions.{exceptionOf}
 use Rattle.machine.specs.Commits.{Stepped}
 use Rattle.throws.specs.Throws.{handed, noted, handlerOf, pushed, throwOf, throwingOf, nexted, nextOf, finishOf}
 use Rattle.machine.specs.declared.Machine.{Machine}

@@ -7,7 +7,7 @@ use Rattle.cell.specs.declared.Fault.{Fault}
 use Rattle.cell.specs.declared.Judged.{Judged}
 use Rattle.cell.specs.declared.Judged.the-variants.{Passed}
 use Rattle.machine.specs.Places.{Width, oneByte, oneCell, noTable, placeOf}
-use Rattle.throws.specs.Exceptions.{exceptionOf}
+use Rattle.exceptions.specs.Exceptions.{exceptionOf}
 use Rattle.throws.specs.Throws.{CycleState, throwOf, nextOf}
 use Rattle.machine.specs.declared.Machine.{Machine}
 use Rattle.machine.specs.declared.Registers.{Registers}

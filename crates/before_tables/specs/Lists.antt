@@ -9,7 +9,7 @@ use Rattle.cell.specs.declared.Checked.the-variants.{Good, Bad}
 use Rattle.cell.specs.declared.Fault.the-variants.{Illegal}
 use Rattle.cell.specs.declared.Fetched.the-variants.{Cell}
 use Rattle.machine.specs.Places.{oneCell}
-use Rattle.throws.specs.Exceptions.{exceptionCode}
+use Rattle.exceptions.specs.Exceptions.{exceptionCode}
 use Rattle.machine.specs.Effects.{Store, cellStore, Control, goOn, jump, halt, throwing, Action, Effect, act, raise}
 use Rattle.machine.specs.declared.Access.the-variants.{Push}
 use Rattle.machine.specs.declared.Exception.{Exception}

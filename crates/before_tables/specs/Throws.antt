@@ -14,7 +14,7 @@ use Rattle.cell.specs.declared.Fault.the-variants as fault
 use Rattle.cell.specs.declared.Fetched.{Fetched}
 use Rattle.cell.specs.declared.Fetched.the-variants.{Cell, Failed}
 use Rattle.machine.specs.Places.{oneCell}
-use Rattle.throws.specs.Exceptions.{exceptionCode}
+use Rattle.exceptions.specs.Exceptions.{exceptionCode}
 use Rattle.machine.specs.Commits.{Stepped}
 use Rattle.throws.specs.Throws.{CycleState, cycleState, badStack, handlerCell, badCell, addressCell, entered, handed}
 use Rattle.machine.specs.declared.Registers.{Registers}

@@ -10,7 +10,7 @@ use Rattle.cell.specs.Choice.{if}
 use Rattle.cell.specs.declared.Checked.{Checked}
 use Rattle.cell.specs.declared.Checked.the-variants.{Good, Bad}
 use Rattle.machine.specs.Effects.{Store, Control, goOn, jump, halt, throwing, Action, effectOf}
-use Rattle.throws.specs.Exceptions.{exceptionOf}
+use Rattle.exceptions.specs.Exceptions.{exceptionOf}
 use Rattle.machine.specs.Commits.{firstBad, faultOf, placesOf, storedOf, commitOf, touches}
 use Rattle.throws.specs.Throws.{throwingOf}
 use Rattle.machine.specs.declared.Machine.{Machine}

@@ -16,7 +16,7 @@ use Rattle.cell.specs.declared.Checked.{Checked}
 use Rattle.cell.specs.declared.Checked.the-variants.{Good, Bad}
 use Rattle.cell.proofs.MemoryLaws.{store-length, cell-back, cell-frame, cell-alike}
 use Rattle.machine.specs.Places.{oneCell, placeOf, fetchOf}
-use Rattle.throws.specs.Exceptions.{exceptionCode}
+use Rattle.exceptions.specs.Exceptions.{exceptionCode}
 use Rattle.machine.specs.declared.Exception.{Exception}
 use Rattle.machine.specs.declared.Exception.the-variants.{Range, Alignment, DataOverflow, DataUnderflow, ReturnOverflow, ReturnUnderflow, ReadOnly, Divisor, Illegal, Library}
 use Rattle.machine.specs.Commits.{touches}

@@ -13,6 +13,7 @@ ghost use Rattle.list_tables.specs.Tables as tables;
 ghost use Rattle.list_proposing.specs.Stands as stands;
 ghost use Rattle.list_judging.specs.Ways as ways;
 ghost use Rattle.list_counting.specs.Outcomes as outcomes;
+use exceptions::code_of;
 use list_counting::Carried;
 use list_judging::Cause;
 use list_judging::Intent;
@@ -31,7 +32,6 @@ use machine::Registers;
 use pack_layout::ItemNumber;
 use throws::ending::handle;
 use throws::ending::throw;
-use throws::exceptions::code_of;
 use throws::fixed::BAD_STACK;
 
 // In front of an item, with the stack pointers of r.

@@ -16,7 +16,7 @@ use Rattle.cell.specs.declared.Checked.{Checked}
 use Rattle.cell.specs.declared.Checked.the-variants.{Good, Bad}
 use Rattle.cell.specs.declared.Fault.{Fault}
 use Rattle.machine.specs.Places.{oneCell, placeOf}
-use Rattle.throws.specs.Exceptions.{exceptionOf, exceptionCode}
+use Rattle.exceptions.specs.Exceptions.{exceptionOf, exceptionCode}
 use Rattle.machine.specs.declared.Exception.{Exception}
 use Rattle.machine.specs.Commits.{touches}
 use Rattle.throws.specs.Throws.{badStack, handlerCell}

@@ -11,7 +11,7 @@ use Rattle.cell.specs.Number.{difference}
 use Rattle.cell.specs.declared.Checked.{Checked}
 use Rattle.cell.specs.declared.Checked.the-variants.{Good, Bad}
 use Rattle.machine.specs.Places.{oneCell, placeOf}
-use Rattle.throws.specs.Exceptions.{exceptionOf, exceptionCode}
+use Rattle.exceptions.specs.Exceptions.{exceptionOf, exceptionCode}
 use Rattle.machine.specs.Effects.{Store, Effect}
 use Rattle.machine.specs.Commits.{Stepped, commitOf, touches}
 use Rattle.throws.specs.Throws.{CycleState, badStack, badHandler, handlerCell, throwOf, throwingOf}

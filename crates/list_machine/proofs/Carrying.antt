@@ -31,7 +31,7 @@ use Rattle.list_machine.specs.Demand3.{Holds}
 use Rattle.list_machine.proofs.Frame.{stores-frame}
 use Rattle.list_machine.proofs.Image.{still-holds, next-enters}
 use Rattle.list_machine.proofs.Meets.{Meets, registersFor}
-use Rattle.throws.specs.Exceptions.{exceptionOf}
+use Rattle.exceptions.specs.Exceptions.{exceptionOf}
 use Rattle.list_machine.proofs.Throwing.{throw-meets, throwing-meets}
 
 abbrev pub isWent : Outcome → Bool

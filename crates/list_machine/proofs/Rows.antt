@@ -4,7 +4,7 @@ use Rattle.cell.specs.Memory.{cellAt, storeCell}
 use Rattle.cell.specs.Number.{sum, difference}
 use Rattle.cell.specs.Shift.{asr8}
 use Rattle.machine.specs.Places.{placeOf, fetchOf}
-use Rattle.throws.specs.Exceptions.{exceptionOf}
+use Rattle.exceptions.specs.Exceptions.{exceptionOf}
 use Rattle.machine.specs.Commits.{placesOf, storedOf, touches}
 use Rattle.throws.specs.Throws.{handlerOf, throwOf, throwingOf}
 use Rattle.instruction.specs.Plain.{plainOf}

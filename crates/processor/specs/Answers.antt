@@ -5,7 +5,7 @@ use lib.ListN.{length}
 use Rattle.cell.specs.Refusals.{refusalNumber}
 use Rattle.cell.specs.declared.Judged.{Judged}
 use Rattle.cell.specs.declared.Judged.the-variants as judged
-use Rattle.throws.specs.Exceptions.{exceptionCode}
+use Rattle.exceptions.specs.Exceptions.{exceptionCode}
 use Rattle.throws.specs.Throws.{CycleState}
 use Rattle.machine.specs.declared.Table.{Table}
 use Rattle.machine.specs.declared.Machine.{Machine}

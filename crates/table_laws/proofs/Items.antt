@@ -17,7 +17,7 @@ use Rattle.cell.specs.declared.Fetched.the-variants.{Cell}
 use Rattle.cell.proofs.JudgementLaws.{both-pass}
 use Rattle.cell.proofs.MemoryLaws.{alike-refl, alike-trans}
 use Rattle.machine.specs.Places.{oneCell, placeOf}
-use Rattle.throws.specs.Exceptions.{exceptionOf}
+use Rattle.exceptions.specs.Exceptions.{exceptionOf}
 use Rattle.machine.specs.Effects.{Control, goOn, jump, halt, throwing, Action, Effect, act, raise}
 use Rattle.machine.specs.Commits.{placesOf}
 use Rattle.throws.specs.Throws.{CycleState, throwOf, throwingOf}

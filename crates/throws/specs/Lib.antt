@@ -1,3 +1,2 @@
 -- What crate `throws` means.
-pub mod Exceptions
 pub mod Throws

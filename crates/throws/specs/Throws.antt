@@ -13,7 +13,7 @@ use Rattle.cell.specs.declared.Fetched.{Fetched}
 use Rattle.cell.specs.declared.Fetched.the-variants.{Cell, Failed}
 use Rattle.machine.specs.Places.{oneCell, placeOf, fetchOf}
 use Rattle.machine.specs.Commits.{Stepped}
-use Rattle.throws.specs.Exceptions.{exceptionOf, exceptionCode}
+use Rattle.exceptions.specs.Exceptions.{exceptionOf, exceptionCode}
 use Rattle.machine.specs.declared.Machine.{Machine}
 use Rattle.machine.specs.declared.Registers.{Registers}
 use Rattle.machine.specs.declared.Access.the-variants.{Stream, Push}

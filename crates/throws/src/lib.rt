@@ -1,4 +1,3 @@
-// NEXT, the throw and the stops, and what is thrown for a fault. The machine that they are made on is in `machine`.
+// NEXT, the throw and the stops. The machine that they are made on is in `machine`, and what is thrown for a fault in `exceptions`.
 pub mod ending;
-pub mod exceptions;
 pub mod fixed;

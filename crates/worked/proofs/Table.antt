@@ -10,7 +10,7 @@ use Rattle.areas.specs.Areas.{judgeAreas}
 use Rattle.code_tables.specs.Tables.{judgeTable}
 use Rattle.bounds.specs.Bounds.{judgeBounded}
 use Rattle.machine.specs.Places.{placeOf, fetchOf, fetchByteOf}
-use Rattle.throws.specs.Exceptions.{exceptionOf}
+use Rattle.exceptions.specs.Exceptions.{exceptionOf}
 use Rattle.machine.specs.Effects.{rollStores}
 use Rattle.machine.specs.Commits.{placesOf, storedOf, commitOf}
 use Rattle.throws.specs.Throws.{handlerOf, throwOf, throwingOf, nextOf, finishOf}

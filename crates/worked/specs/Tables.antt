@@ -7,7 +7,7 @@ use Rattle.cell.specs.Number.{byteAddress}
 use Rattle.cell.specs.declared.Checked.{Checked}
 use Rattle.cell.specs.declared.Checked.the-variants.{Good, Bad}
 use Rattle.machine.specs.Places.{Width, oneByte, oneCell, tableOf, noTable, placeOf}
-use Rattle.throws.specs.Exceptions.{exceptionOf, exceptionCode}
+use Rattle.exceptions.specs.Exceptions.{exceptionOf, exceptionCode}
 use Rattle.machine.specs.declared.Table.{Table}
 use Rattle.machine.specs.declared.Machine.{Machine}
 use Rattle.machine.specs.declared.Access.{Access}

@@ -5,8 +5,8 @@ use Rattle.throws.proofs.ending.finish.Tie as tie
 use Rattle.throws.proofs.ending.next.Reads as next-reads
 use Rattle.throws.proofs.ending.throw.Reads as throw-reads
 use Rattle.throws.proofs.ending.throw_given.Reads as throw-given-reads
-use Rattle.throws.proofs.exceptions.code_of.Reads as code-of-reads
-use Rattle.throws.proofs.exceptions.tell.Reads as tell-reads
+use Rattle.exceptions.proofs.code_of.Reads as code-of-reads
+use Rattle.exceptions.proofs.tell.Reads as tell-reads
 use Rattle.throws.specs.Throws as throws
 
 enum-told : tie.Need-enum-told

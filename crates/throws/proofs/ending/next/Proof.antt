@@ -6,8 +6,8 @@ use Rattle.cell.proofs.place.fault_in.Reads as fault-in-reads
 use Rattle.machine.proofs.places.fetch.Reads as fetch-reads
 use Rattle.throws.proofs.ending.enter.Reads as enter-reads
 use Rattle.throws.proofs.ending.throw.Reads as throw-reads
-use Rattle.throws.proofs.exceptions.code_of.Reads as code-of-reads
-use Rattle.throws.proofs.exceptions.tell.Reads as tell-reads
+use Rattle.exceptions.proofs.code_of.Reads as code-of-reads
+use Rattle.exceptions.proofs.tell.Reads as tell-reads
 use Rattle.throws.specs.Throws as throws
 use mathlib.Core.Path.{sym, _∙_}
 

@@ -1,6 +1,6 @@
 // What is thrown for a fault.
 ghost use mathlib.Core.Path.{_≡_};
-ghost use Rattle.throws.specs.Exceptions as exceptions;
+ghost use Rattle.exceptions.specs.Exceptions as exceptions;
 use cell::Address;
 use cell::Fault;
 use machine::Exception;

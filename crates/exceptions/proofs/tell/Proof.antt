@@ -1,8 +1,8 @@
 use borrow.Author.Needs.{needs}
-use Rattle.throws.proofs.exceptions.tell.Statement.{statement}
-use Rattle.throws.proofs.exceptions.tell.Tie as tie
-use Rattle.throws.proofs.exceptions.tell_end.Reads as tell-end-reads
-use Rattle.throws.specs.Exceptions as exceptions
+use Rattle.exceptions.proofs.tell.Statement.{statement}
+use Rattle.exceptions.proofs.tell.Tie as tie
+use Rattle.exceptions.proofs.tell_end.Reads as tell-end-reads
+use Rattle.exceptions.specs.Exceptions as exceptions
 
 enum-known-f : tie.Need-enum-known-f
 enum-known-f c = search needs

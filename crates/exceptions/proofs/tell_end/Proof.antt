@@ -1,6 +1,6 @@
 use borrow.Author.Needs.{needs}
-use Rattle.throws.proofs.exceptions.tell_end.Statement.{statement}
-use Rattle.throws.proofs.exceptions.tell_end.Tie as tie
+use Rattle.exceptions.proofs.tell_end.Statement.{statement}
+use Rattle.exceptions.proofs.tell_end.Tie as tie
 use borrow.Author.Tests.{lt-ltb, le-ltb, eq-eqb, ne-eqb}
 
 returns : tie.Need-returns

@@ -1,0 +1,2 @@
+-- What crate `exceptions` means.
+pub mod Exceptions
