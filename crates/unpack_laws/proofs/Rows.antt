@@ -14,7 +14,7 @@ use Rattle.pack_layout.specs.Rounds.{rounds, settle, settled}
 use Rattle.pack_layout.specs.Reading.{each, cellsOf, reader, itemsFrom, itemsRead, firstAt, kindsRead, operandsRead}
 use Rattle.pack_layout.specs.Unpacking.{same, packsTo}
 use Rattle.pack_refusals.specs.Judgement.{judgeOrder}
-use Rattle.unpack_parts.specs.Judgement.{judgePlace, judgeArrays}
+use Rattle.unpack_judging.specs.Judgement.{judgePlace, judgeArrays}
 use Rattle.unpacker.specs.Judgement.{judgeRead, judgeUnpack}
 use Rattle.unpacker.specs.Unpack.{unpackOf}
 use Rattle.unpack_laws.specs.Worked.{RowsHold}

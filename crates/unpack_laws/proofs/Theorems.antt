@@ -26,11 +26,11 @@ use Rattle.pack_refusals.specs.Judgement.{judgeOrder, judgePack}
 use Rattle.packer.specs.declared.Packed.the-variants as packed
 use Rattle.packer.specs.Pack.{PackResult, packedTo, packIf, packOf}
 use Rattle.unpacker.specs.declared.Unpacked.the-variants as unpacked
-use Rattle.unpack_parts.specs.Judgement.{bytesOutOfPlace, judgePlace, judgeArrays}
-use Rattle.unpack_parts.specs.Writing.{over}
+use Rattle.unpack_judging.specs.Judgement.{bytesOutOfPlace, judgePlace, judgeArrays}
+use Rattle.unpack_writing.specs.Writing.{over}
 use Rattle.unpacker.specs.Judgement.{judgeRead, judgeUnpack}
 use Rattle.unpacker.specs.Unpack.{UnpackResult, unpackedTo, unpackIf, unpackOf}
-use Rattle.unpack_parts.proofs.Comparing.{cells-of, packs-size, pack-passes}
+use Rattle.unpack_comparing.proofs.Comparing.{cells-of, packs-size, pack-passes}
 use Rattle.unpacker.proofs.Recovering.{passed-taken, passed-items, kinds-length, operands-length}
 use Rattle.unpack_laws.specs.Claims.{Words, imageOf, ReadsBack, PacksAgain, OneListing, Packed, byPack, TakenExactly}
 use Rattle.unpack_laws.proofs.Cells.{words-read}

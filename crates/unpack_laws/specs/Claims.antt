@@ -10,8 +10,8 @@ use Rattle.cell.specs.declared.Judged.the-variants.{Passed, Refused}
 use Rattle.packer.specs.declared.Packed.the-variants as packed
 use Rattle.packer.specs.Pack.{PackResult, packedTo, packOf}
 use Rattle.unpacker.specs.declared.Unpacked.the-variants as unpacked
-use Rattle.unpack_parts.specs.Judgement.{judgePlace}
-use Rattle.unpack_parts.specs.Writing.{over}
+use Rattle.unpack_judging.specs.Judgement.{judgePlace}
+use Rattle.unpack_writing.specs.Writing.{over}
 use Rattle.unpacker.specs.Judgement.{judgeRead}
 use Rattle.unpacker.specs.Unpack.{UnpackResult, unpackedTo, unpackOf}
 

@@ -18,8 +18,8 @@ use Rattle.cell.proofs.JudgementLaws.{one-clear}
 use Rattle.pack_layout.specs.Reading.{cellsOf, itemsRead, kindsRead, operandsRead}
 use Rattle.unpacker.specs.declared.Unpacked.{Unpacked}
 use Rattle.unpacker.specs.declared.Unpacked.the-variants as unpacked
-use Rattle.unpack_parts.specs.Judgement.{judgeArrays}
-use Rattle.unpack_parts.specs.Writing.{overIf}
+use Rattle.unpack_judging.specs.Judgement.{judgeArrays}
+use Rattle.unpack_writing.specs.Writing.{overIf}
 use Rattle.unpacker.specs.Judgement.{judgeRead, judgeUnpack}
 use Rattle.unpacker.specs.Unpack.{UnpackResult, unpackedTo, unpackIf, unpackOf, readIf, Recovered}
 use Rattle.unpacker.proofs.Recovering.{part, passed-items, kinds-length}

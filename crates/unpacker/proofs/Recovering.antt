@@ -29,8 +29,8 @@ use Rattle.pack_layout.proofs.Reading.{each-length, each-is}
 use Rattle.pack_layout.proofs.Unpacking.{Packs, packs-is}
 use Rattle.pack_prepare.proofs.Checking.{cells-most}
 use Rattle.pack_refusals.specs.Judgement.{judgeOrder}
-use Rattle.unpack_parts.specs.Judgement.{bytesOutOfPlace, judgePlace}
-use Rattle.unpack_parts.proofs.Comparing.{packs-size}
+use Rattle.unpack_judging.specs.Judgement.{bytesOutOfPlace, judgePlace}
+use Rattle.unpack_comparing.proofs.Comparing.{packs-size}
 use Rattle.unpack_reading.specs.Arrays.{itemIn, operandIn, Filled}
 use Rattle.unpack_reading.proofs.Finding.{item-is}
 use Rattle.unpacker.specs.declared.Unpacked.the-variants as unpacked

@@ -8,7 +8,7 @@ use Rattle.cell.specs.declared.Refusal.the-variants.{NoListing}
 use Rattle.cell.specs.declared.Judged.{Judged}
 use Rattle.pack_layout.specs.Reading.{cellsOf, itemsRead}
 use Rattle.pack_layout.specs.Unpacking.{taken}
-use Rattle.unpack_parts.specs.Judgement.{judgePlace, judgeArrays}
+use Rattle.unpack_judging.specs.Judgement.{judgePlace, judgeArrays}
 
 -- -4116: no listing packs to these bytes
 abbrev pub noListing : ℕ → ℕ → List ℕ → Ground

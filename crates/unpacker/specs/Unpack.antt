@@ -8,7 +8,7 @@ use Rattle.cell.specs.Refusals.{refusalNumber}
 use Rattle.cell.specs.declared.Judged.{Judged}
 use Rattle.cell.specs.declared.Judged.the-variants as judged
 use Rattle.pack_layout.specs.Reading.{cellsOf, itemsRead, kindsRead, operandsRead}
-use Rattle.unpack_parts.specs.Writing.{over}
+use Rattle.unpack_writing.specs.Writing.{over}
 use Rattle.unpacker.specs.declared.Unpacked.{Unpacked}
 use Rattle.unpacker.specs.declared.Unpacked.the-variants as unpacked
 use Rattle.unpacker.specs.Judgement.{judgeRead, judgeUnpack}

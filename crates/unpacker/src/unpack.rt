@@ -8,8 +8,8 @@ use crate::recover::recover;
 use cell::Address;
 use cell::Judged;
 use pack_layout::MOST_ITEMS;
-use unpack_parts::arrays::write_listing;
-use unpack_parts::judgement::judge_arrays;
+use unpack_judging::judgement::judge_arrays;
+use unpack_writing::arrays::write_listing;
 
 // An unpacking into arrays of some lengths.
 pub fn judge_unpack(order: u8, image: &[u8], base: Address, kinds: usize, operands: usize) -> Judged

@@ -1,0 +1,2 @@
+// A listing packed again and compared with an image.
+pub mod compare;

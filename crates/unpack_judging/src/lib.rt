@@ -1,0 +1,2 @@
+// What refuses an unpacking by its numbers alone.
+pub mod judgement;

@@ -1,4 +1,0 @@
--- Laws that belong to no one function.
-mod Copying
-pub mod Comparing
-pub mod Room

@@ -1,0 +1,2 @@
+-- Arrays that a listing is written to.
+pub mod Writing

@@ -1,0 +1,2 @@
+// A listing written to lent arrays.
+pub mod arrays;
