@@ -21,7 +21,8 @@ use Rattle.list_following.specs.declared.Followed.{Followed}
 use Rattle.list_following.specs.declared.Followed.the-variants as followed
 use Rattle.lent_arrays.specs.Lending.{areasIn}
 use Rattle.processor_calls.specs.Machines.{judgeCall, startTold, cycleTold, runTold, startIf, startCall, cycleIf, cycleCall, runIf, runCall}
-use Rattle.list_calls.specs.Lists.{toldBy, judgeLent, standGiven, resumeCall}
+use Rattle.list_telling.specs.Telling.{toldBy, judgeLent}
+use Rattle.list_calls.specs.Lists.{standGiven, resumeCall}
 use Rattle.before_areas.specs.Cycles.{startBefore, cycleBefore, cyclesBefore, doneBefore}
 use Rattle.before_areas.specs.Answers.{startedBefore, startIfBefore, startAnswerBefore, cycledBefore, cycleIfBefore, cycleAnswerBefore, ranBefore, runIfBefore, runAnswerBefore, resumeBefore}
 use Rattle.before_areas.specs.Calls.{judgeCallBefore, registersBefore, startToldBefore, cycleToldBefore, runToldBefore, startCallIf, startCallBefore, cycleCallIf, cycleCallBefore, runCallIf, runCallBefore, listToldBefore, judgeLentBefore, resumeCallBefore}

@@ -11,7 +11,8 @@ use Rattle.areas.specs.declared.Areas.{Areas}
 use Rattle.processor.specs.Answers.{givenOf}
 use Rattle.lent_arrays.specs.Lending.{areasIn, registersOf}
 use Rattle.processor_calls.specs.Machines.{judgeCall, startIf, startCall, cycleIf, cycleCall, runIf, runCall}
-use Rattle.list_calls.specs.Lists.{judgeLent, standGiven, resumeCall}
+use Rattle.list_telling.specs.Telling.{judgeLent}
+use Rattle.list_calls.specs.Lists.{standGiven, resumeCall}
 use Rattle.before_tables.specs.Calls.{judgeCallBefore, judgeWithBefore, startCallIf, startCallBefore, cycleCallIf, cycleCallBefore, runCallIf, runCallBefore, resumeCallBefore}
 use Rattle.before_tables.specs.Claims.{SameStartCall, SameCycleCall, SameRunCall, SameResumeCall, SameListCall}
 use Rattle.before_tables.proofs.AnswerLaws.{no-table, same-start-answer, same-cycle-answer, same-run-answer, same-resume-in}

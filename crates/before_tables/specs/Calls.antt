@@ -9,7 +9,8 @@ use Rattle.cell.specs.declared.Judged.the-variants as judged
 use Rattle.areas.specs.declared.Areas.{Areas}
 use Rattle.lent_arrays.specs.Lending.{areasIn, registersOf, withRoom}
 use Rattle.processor_calls.specs.Machines.{startTold, cycleTold, runTold, Called, called}
-use Rattle.list_calls.specs.Lists.{listTold, judgeLent, standGiven}
+use Rattle.list_telling.specs.Telling.{listTold, judgeLent}
+use Rattle.list_calls.specs.Lists.{standGiven}
 use Rattle.before_tables.specs.Answers.{judgeBoundedBefore, startAnswerBefore, cycleAnswerBefore, runAnswerBefore, resumeInBefore}
 
 -- -4101, -4102, -4111 and -4105 in this order

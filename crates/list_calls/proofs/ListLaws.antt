@@ -23,7 +23,8 @@ use Rattle.list_following.specs.declared.Followed.{Followed}
 use Rattle.list_following.specs.declared.Followed.the-variants as followed
 use Rattle.lent_arrays.specs.Lending.{areasIn, withRoom}
 use Rattle.processor_calls.specs.Machines.{told, called}
-use Rattle.list_calls.specs.Lists.{listTold, answerTold, judgeLent, Room, standGiven, resumeCall}
+use Rattle.list_telling.specs.Telling.{listTold, answerTold, judgeLent, Room}
+use Rattle.list_calls.specs.Lists.{standGiven, resumeCall}
 use Rattle.lent_arrays.proofs.LendingLaws.{roomy}
 
 lent-roomy : (pointers out : ℕ) → judgeLent pointers out ≡ Passed → (6 ≤ pointers) × (5 ≤ out)

@@ -2,8 +2,8 @@
 use mathlib.Core.Path.{sym}
 use lib.ListN.{List·getD-eq-default}
 use borrow.Author.Needs.{needs}
-use Rattle.list_calls.proofs.lists.number_at.Statement.{statement}
-use Rattle.list_calls.proofs.lists.number_at.Tie as tie
+use Rattle.list_telling.proofs.number_at.Statement.{statement}
+use Rattle.list_telling.proofs.number_at.Tie as tie
 
 mul-result : tie.Need-mul-result
 mul-result c = search needs

@@ -1,7 +1,7 @@
 -- `write_five` meets its contract.
 use borrow.Author.Needs.{needs}
-use Rattle.list_calls.proofs.lists.write_five.Statement.{statement}
-use Rattle.list_calls.proofs.lists.write_five.Tie as tie
+use Rattle.list_telling.proofs.write_five.Statement.{statement}
+use Rattle.list_telling.proofs.write_five.Tie as tie
 use lib.ListN.{length-set}
 use native.Mathlib.Omega.{arith}
 use mathlib.Core.List.{[], _∷_}

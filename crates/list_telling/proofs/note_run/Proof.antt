@@ -1,7 +1,7 @@
 -- `note_run` meets its contract.
 use borrow.Author.Needs.{needs}
-use Rattle.list_calls.proofs.lists.note_run.Statement.{statement}
-use Rattle.list_calls.proofs.lists.note_run.Tie as tie
+use Rattle.list_telling.proofs.note_run.Statement.{statement}
+use Rattle.list_telling.proofs.note_run.Tie as tie
 
 cast-low : tie.Need-cast-low
 cast-low c = search needs

@@ -1,8 +1,8 @@
 -- `judge_lent` meets its contract.
-use Rattle.list_calls.specs.Lists as lists
+use Rattle.list_telling.specs.Telling as telling
 use borrow.Author.Needs.{needs}
-use Rattle.list_calls.proofs.lists.judge_lent.Statement.{statement}
-use Rattle.list_calls.proofs.lists.judge_lent.Tie as tie
+use Rattle.list_telling.proofs.judge_lent.Statement.{statement}
+use Rattle.list_telling.proofs.judge_lent.Tie as tie
 
 with-room-requires : tie.Need-with-room-requires
 with-room-requires c κs = search needs
@@ -11,7 +11,7 @@ with-room-requires-2 : tie.Need-with-room-requires-2
 with-room-requires-2 c κs = search needs
 
 returns : tie.Need-returns
-unfolding lists.judgeLent
+unfolding telling.judgeLent
 returns c = rw (← c .before .with-room .ensures) (c .with-room2 .ensures)
 
 pub judge-lent-spec : {M : Type 1} → statement M

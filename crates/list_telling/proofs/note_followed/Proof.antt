@@ -1,7 +1,7 @@
 -- `note_followed` meets its contract, by the answer.
 use borrow.Author.Needs.{needs}
-use Rattle.list_calls.proofs.lists.note_followed.Statement.{statement}
-use Rattle.list_calls.proofs.lists.note_followed.Tie as tie
+use Rattle.list_telling.proofs.note_followed.Statement.{statement}
+use Rattle.list_telling.proofs.note_followed.Tie as tie
 
 enum-known-answer : tie.Need-enum-known-answer
 enum-known-answer c = search needs

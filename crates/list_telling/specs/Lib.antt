@@ -1,0 +1,2 @@
+-- What is told of a run of the list machine.
+pub mod Telling
