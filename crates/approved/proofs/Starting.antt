@@ -11,7 +11,8 @@ use Rattle.cell.specs.Number.{sum}
 use Rattle.cell.specs.declared.Fetched.the-variants.{Cell}
 use Rattle.cell.proofs.MemoryLaws.{cell-frame, alike-trans, store-length}
 use Rattle.machine.specs.Places.{fetchOf}
-use Rattle.throws.specs.Throws.{nextOf, handlerCell, memoryCell, badCell, addressCell}
+use Rattle.exceptions.specs.Fixed.{handlerCell, memoryCell, badCell, addressCell}
+use Rattle.throws.specs.Throws.{nextOf}
 use Rattle.machine.specs.declared.Access.the-variants.{Stream}
 use Rattle.machine.specs.declared.Machine.{Machine}
 use Rattle.machine.specs.declared.Table.{Table}

@@ -20,7 +20,8 @@ use Rattle.machine.specs.Places.{oneCell, placeOf, fetchOf}
 use Rattle.machine.specs.Effects.{Store, cellStore, Action, Effect, act, raise}
 use Rattle.machine.specs.Commits.{Stepped, placesOf, storedOf, carriedOut, commitOf, touches}
 use Rattle.exceptions.specs.Exceptions.{exceptionOf, exceptionCode}
-use Rattle.throws.specs.Throws.{CycleState, cycleState, badStack, badCell, handlerCell, handed, handlerOf, noted, pushed, throwOf, throwingOf, nexted, nextOf, finished, finishOf}
+use Rattle.exceptions.specs.Fixed.{badStack, badCell, handlerCell}
+use Rattle.throws.specs.Throws.{CycleState, cycleState, handed, handlerOf, noted, pushed, throwOf, throwingOf, nexted, nextOf, finished, finishOf}
 use Rattle.machine.specs.declared.Machine.{Machine}
 use Rattle.machine.specs.declared.Registers.{Registers}
 use Rattle.machine.specs.declared.Access.the-variants.{Stream, Push}

@@ -4,7 +4,8 @@ use Prim.Native.Nat.{ℕ, zero, suc, _-_, _%_}
 use lib.ListN.{length}
 use Rattle.cell.specs.Memory.{storeCell}
 use Rattle.machine.specs.Commits.{Stepped, stepped}
-use Rattle.throws.specs.Throws.{CycleState, handlerCell, memoryCell, badCell, addressCell}
+use Rattle.exceptions.specs.Fixed.{handlerCell, memoryCell, badCell, addressCell}
+use Rattle.throws.specs.Throws.{CycleState}
 use Rattle.machine.specs.declared.Registers.{Registers}
 use Rattle.machine.specs.declared.Outcome.the-variants as outcome
 use Rattle.machine.specs.declared.Ended.{Ended}

@@ -16,7 +16,8 @@ use Rattle.cell.specs.declared.Fetched.{Fetched}
 use Rattle.cell.specs.declared.Fetched.the-variants.{Cell, Failed}
 use Rattle.machine.specs.Places.{oneCell}
 use Rattle.machine.specs.Commits.{Stepped}
-use Rattle.throws.specs.Throws.{CycleState, cycleState, badStack, handlerCell, badCell, addressCell, entered, handed}
+use Rattle.exceptions.specs.Fixed.{badStack, handlerCell, badCell, addressCell}
+use Rattle.throws.specs.Throws.{CycleState, cycleState, entered, handed}
 use Rattle.machine.specs.declared.Registers.{Registers}
 use Rattle.machine.specs.declared.Exception.{Exception}
 use Rattle.machine.specs.declared.Exception.the-variants as thrown

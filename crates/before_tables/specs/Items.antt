@@ -8,7 +8,8 @@ use Rattle.cell.specs.Choice.{if}
 use Rattle.cell.specs.Memory.{cellAt}
 use Rattle.machine.specs.Effects.{Store, Action}
 use Rattle.machine.specs.Commits.{touches}
-use Rattle.throws.specs.Throws.{CycleState, handlerCell}
+use Rattle.exceptions.specs.Fixed.{handlerCell}
+use Rattle.throws.specs.Throws.{CycleState}
 use Rattle.machine.specs.declared.Registers.{Registers}
 use Rattle.machine.specs.declared.Ended.{Ended}
 use Rattle.machine.specs.declared.Ended.the-variants.{Went, Threw, Stopped}

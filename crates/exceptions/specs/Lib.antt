@@ -1,2 +1,3 @@
 -- What crate `exceptions` means.
 pub mod Exceptions
+pub mod Fixed

@@ -1,4 +1,7 @@
 // What is thrown for a fault.
+
+pub mod fixed;
+
 ghost use mathlib.Core.Path.{_≡_};
 ghost use Rattle.exceptions.specs.Exceptions as exceptions;
 use cell::Address;

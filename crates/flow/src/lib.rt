@@ -1,4 +1,4 @@
 // Control structures, literals and exceptions.
 pub mod control;
-pub mod exceptions;
+pub mod halting;
 pub mod literals;

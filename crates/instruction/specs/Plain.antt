@@ -19,7 +19,7 @@ use Rattle.cell.specs.declared.Fetched.{Fetched}
 use Rattle.cell.specs.declared.Fetched.the-variants as fetch
 use Rattle.machine.specs.Places.{oneByte, fetchOf, fetchByteOf}
 use Rattle.machine.specs.Effects.{Store, cellStore, Control, goOn, jump, halt, throwing, Effect, act, raise, fetched, rolled}
-use Rattle.throws.specs.Throws.{badStack}
+use Rattle.exceptions.specs.Fixed.{badStack}
 use Rattle.machine.specs.declared.Machine.{Machine}
 use Rattle.machine.specs.declared.Registers.{Registers}
 use Rattle.machine.specs.declared.Then.{Then}

@@ -20,7 +20,8 @@ use Rattle.exceptions.specs.Exceptions.{exceptionCode}
 use Rattle.machine.specs.declared.Exception.{Exception}
 use Rattle.machine.specs.declared.Exception.the-variants.{Range, Alignment, DataOverflow, DataUnderflow, ReturnOverflow, ReturnUnderflow, ReadOnly, Divisor, Illegal, Library}
 use Rattle.machine.specs.Commits.{touches}
-use Rattle.throws.specs.Throws.{CycleState, cycleState, badStack, badCell, handlerCell, handed, handlerOf, noted, pushed, throwOf, throwingOf}
+use Rattle.exceptions.specs.Fixed.{badStack, badCell, handlerCell}
+use Rattle.throws.specs.Throws.{CycleState, cycleState, handed, handlerOf, noted, pushed, throwOf, throwingOf}
 use Rattle.machine.specs.declared.Machine.{Machine}
 use Rattle.machine.specs.declared.Registers.{Registers}
 use Rattle.machine.specs.declared.Access.the-variants.{Push, Stream}

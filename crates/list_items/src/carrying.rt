@@ -14,6 +14,7 @@ ghost use Rattle.list_proposing.specs.Stands as stands;
 ghost use Rattle.list_judging.specs.Ways as ways;
 ghost use Rattle.list_counting.specs.Outcomes as outcomes;
 use exceptions::code_of;
+use exceptions::fixed::BAD_STACK;
 use list_counting::Carried;
 use list_judging::Cause;
 use list_judging::Intent;
@@ -32,7 +33,6 @@ use machine::Registers;
 use pack_layout::ItemNumber;
 use throws::ending::handle;
 use throws::ending::throw;
-use throws::fixed::BAD_STACK;
 
 // In front of an item, with the stack pointers of r.
 fn arrive(item: ItemNumber, ran: bool, r: Registers) -> Stand

@@ -19,7 +19,7 @@ use Rattle.machine.specs.Places.{oneCell, placeOf}
 use Rattle.exceptions.specs.Exceptions.{exceptionOf, exceptionCode}
 use Rattle.machine.specs.declared.Exception.{Exception}
 use Rattle.machine.specs.Commits.{touches}
-use Rattle.throws.specs.Throws.{badStack, handlerCell}
+use Rattle.exceptions.specs.Fixed.{badStack, handlerCell}
 use Rattle.machine.specs.declared.Machine.{Machine}
 use Rattle.machine.specs.declared.Access.the-variants.{Push}
 use Rattle.machine.specs.declared.Then.{Then}

@@ -14,7 +14,8 @@ use Rattle.machine.specs.Places.{oneCell, placeOf}
 use Rattle.exceptions.specs.Exceptions.{exceptionOf, exceptionCode}
 use Rattle.machine.specs.Effects.{Store, Effect}
 use Rattle.machine.specs.Commits.{Stepped, commitOf, touches}
-use Rattle.throws.specs.Throws.{CycleState, badStack, badHandler, handlerCell, throwOf, throwingOf}
+use Rattle.exceptions.specs.Fixed.{badStack, badHandler, handlerCell}
+use Rattle.throws.specs.Throws.{CycleState, throwOf, throwingOf}
 use Rattle.machine.specs.declared.Machine.{Machine}
 use Rattle.machine.specs.declared.Exception.{Exception}
 use Rattle.machine.specs.declared.Registers.{Registers}

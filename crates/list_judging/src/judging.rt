@@ -17,6 +17,9 @@ use cell::memory::load;
 use cell::number::subtract;
 use cell::place::address_at;
 use exceptions::code_of;
+use exceptions::fixed::BAD_HANDLER;
+use exceptions::fixed::BAD_STACK;
+use exceptions::fixed::HANDLER_CELL;
 use exceptions::tell;
 use list_machine::Outside;
 use list_proposing::Stand;
@@ -33,9 +36,6 @@ use machine::Then;
 use machine::places::check_named;
 use machine::places::check_push;
 use pack_layout::ItemNumber;
-use throws::fixed::BAD_HANDLER;
-use throws::fixed::BAD_STACK;
-use throws::fixed::HANDLER_CELL;
 
 // 'THROW is h: an entry, -259, or outside.
 fn handler_way(machine: Machine, memory: &[u8], table: &[u32], base: Address, h: Address) -> Way

@@ -21,7 +21,8 @@ use Rattle.machine.specs.declared.Exception.{Exception}
 use Rattle.machine.specs.declared.Exception.the-variants.{Range, Alignment, DataOverflow, DataUnderflow, ReturnOverflow, ReturnUnderflow, ReadOnly, Divisor, Illegal, Library}
 use Rattle.machine.specs.Effects.{cellStore}
 use Rattle.machine.specs.Commits.{touches, storedOf}
-use Rattle.throws.specs.Throws.{cycleState, handed, handlerOf, noted, pushed, throwOf, throwingOf, handlerCell, badCell, addressCell, badStack}
+use Rattle.exceptions.specs.Fixed.{handlerCell, badCell, addressCell, badStack}
+use Rattle.throws.specs.Throws.{cycleState, handed, handlerOf, noted, pushed, throwOf, throwingOf}
 use Rattle.machine.specs.declared.Machine.{Machine}
 use Rattle.machine.specs.declared.Access.the-variants.{Stream, Push}
 use Rattle.machine.specs.declared.Ended.{Ended}

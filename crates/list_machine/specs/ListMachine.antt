@@ -17,7 +17,8 @@ use Rattle.exceptions.specs.Exceptions.{exceptionOf, exceptionCode}
 use Rattle.machine.specs.declared.Exception.{Exception}
 use Rattle.machine.specs.Effects.{Store, cellStore, Control, goOn, jump, halt, throwing, Action, Effect, act, raise}
 use Rattle.machine.specs.Commits.{placesOf, storedOf, touches}
-use Rattle.throws.specs.Throws.{CycleState, handlerCell, throwOf, throwingOf}
+use Rattle.exceptions.specs.Fixed.{handlerCell}
+use Rattle.throws.specs.Throws.{CycleState, throwOf, throwingOf}
 use Rattle.machine.specs.declared.Machine.{Machine}
 use Rattle.machine.specs.declared.Registers.{Registers}
 use Rattle.machine.specs.declared.Access.the-variants.{Push}

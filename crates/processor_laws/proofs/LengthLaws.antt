@@ -19,7 +19,8 @@ use Rattle.exceptions.specs.Exceptions.{exceptionOf, exceptionCode}
 use Rattle.machine.specs.Places.{Width, oneByte, oneCell, placeOf, fetchOf}
 use Rattle.machine.specs.Effects.{Store, Action, Effect, act, raise}
 use Rattle.machine.specs.Commits.{Stepped, putStore, storedOf, placesOf, carriedOut, commitOf}
-use Rattle.throws.specs.Throws.{cycleState, handlerCell, badCell, badStack, handed, handlerOf, noted, pushed, throwOf, throwingOf, nexted, nextOf, finished, finishOf}
+use Rattle.exceptions.specs.Fixed.{handlerCell, badCell, badStack}
+use Rattle.throws.specs.Throws.{cycleState, handed, handlerOf, noted, pushed, throwOf, throwingOf, nexted, nextOf, finished, finishOf}
 use Rattle.machine.specs.declared.Machine.{Machine}
 use Rattle.machine.specs.declared.Registers.{Registers}
 use Rattle.machine.specs.declared.Access.the-variants.{Stream, Push}

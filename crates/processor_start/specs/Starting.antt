@@ -3,7 +3,8 @@ use mathlib.Core.List.{List}
 use Prim.Native.Nat.{ℕ}
 use lib.ListN.{length}
 use Rattle.cell.specs.Memory.{storeCell}
-use Rattle.throws.specs.Throws.{CycleState, nextOf, handlerCell, memoryCell, badCell, addressCell}
+use Rattle.exceptions.specs.Fixed.{handlerCell, memoryCell, badCell, addressCell}
+use Rattle.throws.specs.Throws.{CycleState, nextOf}
 use Rattle.machine.specs.declared.Machine.{Machine}
 
 -- a start sets 'THROW to the handler, MEMORY to the length, and 'BAD and -ADDRESS to FFFFFFFFh

@@ -17,16 +17,16 @@ use bounds::judging::judge_bounded;
 use cell::Address;
 use cell::Judged;
 use cell::memory::store;
+use exceptions::fixed::ADDRESS_CELL;
+use exceptions::fixed::BAD_CELL;
+use exceptions::fixed::HANDLER_CELL;
+use exceptions::fixed::MEMORY_CELL;
 use machine::CycleResult;
 use machine::Ended;
 use machine::Machine;
 use machine::Registers;
 use machine::Table;
 use throws::ending::next;
-use throws::fixed::ADDRESS_CELL;
-use throws::fixed::BAD_CELL;
-use throws::fixed::HANDLER_CELL;
-use throws::fixed::MEMORY_CELL;
 
 // The four cells at the start of memory, the registers, then NEXT.
 fn begin(

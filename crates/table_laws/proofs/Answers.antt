@@ -9,7 +9,7 @@ use Rattle.cell.specs.Memory.{Alike, storeCell}
 use Rattle.cell.specs.declared.Judged.{Judged}
 use Rattle.cell.specs.declared.Judged.the-variants as judged
 use Rattle.cell.proofs.MemoryLaws.{cell-frame, alike-trans}
-use Rattle.throws.specs.Throws.{handlerCell, memoryCell, badCell, addressCell}
+use Rattle.exceptions.specs.Fixed.{handlerCell, memoryCell, badCell, addressCell}
 use Rattle.machine.specs.declared.Machine.{Machine}
 use Rattle.bounds.specs.Bounds.{judgeBounded, machineOf, firstSp, firstRp}
 use Rattle.cycles.specs.Cycles.{cycleOf}

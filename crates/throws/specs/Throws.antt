@@ -1,7 +1,7 @@
 -- NEXT, the throw and the stops. Document 01, The processor, on throws: the address goes to -ADDRESS where the fault has one, the code to the data
 -- stack, EP to 'BAD; then the machine goes on at the address in 'THROW, by a NEXT there. Where one of these cannot be done, it stops.
 use mathlib.Core.List.{List}
-use Prim.Native.Nat.{ℕ, _-_, _%_, _^_}
+use Prim.Native.Nat.{ℕ, _%_}
 use lib.Dec.{eqb}
 use lib.ListN.{length}
 use Rattle.cell.specs.Choice.{if}
@@ -14,6 +14,7 @@ use Rattle.cell.specs.declared.Fetched.the-variants.{Cell, Failed}
 use Rattle.machine.specs.Places.{oneCell, placeOf, fetchOf}
 use Rattle.machine.specs.Commits.{Stepped}
 use Rattle.exceptions.specs.Exceptions.{exceptionOf, exceptionCode}
+use Rattle.exceptions.specs.Fixed.{badStack, badHandler, handlerCell, badCell, addressCell}
 use Rattle.machine.specs.declared.Machine.{Machine}
 use Rattle.machine.specs.declared.Registers.{Registers}
 use Rattle.machine.specs.declared.Access.the-variants.{Stream, Push}
@@ -35,26 +36,6 @@ cycleState m r e = record { memory = m; result = record { registers = r; ended =
 
 abbrev pub withResult : List ℕ → CycleResult → CycleState
 withResult m t = record { memory = m; result = t }
-
--- the machine's own reasons
-abbrev pub badStack : ℕ
-badStack = 2 ^ 32 - 258
-
-abbrev pub badHandler : ℕ
-badHandler = 2 ^ 32 - 259
-
--- the cells at 0h, 4h, 8h and Ch: 'THROW, MEMORY, 'BAD, -ADDRESS
-abbrev pub handlerCell : ℕ
-handlerCell = 0
-
-abbrev pub memoryCell : ℕ
-memoryCell = 4
-
-abbrev pub badCell : ℕ
-badCell = 8
-
-abbrev pub addressCell : ℕ
-addressCell = 12
 
 -- A is the cell at h, EP the address after it
 abbrev pub entered : ℕ → ℕ → Registers → Registers

@@ -1,4 +1,4 @@
-// What has a fixed place or a fixed number: the machine's own cells, and the reasons of its own stops. specs/Throws.antt has the same names.
+// What has a fixed place or a fixed number: the machine's own cells, and the reasons of its own stops. specs/Fixed.antt has the same names.
 use cell::Address;
 
 // 'THROW

@@ -1,4 +1,4 @@
-// Exceptions.
+// Exceptions: HALT and LIB.
 ghost use mathlib.Core.Path.{_≡_};
 ghost use lib.ListN.{length};
 ghost use Rattle.machine.specs.Places as places;
@@ -8,6 +8,7 @@ use cell::Address;
 use cell::Fault;
 use cell::Fetched;
 use cell::number::add;
+use exceptions::fixed::BAD_STACK;
 use instruction::Instruction;
 use instruction::shape::fail_none;
 use machine::Machine;
@@ -15,7 +16,6 @@ use machine::NoStore;
 use machine::Registers;
 use machine::Then;
 use machine::places::fetch_data;
-use throws::fixed::BAD_STACK;
 
 // 55h HALT ( x -- ): an SP that is no valid cell stops the machine with -258.
 pub fn halt(machine: Machine, memory: &[u8], r: Registers) -> NoStore

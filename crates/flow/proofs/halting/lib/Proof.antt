@@ -1,7 +1,7 @@
 -- `lib` meets its contract: a fetch that fails is raised, and else the effect is the clause of specs/.
 use borrow.Author.Needs.{needs}
-use Rattle.flow.proofs.exceptions.lib.Statement.{statement}
-use Rattle.flow.proofs.exceptions.lib.Tie as tie
+use Rattle.flow.proofs.halting.lib.Statement.{statement}
+use Rattle.flow.proofs.halting.lib.Tie as tie
 use Rattle.instruction.specs.Plain as plain
 use mathlib.Core.Path.{_∙_, sym, ap}
 
