@@ -20,10 +20,10 @@ use Rattle.module_saving.specs.Answers.{saveOf}
 use Rattle.module_laws.specs.Theorems.{savedFile}
 use Rattle.module_judging.proofs.ConditionLaws.{good-machine}
 use Rattle.module_laws.proofs.Theorems.{saved-loads}
-use Rattle.list_machine.specs.Demand3.{Holds}
-use Rattle.list_machine.proofs.Simulation.{demand3}
-use Rattle.list_machine.proofs.Budget.{run-follows}
-use Rattle.list_machine.proofs.Packed.{packed-cells}
+use Rattle.demand3.specs.Demand3.{Holds}
+use Rattle.demand3.proofs.Simulation.{demand3}
+use Rattle.demand3.proofs.Budget.{run-follows}
+use Rattle.demand3.proofs.Packed.{packed-cells}
 use Rattle.approved.specs.Approved.{StandsAt, RunsAsListed, StartsAsListed, PackedRuns, ApprovedRuns}
 use Rattle.approved.proofs.Packing.{Made, made}
 use Rattle.approved.proofs.Starting.{four-length, four-holds, start-ready}

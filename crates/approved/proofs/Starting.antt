@@ -26,8 +26,8 @@ use Rattle.pack_layout.specs.Listing.{Listing}
 use Rattle.pack_layout.specs.Packing.{imageCells, Legal}
 use Rattle.pack_layout.proofs.Listing.{some-item}
 use Rattle.pack_layout.proofs.Packing.{placed, at-inside}
-use Rattle.list_machine.specs.Demand3.{Holds, firstRegisters}
-use Rattle.list_machine.proofs.Image.{image-fetch, still-holds}
+use Rattle.demand3.specs.Demand3.{Holds, firstRegisters}
+use Rattle.demand3.proofs.Image.{image-fetch, still-holds}
 
 -- the four cells lie below 10h
 module _ (machine : Machine) (m : List ℕ) (handler : ℕ) where

@@ -28,7 +28,7 @@ use Rattle.module_saving.specs.Answers.{saveOf}
 use Rattle.module_judging.specs.Conditions.{GoodPlace}
 use Rattle.module_laws.specs.Theorems.{savedFile}
 use Rattle.list_machine.specs.Runs.{runOf, beginning}
-use Rattle.list_machine.specs.Demand3.{firstRegisters, Agree, RunAgrees}
+use Rattle.demand3.specs.Demand3.{firstRegisters, Agree, RunAgrees}
 
 -- operands as they are lent: cells
 abbrev pub Cells : List ℕ → Type 0

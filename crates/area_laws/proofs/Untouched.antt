@@ -35,9 +35,9 @@ use Rattle.instruction.specs.Taking.{takingAt}
 use Rattle.instruction.specs.Dispatch.{OperandClass, next, plain, taking, operandClass, executed, executeOf, decodeOf}
 use Rattle.instruction.specs.declared.Instruction.{Instruction}
 use Rattle.cycles.specs.Cycles.{shifted, cycleOf, advanced, advance, cyclesOf}
-use Rattle.processor_laws.proofs.LengthLaws.{noted-length}
-use Rattle.list_machine.proofs.Frame.{stores-frame}
-use Rattle.list_machine.proofs.Throwing.{noted-frame}
+use Rattle.length_laws.proofs.LengthLaws.{noted-length}
+use Rattle.demand3.proofs.Frame.{stores-frame}
+use Rattle.demand3.proofs.Throwing.{noted-frame}
 use Rattle.area_laws.specs.Staying.{storesOf, storesBy, storesIn}
 
 -- stores that write no byte from lo up to hi, if all their places are good

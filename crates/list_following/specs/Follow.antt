@@ -15,7 +15,7 @@ use Rattle.cycles.specs.Counts.{begun}
 use Rattle.pack_layout.specs.Listing.{Listing, listed}
 use Rattle.list_machine.specs.ListMachine.{Position}
 use Rattle.list_machine.specs.Runs.{Course, goesOn, stoppedBy, stoodOutside, Run, runOf, resuming}
-use Rattle.list_machine.specs.Demand3.{Holds, firstRegisters, Agree}
+use Rattle.demand3.specs.Demand3.{Holds, firstRegisters, Agree}
 use Rattle.list_proposing.specs.Stands.{positionOf}
 use Rattle.list_proposing.specs.declared.Stand.{Stand}
 use Rattle.list_counting.specs.Endings.{endingNumber, endingReason}

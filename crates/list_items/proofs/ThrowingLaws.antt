@@ -28,7 +28,7 @@ use Rattle.machine.specs.declared.Access.the-variants.{Push, Stream}
 use Rattle.machine.specs.declared.Ended.{Ended}
 use Rattle.machine.specs.declared.Ended.the-variants.{Went, Threw, Stopped}
 use Rattle.machine.proofs.CommitLaws.{good-placed, room-place}
-use Rattle.processor_laws.proofs.LengthLaws.{noted-length}
+use Rattle.length_laws.proofs.LengthLaws.{noted-length}
 use Rattle.pack_layout.specs.Listing.{Listing}
 use Rattle.pack_layout.specs.Packing.{imageCells, epValue, entryAt}
 use Rattle.pack_layout.specs.declared.Entry.{Entry}

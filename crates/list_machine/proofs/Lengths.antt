@@ -19,7 +19,7 @@ use Rattle.machine.specs.declared.Machine.{Machine}
 use Rattle.machine.specs.declared.Access.the-variants.{Push}
 use Rattle.machine.specs.declared.Ended.{Ended}
 use Rattle.machine.specs.declared.Ended.the-variants.{Went, Threw, Stopped}
-use Rattle.processor_laws.proofs.LengthLaws.{stored-length, throw-length, throwing-length}
+use Rattle.length_laws.proofs.LengthLaws.{stored-length, throw-length, throwing-length}
 use Rattle.pack_layout.specs.Listing.{Listing}
 use Rattle.pack_layout.specs.Layout.{formAt}
 use Rattle.pack_layout.specs.Packing.{layout, entryAt}

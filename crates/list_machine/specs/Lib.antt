@@ -1,7 +1,6 @@
--- The list machine, its runs, and demand 3.
+-- The list machine and its runs.
 pub mod Outsides
 pub mod ListMachine
 pub mod Runs
 pub mod Cutting
-pub mod Demand3
 pub mod Worked

@@ -100,6 +100,8 @@ cases =
     ∷ case (0x52 ∷ 0x46 ∷ 0x55 ∷ []) (0x10 ∷ 0 ∷ 0 ∷ []) 0 0x300 2 (seen 0 2 2 0x300 0x18 goesOn)
     ∷ case (0x48 ∷ 0x55 ∷ []) (1 ∷ 0 ∷ []) 0 0x300 1 (seen 1 1 1 0x300 0x14 goesOn)
     ∷ case (0x52 ∷ 0x46 ∷ 0x55 ∷ []) (0x14 ∷ 0 ∷ 0 ∷ []) 0 0x300 9 (seen 1 1 1 0x2FC 0 (stoodOutside NoEntry))
+    -- CALL as the fourth opcode of its cell has an operand cell, and leaves the address behind that
+    ∷ case (0x19 ∷ 0x19 ∷ 0x19 ∷ 0x48 ∷ 0x55 ∷ []) (0 ∷ 0 ∷ 0 ∷ 4 ∷ 0 ∷ []) 0 0x300 4 (seen 4 4 4 0x2F4 0x18 goesOn)
     -- EXIT with an empty return stack raises; 'THROW is 0h, valid and no entry
     ∷ case (0x4A ∷ []) (0 ∷ []) 0 0x300 9 (seen 0 0 0 0x300 0 (stoodOutside NoHandler))
     -- the call and the return

@@ -1,4 +1,4 @@
-// The list machine and the theorem on packed rules stand in specs/ and proofs/. The code here is what its answers share.
+// The list machine stands in specs/ and proofs/. The code here is what its answers share.
 ghost use mathlib.Core.Path.{_≡_};
 ghost use Rattle.list_machine.specs.Outsides as outsides;
 

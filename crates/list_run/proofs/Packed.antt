@@ -16,7 +16,7 @@ use Rattle.areas.specs.declared.Areas.{Areas}
 use Rattle.pack_layout.specs.Listing.{listed}
 use Rattle.pack_layout.specs.Packing.{imageCells, judgedPlace}
 use Rattle.list_machine.specs.Runs.{Run, runOf, resuming}
-use Rattle.list_machine.proofs.Simulation.{demand3}
+use Rattle.demand3.proofs.Simulation.{demand3}
 use Rattle.list_proposing.specs.Stands.{positionOf}
 use Rattle.list_counting.specs.declared.ItemRun.{ItemRun}
 use Rattle.list_refusals.specs.Judging.{judgeBegin, judgeImage, judgeFollow}

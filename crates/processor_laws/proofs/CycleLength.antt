@@ -13,7 +13,7 @@ use Rattle.instruction.specs.Taking.{takingAt}
 use Rattle.instruction.specs.declared.Instruction.{Instruction}
 use Rattle.instruction.specs.Dispatch.{OperandClass, next, plain, taking, operandClass, executed, executeOf, decodeOf}
 use Rattle.cycles.specs.Cycles.{shifted, cycleOf, advanced, advance, cyclesOf}
-use Rattle.processor_laws.proofs.LengthLaws.{commit-length, finish-length}
+use Rattle.length_laws.proofs.LengthLaws.{commit-length, finish-length}
 
 module _ (machine : Machine) where
   executed-length : (m : List ℕ) (r : Registers) (i : Instruction) (c : OperandClass) → length (executed machine m r i c .memory) ≡ length m

@@ -1,5 +1,4 @@
 -- Laws of iterated cycles: memory keeps its length (CycleLength), a sound machine stays sound (CycleSound), and a budget can be cut (BudgetLaws).
-pub mod LengthLaws
 pub mod CycleLength
 pub mod NumberBounds
 pub mod EffectBounds

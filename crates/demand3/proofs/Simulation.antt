@@ -23,12 +23,12 @@ use Rattle.pack_layout.specs.Layout.{cur, opens}
 use Rattle.pack_layout.specs.Packing.{layout, addressOf, epValue, register, Legal}
 use Rattle.pack_layout.proofs.Listing.{some-item}
 use Rattle.pack_layout.proofs.Packing.{at-inside}
 use Rattle.list_machine.specs.ListMachine.{Position, Carried, on, stopped, outside, carryOut, cyclesAt}
 use Rattle.list_machine.specs.Runs.{Course, goesOn, stoppedBy, stoodOutside, Run, furtherBy, furtherIn, further, runOf, beginning}
-use Rattle.list_machine.specs.Demand3.{Holds, firstRegisters, Agree, Demand3, running, stopOf, stopIn}
-use Rattle.list_machine.proofs.Image.{atItem, next-enters}
-use Rattle.list_machine.proofs.Meets.{Meets, GoesOn, Stops, Sound, standing, registersFor}
-use Rattle.list_machine.proofs.Agreement.{item-meets}
+use Rattle.demand3.specs.Demand3.{Holds, firstRegisters, Agree, Demand3, running, stopOf, stopIn}
+use Rattle.demand3.proofs.Image.{atItem, next-enters}
+use Rattle.demand3.proofs.Meets.{Meets, GoesOn, Stops, Sound, standing, registersFor}
+use Rattle.demand3.proofs.Agreement.{item-meets}
 use Rattle.processor_laws.proofs.DoneLaws.{one-done, two-done, done-cut}
 
 stands-sp : (b : Bool) (base : ℕ) (l : Listing) (p : Position) → standing b base l p .sp ≡ p .sp

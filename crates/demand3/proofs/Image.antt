@@ -21,7 +21,7 @@ use Rattle.pack_layout.specs.Layout.{opens, mid}
 use Rattle.pack_layout.specs.Packing.{layout, imageCells, image, addressOf, epValue, register, Legal}
 use Rattle.pack_layout.proofs.Packing.{placed, at-inside}
 use Rattle.pack_layout.proofs.Meet.{enter}
-use Rattle.list_machine.specs.Demand3.{Holds}
+use Rattle.demand3.specs.Demand3.{Holds}
 
 fetch-good : (machine : Machine) (m : List ℕ) (a : ℕ) → a < length m → a % 4 ≡ 0 → fetchOf machine Stream m a ≡ Cell (cellAt (machine .order) m a)
 unfolding fetchOf placeOf

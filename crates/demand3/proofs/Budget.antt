@@ -17,9 +17,9 @@ use Rattle.areas.specs.declared.RegisterFile.{RegisterFile}
 use Rattle.cycles.specs.Cycles.{cyclesOf}
 use Rattle.cycles.specs.Counts.{begun}
 use Rattle.processor.specs.Answers.{ranAs, ranTo, runAnswer}
 use Rattle.list_machine.specs.Runs.{Run, runOf, beginning}
-use Rattle.list_machine.specs.Demand3.{Stop, stopOf, firstRegisters, Agree, ranWith, RunAgrees, RunFollows}
-use Rattle.list_machine.proofs.Simulation.{demand3}
+use Rattle.demand3.specs.Demand3.{Stop, stopOf, firstRegisters, Agree, ranWith, RunAgrees, RunFollows}
+use Rattle.demand3.proofs.Simulation.{demand3}
 
 ran-as : (areas : Areas) (r : Registers) (n : ℕ) (e : Ended) → ranAs areas r n e ≡ ranWith (stopOf e) (filed areas r) n
 ran-as areas r n Went = refl

@@ -17,7 +17,7 @@ use Rattle.machine.specs.declared.Registers.{Registers}
 use Rattle.machine.specs.declared.Outcome.{Outcome}
 use Rattle.machine.specs.declared.Outcome.the-variants.{Went, Next, Raise, Halt, Throw}
 use Rattle.machine.specs.declared.Ended.the-variants as ended
-use Rattle.processor_laws.proofs.LengthLaws.{stored-length}
+use Rattle.length_laws.proofs.LengthLaws.{stored-length}
 use Rattle.pack_layout.specs.Listing.{Listing}
 use Rattle.pack_layout.specs.Layout.{formAt}
 use Rattle.pack_layout.specs.Packing.{layout, imageCells, epValue, entryAt, Legal}
@@ -25,14 +25,14 @@ use Rattle.pack_layout.specs.declared.Entry.{Entry}
 use Rattle.pack_layout.specs.declared.Entry.the-variants.{Item, Nothing}
 use Rattle.pack_layout.proofs.Placing.{entry-opens}
 use Rattle.pack_layout.proofs.Finding.{found}
 use Rattle.list_machine.specs.declared.Outside.the-variants.{WritesImage, NoEntry, PastEnd}
 use Rattle.list_machine.specs.ListMachine.{Position, on, outside, isImmediate, actedTo, movedTo, enteredAt, writesImage, followed, acted, carriedBy}
-use Rattle.list_machine.specs.Demand3.{Holds}
-use Rattle.list_machine.proofs.Frame.{stores-frame}
-use Rattle.list_machine.proofs.Image.{still-holds, next-enters}
-use Rattle.list_machine.proofs.Meets.{Meets, registersFor}
+use Rattle.demand3.specs.Demand3.{Holds}
+use Rattle.demand3.proofs.Frame.{stores-frame}
+use Rattle.demand3.proofs.Image.{still-holds, next-enters}
+use Rattle.demand3.proofs.Meets.{Meets, registersFor}
 use Rattle.exceptions.specs.Exceptions.{exceptionOf}
-use Rattle.list_machine.proofs.Throwing.{throw-meets, throwing-meets}
+use Rattle.demand3.proofs.Throwing.{throw-meets, throwing-meets}
 
 abbrev pub isWent : Outcome → Bool
 isWent Went = true

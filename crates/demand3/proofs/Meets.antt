@@ -19,10 +19,10 @@ use Rattle.pack_layout.specs.declared.Entry.{Entry}
 use Rattle.pack_layout.specs.declared.Entry.the-variants.{Item, Nothing}
 use Rattle.pack_layout.proofs.Placing.{entry-opens}
 use Rattle.pack_layout.proofs.Finding.{found}
 use Rattle.list_machine.specs.declared.Outside.{Outside}
 use Rattle.list_machine.specs.ListMachine.{Position, Carried, on, stopped, outside, enteredAt, transferred}
-use Rattle.list_machine.specs.Demand3.{Holds}
-use Rattle.list_machine.proofs.Image.{atItem, entry-cell, ep-after}
+use Rattle.demand3.specs.Demand3.{Holds}
+use Rattle.demand3.proofs.Image.{atItem, entry-cell, ep-after}
 
 -- at the item; or, where the item opens a cell and the one before it ran on, before the NEXT that enters it
 abbrev pub standing : Bool → ℕ → Listing → Position → Registers

@@ -10,7 +10,7 @@ use Rattle.pack_layout.specs.Output.{bytesOf}
 use Rattle.pack_layout.specs.Packing.{imageCells, image, Legal}
 use Rattle.pack_layout.proofs.Output.{cell-there}
 use Rattle.pack_layout.proofs.Packing.{image-below, size-is}
-use Rattle.list_machine.specs.Demand3.{PackedHolds}
+use Rattle.demand3.specs.Demand3.{PackedHolds}
 
 -- bytes that are alike give one cell
 same-cell : (order : ℕ) (m bs : List ℕ) (base a n : ℕ) → ((i : ℕ) → i < n → getD m (base + i) 0 ≡ getD bs i 0) → a + 4 < suc n

@@ -28,16 +28,16 @@ use Rattle.machine.specs.declared.Access.the-variants.{Stream, Push}
 use Rattle.machine.specs.declared.Ended.{Ended}
 use Rattle.machine.specs.declared.Ended.the-variants.{Went, Threw, Stopped}
 use Rattle.cycles.specs.Counts.{isStop}
-use Rattle.processor_laws.proofs.LengthLaws.{noted-length}
+use Rattle.length_laws.proofs.LengthLaws.{noted-length}
 use Rattle.pack_layout.specs.Listing.{Listing}
 use Rattle.pack_layout.specs.Packing.{imageCells, epValue, Legal}
 use Rattle.pack_layout.proofs.Packing.{placed}
 use Rattle.list_machine.specs.declared.Outside.the-variants.{WritesImage}
 use Rattle.list_machine.specs.ListMachine.{Position, outside, pushOf, writesImage, registersAt, handled, thrown}
-use Rattle.list_machine.specs.Demand3.{Holds}
-use Rattle.list_machine.proofs.Frame.{stores-frame}
-use Rattle.list_machine.proofs.Image.{still-holds}
-use Rattle.list_machine.proofs.Meets.{Meets, enters}
+use Rattle.demand3.specs.Demand3.{Holds}
+use Rattle.demand3.proofs.Frame.{stores-frame}
+use Rattle.demand3.proofs.Image.{still-holds}
+use Rattle.demand3.proofs.Meets.{Meets, enters}
 
 pub noted-frame : (machine : Machine) (lo hi : ℕ) (m : List ℕ) (e : Exception) → 16 ≤ lo → Alike lo hi m (noted machine m e)
 noted-frame machine lo hi m (Range a) h = cell-frame lo hi (machine .order) m addressCell (a .0) (inl (omega arith))

@@ -36,12 +36,12 @@ use Rattle.pack_layout.specs.Packing.{marks, layout, value, addressOf, epValue,
 use Rattle.pack_layout.proofs.Listing.{is-kind}
 use Rattle.pack_layout.proofs.Packing.{placed, ep-inside, size-is}
 use Rattle.pack_layout.proofs.Meet.{opcode, advance, run-into, immediate-value, immediate-next, operand-cell, operand-inside, literal-value, branch-lands, branch-cell}
 use Rattle.list_machine.specs.ListMachine.{operandAt, carryOut}
-use Rattle.list_machine.specs.Demand3.{Holds}
+use Rattle.demand3.specs.Demand3.{Holds}
 use Rattle.list_machine.proofs.Opcodes.{leads, Taken, literal-taken, branch-taken, plain-decodes}
-use Rattle.list_machine.proofs.Image.{atItem, image-fetch, next-enters}
-use Rattle.list_machine.proofs.Meets.{Meets, standing, registersFor}
-use Rattle.list_machine.proofs.Carrying.{Way, isWent, standsAt, carried-meets}
+use Rattle.demand3.proofs.Image.{atItem, image-fetch, next-enters}
+use Rattle.demand3.proofs.Meets.{Meets, standing, registersFor}
+use Rattle.demand3.proofs.Carrying.{Way, isWent, standsAt, carried-meets}
 
 -- the form of an item by its class
 plain-form : (c : kind.Class) (m : Bool) (x f : ℕ) → c ≡ Plain → packing.formOf c m x f ≡ Alone

@@ -1,0 +1,2 @@
+-- Laws of the length of memory.
+pub mod LengthLaws

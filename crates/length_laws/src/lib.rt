@@ -1,0 +1,1 @@
+// That memory keeps its length stands in proofs/.
