@@ -1,8 +1,8 @@
 -- Modules that share a byte of memory. Document 02, (d).
-use mathlib.Core.Bool.{Bool, false, _||_}
+use mathlib.Core.Bool.{Bool, true, false, _||_, _&&_}
 use mathlib.Core.List.{List, [], _∷_}
 use Prim.Native.Nat.{ℕ, _+_, _-_, _*_, _≤_, min, max}
-use lib.Dec.{ltb}
+use lib.Dec.{leb, ltb}
 use lib.ListN.{length}
 use Rattle.set_judging.specs.declared.Member.{Member}
 use Rattle.set_judging.specs.Members.{memberAt, cellsOf}
@@ -34,3 +34,8 @@ module _ (end : Member → ℕ) where
   abbrev pub sharing : List Member → Bool
   sharing [] = false
   sharing (x ∷ xs) = sharesOne x xs || sharing xs
+
+  -- each begins where the one before it ends, or later; the first at e or later
+  abbrev pub ascendingFrom : ℕ → List Member → Bool
+  ascendingFrom e [] = true
+  ascendingFrom e (x ∷ xs) = leb e (x .address .0) && ascendingFrom (end x) xs
