@@ -68,7 +68,7 @@ pub fn judge_set(length: usize, order: u8, buffer: &[u8], numbers: &[u32]) -> Ju
     match judge_machine(length, order) {
         Judged::Refused(r) => Judged::Refused(r),
         Judged::Passed => match judge_members(length, order, buffer, numbers) {
-            Judged::Refused(r) => Judged::Refused(r),
+            Judged::Refused(own) => Judged::Refused(own),
             Judged::Passed => judge_together(numbers),
         },
     }

@@ -20,8 +20,8 @@ enum-told c = search needs
 judge-members-requires : tie.Need-judge-members-requires
 judge-members-requires c κs = search needs
 
-enum-known-r-2 : tie.Need-enum-known-r-2
-enum-known-r-2 c = search needs
+enum-known-own : tie.Need-enum-known-own
+enum-known-own c = search needs
 
 enum-told-2 : tie.Need-enum-told-2
 enum-told-2 c = search needs
@@ -37,7 +37,7 @@ returns c = rw (sym (c .before .before .before .judge-machine .ensures) ∙ c .b
 
 returns-2 : tie.Need-returns-2
 unfolding grounds.judgeSet
-returns-2 c = rw (sym (c .before .before .before .before .before .before .judge-machine .ensures) ∙ c .before .before .before .before .enum-told .given .1, sym (c .before .before .before .judge-members .ensures) ∙ c .before .r2 .given .1)
+returns-2 c = rw (sym (c .before .before .before .before .before .before .judge-machine .ensures) ∙ c .before .before .before .before .enum-told .given .1, sym (c .before .before .before .judge-members .ensures) ∙ c .before .own .given .1)
 
 returns-3 : tie.Need-returns-3
 unfolding grounds.judgeSet
@@ -53,7 +53,7 @@ judge-set-spec =
     enum-known-r
     enum-told
     judge-members-requires
-    enum-known-r-2
+    enum-known-own
     enum-told-2
     judge-together-requires
     returns
