@@ -2,7 +2,7 @@
 -- top, the held cell just under it, the return area below its own top. -4111 turns areas away, the held cell counted as one of them; sums are exact.
 use Rattle.std.specs.Prelude.{◌≡◌, Bool, not, ◌&&◌, ◌||◌, [], ◌∷◌, ℕ, ◌+◌, ◌*◌, ◌%◌, ◌≤◌, ltb, eqb}
 use Rattle.cell.specs.Choice.{if}
-use Rattle.cell.specs.Memory.{cellCount}
+use Rattle.cell.specs.Memory.{cell_count}
 use Rattle.cell.specs.Place.{address}
 use Rattle.cell.specs.Refusals.{Ground, judge}
 use Rattle.cell.specs.declared.Refusal.TheVariants.{StackAreas}
@@ -13,16 +13,16 @@ use Rattle.areas.specs.declared.Area.{Area}
 use Rattle.areas.specs.declared.Areas.{Areas}
 use Rattle.areas.specs.declared.RegisterFile.{RegisterFile}
 
-abbrev pub areaOf : ℕ → ℕ → Area
-areaOf top cells = record { top = address top; cells = cellCount cells }
+abbrev pub area_of : ℕ → ℕ → Area
+area_of top cells = record { top = address top; cells = cell_count cells }
 
-abbrev pub areasOf : ℕ → ℕ → ℕ → ℕ → Areas
-areasOf dataTop dataCells returnTop returnCells =
-    record { stack = areaOf dataTop dataCells; returns = areaOf returnTop returnCells }
+abbrev pub areas_of : ℕ → ℕ → ℕ → ℕ → Areas
+areas_of data_top data_cells return_top return_cells =
+    record { stack = area_of data_top data_cells; returns = area_of return_top return_cells }
 
 -- four zeros
-abbrev pub noAreas : Areas
-noAreas = areasOf 0 0 0 0
+abbrev pub no_areas : Areas
+no_areas = areas_of 0 0 0 0
 
 abbrev pub zero : Area → Bool
 zero area = eqb area.top.0 0 && eqb area.cells.0 0
@@ -31,43 +31,43 @@ abbrev pub none : Areas → Bool
 none areas = zero areas.stack && zero areas.returns
 
 -- the cells held under an area: one under the data area, none under the return area
-abbrev pub heldUnderData : ℕ
-heldUnderData = 1
+abbrev pub held_under_data : ℕ
+held_under_data = 1
 
-abbrev pub heldUnderReturn : ℕ
-heldUnderReturn = 0
+abbrev pub held_under_return : ℕ
+held_under_return = 0
 
 -- the bytes of an area with the cells held under it
-abbrev pub bytesWith : ℕ → Area → ℕ
-bytesWith held area = 4 * (area.cells.0 + held)
+abbrev pub bytes_with : ℕ → Area → ℕ
+bytes_with held area = 4 * (area.cells.0 + held)
 
 -- an area with an unaligned top, with no cell, that begins below 0 or ends past memory
 abbrev pub misplaced : ℕ → ℕ → Area → Bool
 misplaced len held area =
     not (eqb (area.top.0 % 4) 0)
-    || (eqb area.cells.0 0 || (ltb area.top.0 (bytesWith held area) || ltb len area.top.0))
+    || (eqb area.cells.0 0 || (ltb area.top.0 (bytes_with held area) || ltb len area.top.0))
 
 -- an area, with the cells held under it, begins below a top
-abbrev pub beginsBelow : ℕ → Area → ℕ → Bool
-beginsBelow held area top = ltb area.top.0 (top + bytesWith held area)
+abbrev pub begins_below : ℕ → Area → ℕ → Bool
+begins_below held area top = ltb area.top.0 (top + bytes_with held area)
 
 -- each begins below the other's top
 abbrev pub overlapping : Areas → Bool
 overlapping areas =
-    beginsBelow heldUnderReturn areas.returns areas.stack.top.0
-    && beginsBelow heldUnderData areas.stack areas.returns.top.0
+    begins_below held_under_return areas.returns areas.stack.top.0
+    && begins_below held_under_data areas.stack areas.returns.top.0
 
 -- -4111
-abbrev pub badAreas : Bool → Ground
-badAreas applies = record { applies = applies; refusal = StackAreas }
+abbrev pub bad_areas : Bool → Ground
+bad_areas applies = record { applies = applies; refusal = StackAreas }
 
-unfoldable pub judgeAreas : ℕ → Areas → Judged
-judgeAreas len areas =
+unfoldable pub judge_areas : ℕ → Areas → Judged
+judge_areas len areas =
     if (none areas) Passed
     (judge
-    (badAreas (misplaced len heldUnderData areas.stack)
-    ∷ badAreas (misplaced len heldUnderReturn areas.returns)
-    ∷ badAreas (overlapping areas)
+    (bad_areas (misplaced len held_under_data areas.stack)
+    ∷ bad_areas (misplaced len held_under_return areas.returns)
+    ∷ bad_areas (overlapping areas)
     ∷ []))
 
 -- the registers that cycles move, beside the areas
@@ -78,5 +78,5 @@ filed areas r = record { registers = r; areas = areas }
 pub record Placed (len held : ℕ) (area : Area) : Type 0 where
   pub aligned : area.top.0 % 4 ≡ 0
   pub some : 1 ≤ area.cells.0
-  pub begins : bytesWith held area ≤ area.top.0
+  pub begins : bytes_with held area ≤ area.top.0
   pub ends : area.top.0 ≤ len

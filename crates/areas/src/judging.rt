@@ -44,7 +44,7 @@ fn is_misplaced(length: usize, held: u32, area: Area) -> bool
 // Whether an area, with the cells held under it, begins below a top.
 fn begins_below(held: u32, area: Area, top: Address) -> bool
     requires { held ≤ 1 }
-    ensures { result ≡ areas.beginsBelow held area top.0 }
+    ensures { result ≡ areas.begins_below held area top.0 }
 {
     let own = area.top;
     let cells = area.cells;
@@ -63,7 +63,7 @@ fn do_overlap(given: Areas) -> bool
 }
 
 pub fn judge_areas(length: usize, given: Areas) -> Judged
-    ensures { result ≡ areas.judgeAreas length given }
+    ensures { result ≡ areas.judge_areas length given }
 {
     if is_none(given) {
         return Judged::Passed;

@@ -1,7 +1,7 @@
 // The call for batches.
 ghost use Rattle.std.specs.Prelude.{◌≡◌};
 ghost use Rattle.calls.specs.Modules.{moved};
-ghost use Rattle.batches.specs.Batches.{commonOf, formsGiven};
+ghost use Rattle.batches.specs.Batches.{common_of, forms_given};
 ghost use Rattle.batch_calls.specs.Batches as batches;
 
 use crate::notes::note_batched;
@@ -25,7 +25,7 @@ pub fn call_batch(
     budget: u32,
     out: &mut [u32],
 ) -> u32
-    ensures { moved memory.new out.new result ≡ batches.batchCall (commonOf order start.now address.0 r table budget) memory.old (formsGiven forms.now count size) out.old }
+    ensures { moved memory.new out.new result ≡ batches.batch_call (common_of order start.now address.0 r table budget) memory.old (forms_given forms.now count size) out.old }
 {
     if out.len() < 11 {
         let areas = r.areas;

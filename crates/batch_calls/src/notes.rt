@@ -11,7 +11,7 @@ use cell::judgement::refusal_number;
 // The eleven numbers of a report.
 fn write_report(out: &mut [u32], report: Report)
     requires { 11 ≤ length out.old }
-    ensures { out.new ≡ written (batches.reportList report) out.old }
+    ensures { out.new ≡ written (batches.report_list report) out.old }
 {
     let t = report.tally;
     let mean = report.mean;
@@ -30,7 +30,7 @@ fn write_report(out: &mut [u32], report: Report)
 
 pub fn note_batched(answer: Batched, out: &mut [u32]) -> u32
     requires { 11 ≤ length out.old }
-    ensures { modules.noted out.new result ≡ batches.batchNoted out.old answer }
+    ensures { modules.noted out.new result ≡ batches.batch_noted out.old answer }
 {
     match answer {
         Batched::Refused(r) => refusal_number(r),

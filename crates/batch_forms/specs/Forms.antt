@@ -2,9 +2,9 @@
 use Rattle.std.specs.Prelude.{List, [], ◌∷◌, ◌++◌, ℕ, zero, suc, ◌+◌, length, take, drop}
 
 -- so many forms, each of so many bytes, end to end from the beginning of a buffer on
-abbrev pub formsOf : ℕ → ℕ → List ℕ → List (List ℕ)
-formsOf zero size buffer = []
-formsOf (suc n) size buffer = take size buffer ∷ formsOf n size (drop size buffer)
+abbrev pub forms_of : ℕ → ℕ → List ℕ → List (List ℕ)
+forms_of zero size buffer = []
+forms_of (suc n) size buffer = take size buffer ∷ forms_of n size (drop size buffer)
 
 -- the start memory, with a form's bytes in the place of its own from an address on
 abbrev pub formed : List ℕ → ℕ → List ℕ → List ℕ

@@ -5,25 +5,25 @@ use Rattle.cell.specs.declared.Refusal.TheVariants.{MemoryLength, Outside, Short
 use Rattle.cell.specs.declared.Judged.{Judged}
 use Rattle.machine.specs.declared.Table.{Table}
 use Rattle.areas.specs.declared.Areas.{Areas}
-use Rattle.bounds.specs.Bounds.{judgeBounded}
+use Rattle.bounds.specs.Bounds.{judge_bounded}
 
 -- -4101: the memory that is run in is not as long as the start memory, which is judged as every memory is
-abbrev pub otherLength : ℕ → ℕ → Ground
-otherLength len lent = record { applies = not (eqb lent len); refusal = MemoryLength }
+abbrev pub other_length : ℕ → ℕ → Ground
+other_length len lent = record { applies = not (eqb lent len); refusal = MemoryLength }
 
 -- -1: a form at the address passes the end of memory. One of no bytes may stand there
-abbrev pub pastMemory : ℕ → ℕ → ℕ → Ground
-pastMemory len a size = record { applies = ltb len (a + size); refusal = Outside }
+abbrev pub past_memory : ℕ → ℕ → ℕ → Ground
+past_memory len a size = record { applies = ltb len (a + size); refusal = Outside }
 
 -- -4105: the buffer is shorter than so many forms
-abbrev pub tooFewBytes : ℕ → ℕ → ℕ → Ground
-tooFewBytes size forms count = record { applies = ltb forms (count * size); refusal = ShortOutput }
+abbrev pub too_few_bytes : ℕ → ℕ → ℕ → Ground
+too_few_bytes size forms count = record { applies = ltb forms (count * size); refusal = ShortOutput }
 
-unfoldable pub judgeForms : ℕ → ℕ → ℕ → ℕ → ℕ → Judged
-judgeForms len a size forms count = judge (pastMemory len a size ∷ tooFewBytes size forms count ∷ [])
+unfoldable pub judge_forms : ℕ → ℕ → ℕ → ℕ → ℕ → Judged
+judge_forms len a size forms count = judge (past_memory len a size ∷ too_few_bytes size forms count ∷ [])
 
 -- of a start memory of len bytes, a memory of lent bytes, and a buffer of so many bytes
-unfoldable pub judgeBatch : ℕ → ℕ → ℕ → Areas → Table → ℕ → ℕ → ℕ → ℕ → Judged
-judgeBatch order len lent areas table a size forms count =
-    after (judge (otherLength len lent ∷ []))
-    (after (judgeBounded len order areas table) (judgeForms len a size forms count))
+unfoldable pub judge_batch : ℕ → ℕ → ℕ → Areas → Table → ℕ → ℕ → ℕ → ℕ → Judged
+judge_batch order len lent areas table a size forms count =
+    after (judge (other_length len lent ∷ []))
+    (after (judge_bounded len order areas table) (judge_forms len a size forms count))

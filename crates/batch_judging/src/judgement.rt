@@ -9,7 +9,7 @@ use machine::Table;
 
 // Where the forms go and what there is of them, once both memories have passed.
 fn judge_forms(length: usize, address: Address, size: u32, forms: usize, count: u16) -> Judged
-    ensures { result ≡ grounds.judgeForms length address.0 size forms count }
+    ensures { result ≡ grounds.judge_forms length address.0 size forms count }
 {
     let end = address.0 as u64 + size as u64;
     if (length as u64) < end {
@@ -34,7 +34,7 @@ pub fn judge_batch(
     forms: usize,
     count: u16,
 ) -> Judged
-    ensures { result ≡ grounds.judgeBatch order length lent areas table address.0 size forms count }
+    ensures { result ≡ grounds.judge_batch order length lent areas table address.0 size forms count }
 {
     if lent != length {
         return Judged::Refused(Refusal::MemoryLength);

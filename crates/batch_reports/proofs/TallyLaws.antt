@@ -8,16 +8,16 @@ use native.Mathlib.Omega.{arith}
 use lib.ListN.{length-append}
 use Rattle.processor.specs.Answers.{RunAnswer}
 use Rattle.batch_reports.specs.declared.Tally.{Tally}
-use Rattle.batch_reports.specs.Reports.{sum_of, largestOf, tally_of, noRuns, added}
+use Rattle.batch_reports.specs.Reports.{sum_of, largest_of, tally_of, no_runs, added}
 
 max_assoc : (a b c : ℕ) → max (max a b) c ≡ max a (max b c)
 max_assoc a b c = omega arith
 
-pub added-assoc : (s t u : Tally) → added (added s t) u ≡ added s (added t u)
-added-assoc s t u = simp (add_assoc, max_assoc)
+pub added_assoc : (s t u : Tally) → added (added s t) u ≡ added s (added t u)
+added_assoc s t u = simp (add_assoc, max_assoc)
 
-pub added-comm : (s t : Tally) → added s t ≡ added t s
-added-comm s t =
+pub added_comm : (s t : Tally) → added s t ≡ added t s
+added_comm s t =
     rw (
       add_comm s.forms t.forms,
       add_comm s.zeros t.zeros,
@@ -29,17 +29,17 @@ added-comm s t =
       max_comm s.largest t.largest,
     )
 
-pub added_none : (t : Tally) → added noRuns t ≡ t
+pub added_none : (t : Tally) → added no_runs t ≡ t
 added_none t = simp (zero-add, zero-max)
 
 -- of two lists of runs, one behind the other
-sum-append : (f : RunAnswer → ℕ) (xs ys : List RunAnswer) → sum_of f (xs ++ ys) ≡ sum_of f xs + sum_of f ys
-sum-append f [] ys = omega arith
-sum-append f (x ∷ xs) ys = omega (arith, sum-append f xs ys)
+sum_append : (f : RunAnswer → ℕ) (xs ys : List RunAnswer) → sum_of f (xs ++ ys) ≡ sum_of f xs + sum_of f ys
+sum_append f [] ys = omega arith
+sum_append f (x ∷ xs) ys = omega (arith, sum_append f xs ys)
 
-largest-append : (f : RunAnswer → ℕ) (xs ys : List RunAnswer) → largestOf f (xs ++ ys) ≡ max (largestOf f xs) (largestOf f ys)
-largest-append f [] ys = omega arith
-largest-append f (x ∷ xs) ys = omega (arith, largest-append f xs ys)
+largest_append : (f : RunAnswer → ℕ) (xs ys : List RunAnswer) → largest_of f (xs ++ ys) ≡ max (largest_of f xs) (largest_of f ys)
+largest_append f [] ys = omega arith
+largest_append f (x ∷ xs) ys = omega (arith, largest_append f xs ys)
 
-pub tally-append : (xs ys : List RunAnswer) → tally_of (xs ++ ys) ≡ added (tally_of xs) (tally_of ys)
-tally-append xs ys = simp (length-append, sum-append, largest-append)
+pub tally_append : (xs ys : List RunAnswer) → tally_of (xs ++ ys) ≡ added (tally_of xs) (tally_of ys)
+tally_append xs ys = simp (length-append, sum_append, largest_append)

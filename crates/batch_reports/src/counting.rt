@@ -10,7 +10,7 @@ use processor::Ran;
 
 // Before any run.
 pub fn no_runs() -> Tally
-    ensures value { result ≡ reports.noRuns }
+    ensures value { result ≡ reports.no_runs }
     ensures within { conditions.Within result }
 {
     Tally {
@@ -45,7 +45,7 @@ fn one(zeros: u32, stacks: u32, handlers: u32, others: u32, spent: u32, cycles: 
 
 // One run, by its answer.
 pub fn count_run(a: Ran, budget: u32) -> Tally
-    ensures value { (r : RegisterFile) (m : List ℕ) → result ≡ reports.tally_of (answers.ranTo r budget m a ∷ []) }
+    ensures value { (r : RegisterFile) (m : List ℕ) → result ≡ reports.tally_of (answers.ran_to r budget m a ∷ []) }
     ensures within { conditions.Within result }
 {
     match a {
@@ -95,7 +95,7 @@ pub fn add(s: Tally, t: Tally) -> Tally
 // The mean of the cycles, in whole numbers.
 fn mean_of(t: Tally) -> Mean
     requires { conditions.Within t × (t.forms ≤ 65535) }
-    ensures { result ≡ reports.meanOf t }
+    ensures { result ≡ reports.mean_of t }
 {
     let forms = t.forms as u64;
     if forms == 0 {

@@ -30,8 +30,8 @@ fn run_forms(
     requires memory_len { length memory.old ≡ length start.now }
     requires size_in_bounds { address.0 + size ≤ length start.now }
     requires size_in_bounds_2 { count * size ≤ length forms.now }
-    ensures value { result ≡ reports.tally_of (batches.runsIn order start.now forms.now count size address.0 r table budget) }
-    ensures memory_after { memory.new ≡ batches.lastMemory memory.old (batches.runsIn order start.now forms.now count size address.0 r table budget) }
+    ensures value { result ≡ reports.tally_of (batches.runs_in order start.now forms.now count size address.0 r table budget) }
+    ensures memory_after { memory.new ≡ batches.last_memory memory.old (batches.runs_in order start.now forms.now count size address.0 r table budget) }
     ensures within { conditions.Within result × (result.forms ≤ 65535) }
 {
     let n = count as u32;
@@ -61,7 +61,7 @@ pub fn batch(
     table: Table,
     budget: u32,
 ) -> Batched
-    ensures { batches.batchedTo memory.new result ≡ batches.batchAnswer (batches.commonOf order start.now address.0 r table budget) memory.old (batches.formsGiven forms.now count size) }
+    ensures { batches.batched_to memory.new result ≡ batches.batch_answer (batches.common_of order start.now address.0 r table budget) memory.old (batches.forms_given forms.now count size) }
 {
     let areas = r.areas;
     match judge_batch(

@@ -5,73 +5,73 @@ use Prim.Native.Nat.{ℕ, zero, suc, ◌%◌}
 use lib.ListN.{length}
 use Rattle.cell.specs.Refusals.{Lent}
 use Rattle.cell.proofs.MemoryLaws.{store_length}
-use Rattle.machine.specs.Places.{noTable, unbounded}
+use Rattle.machine.specs.Places.{no_table, unbounded}
 use Rattle.throws.specs.Throws.{CycleState}
 use Rattle.machine.specs.declared.Registers.{Registers}
 use Rattle.machine.specs.declared.Ended.{Ended}
 use Rattle.machine.specs.declared.Ended.TheVariants.{Went, Threw, Stopped}
-use Rattle.instruction.specs.Dispatch.{OperandClass, next, plain, taking, operandClass, decodeOf, executed, executeOf}
+use Rattle.instruction.specs.Dispatch.{OperandClass, next, plain, taking, operand_class, decode_of, executed, execute_of}
 use Rattle.instruction.specs.declared.Instruction.{Instruction}
-use Rattle.cycles.specs.Cycles.{shifted, cycleOf, advanced, advance, cyclesOf}
+use Rattle.cycles.specs.Cycles.{shifted, cycle_of, advanced, advance, cycles_of}
 use Rattle.cycles.specs.Counts.{begun, done_of}
 use Rattle.processor_start.specs.Starting.{start_of}
-use Rattle.processor_laws.proofs.CycleLength.{execute-length, advance-keeps-length}
-use Rattle.before_tables.proofs.PlainLaws.{same-plain}
-use Rattle.before_tables.proofs.TakingLaws.{same-taking-at}
+use Rattle.processor_laws.proofs.CycleLength.{execute_length, advance_keeps_length}
+use Rattle.before_tables.proofs.PlainLaws.{same_plain}
+use Rattle.before_tables.proofs.TakingLaws.{same_taking_at}
 use Rattle.before_tables.proofs.CommitLaws.{Steps, takes}
 use Rattle.before_tables.proofs.CommitLaws as steps
-use Rattle.before_areas.specs.Throws.{thrownBefore}
-use Rattle.before_areas.specs.Cycles.{executedBefore, cycleBefore, advancedBefore, advanceBefore, cyclesBefore, doneBefore, startBefore}
+use Rattle.before_areas.specs.Throws.{thrown_before}
+use Rattle.before_areas.specs.Cycles.{executed_before, cycle_before, advanced_before, advance_before, cycles_before, done_before, start_before}
 use Rattle.before_areas.specs.Claims.{SameCycle, SameCycles, SameDone, SameStart}
 use Rattle.before_areas.proofs.PlaceLaws.{alike}
-use Rattle.before_areas.proofs.CommitLaws.{same-commit}
-use Rattle.before_areas.proofs.ThrowLaws.{same_next, same-finish}
+use Rattle.before_areas.proofs.CommitLaws.{same_commit}
+use Rattle.before_areas.proofs.ThrowLaws.{same_next, same_finish}
 
 module _ (order len : ℕ) (lent : Lent len) where
   module _ (m : List ℕ) (long : length m ≡ len) (r : Registers) where
     executes : (i : Instruction) (c : OperandClass)
-        → Steps (unbounded order noTable len) thrownBefore (executed (unbounded order noTable len) m r i c) (executedBefore order m r i c)
+        → Steps (unbounded order no_table len) thrown_before (executed (unbounded order no_table len) m r i c) (executed_before order m r i c)
     executes i next = steps.next
-    executes i plain = same-commit order len lent m r long (same-plain (alike order len lent m long) r.ep r.sp r.rp i)
-    executes i (taking form t) = takes form (same-commit order len lent m r long (same-taking-at (alike order len lent m long) form t r))
+    executes i plain = same_commit order len lent m r long (same_plain (alike order len lent m long) r.ep r.sp r.rp i)
+    executes i (taking form t) = takes form (same_commit order len lent m r long (same_taking_at (alike order len lent m long) form t r))
 
-  pub one-cycle : (m : List ℕ) → length m ≡ len → (r : Registers) → cycleOf (unbounded order noTable len) m r ≡ cycleBefore order m r
-  unfolding cycleOf executeOf cycleBefore
-  one-cycle m long r =
-      let i : Instruction = decodeOf (r.a % 256) in
-      same-finish order len lent (execute-length (unbounded order noTable len) m (shifted r) i ∙ long) (executes m long (shifted r) i (operandClass i))
+  pub one_cycle : (m : List ℕ) → length m ≡ len → (r : Registers) → cycle_of (unbounded order no_table len) m r ≡ cycle_before order m r
+  unfolding cycle_of execute_of cycle_before
+  one_cycle m long r =
+      let i : Instruction = decode_of (r.a % 256) in
+      same_finish order len lent (execute_length (unbounded order no_table len) m (shifted r) i ∙ long) (executes m long (shifted r) i (operand_class i))
 
-  advances : (s : CycleState) → length s.memory ≡ len → (e : Ended) → advanced (unbounded order noTable len) s e ≡ advancedBefore order s e
-  advances s long Went = one-cycle s.memory long s.result.registers
-  advances s long (Threw e) = one-cycle s.memory long s.result.registers
+  advances : (s : CycleState) → length s.memory ≡ len → (e : Ended) → advanced (unbounded order no_table len) s e ≡ advanced_before order s e
+  advances s long Went = one_cycle s.memory long s.result.registers
+  advances s long (Threw e) = one_cycle s.memory long s.result.registers
   advances s long (Stopped x) = refl
 
-  same-advance : (s : CycleState) → length s.memory ≡ len → advance (unbounded order noTable len) s ≡ advanceBefore order s
-  unfolding advance advanceBefore
-  same-advance s long = advances s long s.result.ended
+  same_advance : (s : CycleState) → length s.memory ≡ len → advance (unbounded order no_table len) s ≡ advance_before order s
+  unfolding advance advance_before
+  same_advance s long = advances s long s.result.ended
 
-  cycles : (n : ℕ) (s : CycleState) → length s.memory ≡ len → cyclesOf (unbounded order noTable len) n s ≡ cyclesBefore order n s
-  unfolding cyclesOf cyclesBefore
+  cycles : (n : ℕ) (s : CycleState) → length s.memory ≡ len → cycles_of (unbounded order no_table len) n s ≡ cycles_before order n s
+  unfolding cycles_of cycles_before
   cycles zero s long = refl
   cycles (suc n) s long =
-      rw (← same-advance s long) (cycles n (advance (unbounded order noTable len) s) (advance-keeps-length (unbounded order noTable len) s ∙ long))
+      rw (← same_advance s long) (cycles n (advance (unbounded order no_table len) s) (advance_keeps_length (unbounded order no_table len) s ∙ long))
 
-  done : (b : ℕ) (s : CycleState) → length s.memory ≡ len → done_of (unbounded order noTable len) b s ≡ doneBefore order b s
-  unfolding done_of doneBefore
+  done : (b : ℕ) (s : CycleState) → length s.memory ≡ len → done_of (unbounded order no_table len) b s ≡ done_before order b s
+  unfolding done_of done_before
   done zero s long = refl
   done (suc b) s long =
-      let t : CycleState = advance (unbounded order noTable len) s in
-      rw (← same-advance s long, done b t (advance-keeps-length (unbounded order noTable len) s ∙ long))
+      let t : CycleState = advance (unbounded order no_table len) s in
+      rw (← same_advance s long, done b t (advance_keeps_length (unbounded order no_table len) s ∙ long))
 
-pub same-cycle : SameCycle
-same-cycle order m r lent = one-cycle order (length m) lent m refl r
+pub same_cycle : SameCycle
+same_cycle order m r lent = one_cycle order (length m) lent m refl r
 
-pub same-cycles : SameCycles
-same-cycles order n m r lent = cycles order (length m) lent n (begun m r) refl
+pub same_cycles : SameCycles
+same_cycles order n m r lent = cycles order (length m) lent n (begun m r) refl
 
-pub same-done : SameDone
-same-done order budget m r lent = done order (length m) lent budget (begun m r) refl
+pub same_done : SameDone
+same_done order budget m r lent = done order (length m) lent budget (begun m r) refl
 
 pub same_start : SameStart
-unfolding start_of startBefore
+unfolding start_of start_before
 same_start order m ep handler lent = same_next order (length m) lent _ (simp store_length) _

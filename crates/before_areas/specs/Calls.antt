@@ -1,6 +1,6 @@
 -- What the exported calls of the machine left and answered before areas: four places of `registers` and two of `pointers` were read and written. Document 01.
 use Rattle.std.specs.Prelude.{Bool, List, [], ◌∷◌, ℕ, ◌/◌, ◌%◌, ◌^◌, length, get_or}
-use Rattle.cell.specs.Refusals.{judgeMachine, refusalNumber}
+use Rattle.cell.specs.Refusals.{judge_machine, refusal_number}
 use Rattle.cell.specs.declared.Judged.{Judged}
 use Rattle.cell.specs.declared.Judged.TheVariants as judged
 use Rattle.machine.specs.declared.Registers.{Registers}
@@ -13,82 +13,82 @@ use Rattle.processor.specs.declared.Ran.TheVariants as ran
 use Rattle.list_following.specs.Follow.{FollowResult}
 use Rattle.list_following.specs.declared.Followed.{Followed}
 use Rattle.list_following.specs.declared.Followed.TheVariants as followed
-use Rattle.lent_arrays.specs.Lending.{written, withRoom}
+use Rattle.lent_arrays.specs.Lending.{written, with_room}
 use Rattle.processor_calls.specs.Machines.{Told, told, Called, called}
-use Rattle.list_calls.specs.Lists.{standGiven}
-use Rattle.before_areas.specs.Answers.{startAnswerBefore, cycleAnswerBefore, runAnswerBefore, resumeBefore}
+use Rattle.list_calls.specs.Lists.{stand_given}
+use Rattle.before_areas.specs.Answers.{start_answer_before, cycle_answer_before, run_answer_before, resume_before}
 
 -- -4101, -4102 and -4105 in this order
-unfoldable pub judgeCallBefore : ℕ → ℕ → ℕ → ℕ → ℕ → Judged
-judgeCallBefore len order registers out needed = withRoom (withRoom (judgeMachine len order) registers 4) out needed
+unfoldable pub judge_call_before : ℕ → ℕ → ℕ → ℕ → ℕ → Judged
+judge_call_before len order registers out needed = with_room (with_room (judge_machine len order) registers 4) out needed
 
-abbrev pub registersBefore : List ℕ → Registers
-registersBefore lent = record { ep = get_or lent 0 0; a = get_or lent 1 0; sp = get_or lent 2 0; rp = get_or lent 3 0 }
+abbrev pub registers_before : List ℕ → Registers
+registers_before lent = record { ep = get_or lent 0 0; a = get_or lent 1 0; sp = get_or lent 2 0; rp = get_or lent 3 0 }
 
 -- what is told of an answer; a refusal leaves `registers` and `out` as they were
 module _ (registers out : List ℕ) where
-  abbrev pub successBefore : Registers → List ℕ → ℕ → Told
-  successBefore r xs n = told (written (r.ep ∷ r.a ∷ r.sp ∷ r.rp ∷ []) registers) (written xs out) n
+  abbrev pub success_before : Registers → List ℕ → ℕ → Told
+  success_before r xs n = told (written (r.ep ∷ r.a ∷ r.sp ∷ r.rp ∷ []) registers) (written xs out) n
 
-  abbrev pub startToldBefore : Started → Told
-  startToldBefore (started.Refused n) = told registers out (refusalNumber n)
-  startToldBefore (started.Ready f) = successBefore f.registers (0 ∷ []) 0
-  startToldBefore (started.Stopped f x) = successBefore f.registers (x ∷ []) 1
+  abbrev pub start_told_before : Started → Told
+  start_told_before (started.Refused n) = told registers out (refusal_number n)
+  start_told_before (started.Ready f) = success_before f.registers (0 ∷ []) 0
+  start_told_before (started.Stopped f x) = success_before f.registers (x ∷ []) 1
 
-  abbrev pub cycleToldBefore : Cycled → Told
-  cycleToldBefore (cycled.Refused n) = told registers out (refusalNumber n)
-  cycleToldBefore (cycled.Went f) = successBefore f.registers (0 ∷ []) 0
-  cycleToldBefore (cycled.Threw f e) = successBefore f.registers (0 ∷ []) 0
-  cycleToldBefore (cycled.Stopped f x) = successBefore f.registers (x ∷ []) 1
+  abbrev pub cycle_told_before : Cycled → Told
+  cycle_told_before (cycled.Refused n) = told registers out (refusal_number n)
+  cycle_told_before (cycled.Went f) = success_before f.registers (0 ∷ []) 0
+  cycle_told_before (cycled.Threw f e) = success_before f.registers (0 ∷ []) 0
+  cycle_told_before (cycled.Stopped f x) = success_before f.registers (x ∷ []) 1
 
-  abbrev pub runToldBefore : ℕ → Ran → Told
-  runToldBefore budget (ran.Refused n) = told registers out (refusalNumber n)
-  runToldBefore budget (ran.Spent f) = successBefore f.registers (0 ∷ budget ∷ []) 0
-  runToldBefore budget (ran.Stopped f x n) = successBefore f.registers (x ∷ n ∷ []) 1
+  abbrev pub run_told_before : ℕ → Ran → Told
+  run_told_before budget (ran.Refused n) = told registers out (refusal_number n)
+  run_told_before budget (ran.Spent f) = success_before f.registers (0 ∷ budget ∷ []) 0
+  run_told_before budget (ran.Stopped f x n) = success_before f.registers (x ∷ n ∷ []) 1
 
 module _ (order : ℕ) (m registers out : List ℕ) where
   -- start
-  abbrev pub startCallIf : Judged → ℕ → ℕ → Called
-  startCallIf (judged.Refused n) ep handler = called m registers out (refusalNumber n)
-  startCallIf judged.Passed ep handler =
-      let s = startAnswerBefore order m ep handler in
-      record { memory = s.memory; told = startToldBefore registers out s.answer }
+  abbrev pub start_call_if : Judged → ℕ → ℕ → Called
+  start_call_if (judged.Refused n) ep handler = called m registers out (refusal_number n)
+  start_call_if judged.Passed ep handler =
+      let s = start_answer_before order m ep handler in
+      record { memory = s.memory; told = start_told_before registers out s.answer }
 
-  unfoldable pub startCallBefore : ℕ → ℕ → Called
-  startCallBefore ep handler = startCallIf (judgeCallBefore (length m) order (length registers) (length out) 1) ep handler
+  unfoldable pub start_call_before : ℕ → ℕ → Called
+  start_call_before ep handler = start_call_if (judge_call_before (length m) order (length registers) (length out) 1) ep handler
 
   -- cycle
-  abbrev pub cycleCallIf : Judged → Called
-  cycleCallIf (judged.Refused n) = called m registers out (refusalNumber n)
-  cycleCallIf judged.Passed =
-      let s = cycleAnswerBefore order m (registersBefore registers) in
-      record { memory = s.memory; told = cycleToldBefore registers out s.answer }
+  abbrev pub cycle_call_if : Judged → Called
+  cycle_call_if (judged.Refused n) = called m registers out (refusal_number n)
+  cycle_call_if judged.Passed =
+      let s = cycle_answer_before order m (registers_before registers) in
+      record { memory = s.memory; told = cycle_told_before registers out s.answer }
 
-  unfoldable pub cycleCallBefore : Called
-  cycleCallBefore = cycleCallIf (judgeCallBefore (length m) order (length registers) (length out) 1)
+  unfoldable pub cycle_call_before : Called
+  cycle_call_before = cycle_call_if (judge_call_before (length m) order (length registers) (length out) 1)
 
   -- run
-  abbrev pub runCallIf : Judged → ℕ → Called
-  runCallIf (judged.Refused n) budget = called m registers out (refusalNumber n)
-  runCallIf judged.Passed budget =
-      let s = runAnswerBefore order m (registersBefore registers) budget in
-      record { memory = s.memory; told = runToldBefore registers out budget s.answer }
+  abbrev pub run_call_if : Judged → ℕ → Called
+  run_call_if (judged.Refused n) budget = called m registers out (refusal_number n)
+  run_call_if judged.Passed budget =
+      let s = run_answer_before order m (registers_before registers) budget in
+      record { memory = s.memory; told = run_told_before registers out budget s.answer }
 
-  unfoldable pub runCallBefore : ℕ → Called
-  runCallBefore budget = runCallIf (judgeCallBefore (length m) order (length registers) (length out) 2) budget
+  unfoldable pub run_call_before : ℕ → Called
+  run_call_before budget = run_call_if (judge_call_before (length m) order (length registers) (length out) 2) budget
 
 -- the list machine: SP and RP in `pointers`
-abbrev pub listToldBefore : Followed → List ℕ → List ℕ → FollowResult → Told
-listToldBefore (followed.Refused r) pointers out s = told pointers out s.number
-listToldBefore (followed.Run x) pointers out s =
+abbrev pub list_told_before : Followed → List ℕ → List ℕ → FollowResult → Told
+list_told_before (followed.Refused r) pointers out s = told pointers out s.number
+list_told_before (followed.Run x) pointers out s =
     told (written (s.stand.sp ∷ s.stand.rp ∷ []) pointers)
     (written (s.reason ∷ s.stand.item.0 ∷ s.items ∷ s.cycles % 2 ^ 32 ∷ s.cycles / 2 ^ 32 ∷ []) out)
     s.number
 
-unfoldable pub judgeLentBefore : ℕ → ℕ → Judged
-judgeLentBefore pointers out = withRoom (withRoom judged.Passed pointers 2) out 5
+unfoldable pub judge_lent_before : ℕ → ℕ → Judged
+judge_lent_before pointers out = with_room (with_room judged.Passed pointers 2) out 5
 
-unfoldable pub resumeCallBefore : ℕ → List ℕ → List ℕ → ℕ → List ℕ → ℕ → Bool → List ℕ → ℕ → List ℕ → Called
-resumeCallBefore order kinds operands base m item ran pointers items out =
-    let s = resumeBefore (judgeLentBefore (length pointers) (length out)) order kinds operands base m (standGiven item ran pointers) items in
-    record { memory = s.memory; told = listToldBefore s.answer pointers out s }
+unfoldable pub resume_call_before : ℕ → List ℕ → List ℕ → ℕ → List ℕ → ℕ → Bool → List ℕ → ℕ → List ℕ → Called
+resume_call_before order kinds operands base m item ran pointers items out =
+    let s = resume_before (judge_lent_before (length pointers) (length out)) order kinds operands base m (stand_given item ran pointers) items in
+    record { memory = s.memory; told = list_told_before s.answer pointers out s }

@@ -3,15 +3,15 @@ use Rattle.std.specs.Prelude.{List, [], ◌∷◌, ℕ, length}
 use Rattle.cell.specs.declared.Checked.{Checked}
 use Rattle.cell.specs.declared.Checked.TheVariants.{Good}
 use Rattle.machine.specs.Effects.{Store, Effect, act, raise}
-use Rattle.machine.specs.Commits.{firstBad, Stepped, raised}
+use Rattle.machine.specs.Commits.{first_bad, Stepped, raised}
 use Rattle.machine.specs.declared.Registers.{Registers}
-use Rattle.before_tables.specs.Commits.{carriedBefore}
-use Rattle.before_areas.specs.Places.{placeBefore}
+use Rattle.before_tables.specs.Commits.{carried_before}
+use Rattle.before_areas.specs.Places.{place_before}
 
-unfoldable pub placesBefore : ℕ → List Store → Checked
-placesBefore len [] = Good
-placesBefore len (s ∷ ss) = firstBad (placeBefore s.width len s.at) (placesBefore len ss)
+unfoldable pub places_before : ℕ → List Store → Checked
+places_before len [] = Good
+places_before len (s ∷ ss) = first_bad (place_before s.width len s.at) (places_before len ss)
 
-unfoldable pub commitBefore : ℕ → List ℕ → Registers → Effect → Stepped
-commitBefore order m r (raise f) = raised m r f
-commitBefore order m r (act x) = carriedBefore order m r x (placesBefore (length m) x.stores)
+unfoldable pub commit_before : ℕ → List ℕ → Registers → Effect → Stepped
+commit_before order m r (raise f) = raised m r f
+commit_before order m r (act x) = carried_before order m r x (places_before (length m) x.stores)

@@ -7,20 +7,20 @@ use Rattle.cell.specs.declared.Fault.TheVariants.{Range, Alignment}
 use Rattle.cell.specs.declared.Checked.{Checked}
 use Rattle.cell.specs.declared.Checked.TheVariants.{Good, Bad}
 use Rattle.cell.specs.declared.Fetched.{Fetched}
-use Rattle.machine.specs.Places.{Width, oneByte, oneCell}
+use Rattle.machine.specs.Places.{Width, one_byte, one_cell}
 use Rattle.before_tables.specs.Places.{Reading}
 
-unfoldable pub placeBefore : Width → ℕ → ℕ → Checked
-placeBefore oneByte len a = if (ltb a len) Good (Bad (Range (address a)))
-placeBefore oneCell len a =
+unfoldable pub place_before : Width → ℕ → ℕ → Checked
+place_before one_byte len a = if (ltb a len) Good (Bad (Range (address a)))
+place_before one_cell len a =
     if (ltb a len) (if (eqb (a % 4) 0) Good (Bad (Alignment (address a)))) (Bad (Range (address a)))
 
-unfoldable pub fetchBefore : ℕ → List ℕ → ℕ → Fetched
-fetchBefore order m a = read (placeBefore oneCell (length m) a) (cell_at order m a)
+unfoldable pub fetch_before : ℕ → List ℕ → ℕ → Fetched
+fetch_before order m a = read (place_before one_cell (length m) a) (cell_at order m a)
 
-unfoldable pub fetchByteBefore : List ℕ → ℕ → Fetched
-fetchByteBefore m a = read (placeBefore oneByte (length m) a) (get_or m a 0)
+unfoldable pub fetch_byte_before : List ℕ → ℕ → Fetched
+fetch_byte_before m a = read (place_before one_byte (length m) a) (get_or m a 0)
 
 -- no access was told from another
-abbrev pub readingBefore : ℕ → List ℕ → Reading
-readingBefore order m = record { cell = λ access a. fetchBefore order m a; byte = λ a. fetchByteBefore m a }
+abbrev pub reading_before : ℕ → List ℕ → Reading
+reading_before order m = record { cell = λ access a. fetch_before order m a; byte = λ a. fetch_byte_before m a }

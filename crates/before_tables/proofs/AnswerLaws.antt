@@ -7,100 +7,100 @@ use lib.ListN.{length}
 use Rattle.cell.specs.Refusals.{after}
 use Rattle.cell.specs.declared.Judged.{Judged}
 use Rattle.cell.specs.declared.Judged.TheVariants.{Passed, Refused}
-use Rattle.cell.proofs.JudgementLaws.{both-pass, after-passed}
-use Rattle.machine.specs.Places.{noTable}
-use Rattle.areas.specs.Areas.{judgeAreas}
-use Rattle.code_tables.specs.Tables.{judgeTable}
-use Rattle.bounds.specs.Bounds.{judgeBounded, machine_of, firstSp, firstRp}
+use Rattle.cell.proofs.JudgementLaws.{both_pass, after_passed}
+use Rattle.machine.specs.Places.{no_table}
+use Rattle.areas.specs.Areas.{judge_areas}
+use Rattle.code_tables.specs.Tables.{judge_table}
+use Rattle.bounds.specs.Bounds.{judge_bounded, machine_of, first_sp, first_rp}
 use Rattle.areas.specs.declared.Areas.{Areas}
 use Rattle.areas.specs.declared.RegisterFile.{RegisterFile}
 use Rattle.cycles.specs.Counts.{begun}
-use Rattle.processor_start.specs.Answers.{startIf, startAnswer}
-use Rattle.processor.specs.Answers.{cycleIf, cycleAnswer, given_of, runIf, runAnswer}
+use Rattle.processor_start.specs.Answers.{start_if, start_answer}
+use Rattle.processor.specs.Answers.{cycle_if, cycle_answer, given_of, run_if, run_answer}
 use Rattle.pack_layout.specs.Listing.{Listing, listed}
 use Rattle.list_machine.specs.Runs.{resuming}
 use Rattle.list_proposing.specs.Stands.{position_of}
 use Rattle.list_proposing.specs.declared.Stand.{Stand}
-use Rattle.list_refusals.specs.Judging.{judgeBegin, judgeFollow}
-use Rattle.list_following.specs.Follow.{followIf, resumeIn, standAt}
-use Rattle.before_tables.specs.Machines.{machineBefore}
-use Rattle.before_tables.specs.Cycles.{doneBefore}
-use Rattle.before_tables.specs.Answers.{judgeBoundedBefore, startIfBefore, startAnswerBefore, cycleIfBefore, cycleAnswerBefore, runIfBefore, runAnswerBefore, judgeBeginBefore, judgeFollowBefore, followIfBefore, resumeInBefore}
+use Rattle.list_refusals.specs.Judging.{judge_begin, judge_follow}
+use Rattle.list_following.specs.Follow.{follow_if, resume_in, stand_at}
+use Rattle.before_tables.specs.Machines.{machine_before}
+use Rattle.before_tables.specs.Cycles.{done_before}
+use Rattle.before_tables.specs.Answers.{judge_bounded_before, start_if_before, start_answer_before, cycle_if_before, cycle_answer_before, run_if_before, run_answer_before, judge_begin_before, judge_follow_before, follow_if_before, resume_in_before}
 use Rattle.before_tables.specs.Claims.{Taken, SameStartAnswer, SameCycleAnswer, SameRunAnswer, SameResumeIn, SameResume, SameFollow}
-use Rattle.before_tables.proofs.CycleLaws.{same_start, same-cycle, same-cycles, same-done}
-use Rattle.before_tables.proofs.ListLaws.{same-run}
+use Rattle.before_tables.proofs.CycleLaws.{same_start, same_cycle, same_cycles, same_done}
+use Rattle.before_tables.proofs.ListLaws.{same_run}
 
 -- two zeros are never refused
-pub no_table : (len order : ℕ) (areas : Areas) → judgeBounded len order areas noTable ≡ judgeBoundedBefore len order areas
-unfolding judgeBounded judgeTable judgeBoundedBefore
-no_table len order areas = rw (after-passed (judgeAreas len areas))
+pub no_table_lem : (len order : ℕ) (areas : Areas) → judge_bounded len order areas no_table ≡ judge_bounded_before len order areas
+unfolding judge_bounded judge_table judge_bounded_before
+no_table_lem len order areas = rw (after_passed (judge_areas len areas))
 
 -- by the judgement
 module _ (order : ℕ) (m : List ℕ) where
-  start-if : (areas : Areas) (ep handler : ℕ) (j : Judged) → judgeBoundedBefore (length m) order areas ≡ j
-      → startIf j order areas noTable m ep handler ≡ startIfBefore j order areas m ep handler
-  start-if areas ep handler (Refused n) e = refl
-  start-if areas ep handler Passed e =
-      rw (same_start order (length m) areas e m ep handler (firstSp (length m) areas) (firstRp (length m) areas))
+  start_if_lem : (areas : Areas) (ep handler : ℕ) (j : Judged) → judge_bounded_before (length m) order areas ≡ j
+      → start_if j order areas no_table m ep handler ≡ start_if_before j order areas m ep handler
+  start_if_lem areas ep handler (Refused n) e = refl
+  start_if_lem areas ep handler Passed e =
+      rw (same_start order (length m) areas e m ep handler (first_sp (length m) areas) (first_rp (length m) areas))
 
-  cycle-if : (r : RegisterFile) (j : Judged) → judgeBoundedBefore (length m) order r.areas ≡ j
-      → cycleIf j order noTable m r ≡ cycleIfBefore j order m r
-  cycle-if r (Refused n) e = refl
-  cycle-if r Passed e = rw (same-cycle order (length m) r.areas e m r.registers)
+  cycle_if_lem : (r : RegisterFile) (j : Judged) → judge_bounded_before (length m) order r.areas ≡ j
+      → cycle_if j order no_table m r ≡ cycle_if_before j order m r
+  cycle_if_lem r (Refused n) e = refl
+  cycle_if_lem r Passed e = rw (same_cycle order (length m) r.areas e m r.registers)
 
-  run-if : (r : RegisterFile) (budget : ℕ) (j : Judged) → judgeBoundedBefore (length m) order r.areas ≡ j
-      → runIf j (given_of order noTable m r budget) ≡ runIfBefore j order m r budget
-  run-if r budget (Refused n) e = refl
-  run-if r budget Passed e =
-      let n : ℕ = doneBefore (machineBefore order r.areas (length m)) budget (begun m r.registers) in
+  run_if_lem : (r : RegisterFile) (budget : ℕ) (j : Judged) → judge_bounded_before (length m) order r.areas ≡ j
+      → run_if j (given_of order no_table m r budget) ≡ run_if_before j order m r budget
+  run_if_lem r budget (Refused n) e = refl
+  run_if_lem r budget Passed e =
+      let n : ℕ = done_before (machine_before order r.areas (length m)) budget (begun m r.registers) in
       rw (
-        same-done order (length m) r.areas e budget (begun m r.registers),
-        same-cycles order (length m) r.areas e n (begun m r.registers),
+        same_done order (length m) r.areas e budget (begun m r.registers),
+        same_cycles order (length m) r.areas e n (begun m r.registers),
       )
 
-pub same-start-answer : SameStartAnswer
-unfolding startAnswer startAnswerBefore
-same-start-answer order areas m ep handler =
-    rw (no_table (length m) order areas) (start-if order m areas ep handler (judgeBoundedBefore (length m) order areas) refl)
+pub same_start_answer : SameStartAnswer
+unfolding start_answer start_answer_before
+same_start_answer order areas m ep handler =
+    rw (no_table_lem (length m) order areas) (start_if_lem order m areas ep handler (judge_bounded_before (length m) order areas) refl)
 
-pub same-cycle-answer : SameCycleAnswer
-unfolding cycleAnswer cycleAnswerBefore
-same-cycle-answer order m r =
-    rw (no_table (length m) order r.areas) (cycle-if order m r (judgeBoundedBefore (length m) order r.areas) refl)
+pub same_cycle_answer : SameCycleAnswer
+unfolding cycle_answer cycle_answer_before
+same_cycle_answer order m r =
+    rw (no_table_lem (length m) order r.areas) (cycle_if_lem order m r (judge_bounded_before (length m) order r.areas) refl)
 
-pub same-run-answer : SameRunAnswer
-unfolding runAnswer runAnswerBefore
-same-run-answer order m r budget =
-    rw (no_table (length m) order r.areas) (run-if order m r budget (judgeBoundedBefore (length m) order r.areas) refl)
+pub same_run_answer : SameRunAnswer
+unfolding run_answer run_answer_before
+same_run_answer order m r budget =
+    rw (no_table_lem (length m) order r.areas) (run_if_lem order m r budget (judge_bounded_before (length m) order r.areas) refl)
 
 -- the list machine
 judged : (len order : ℕ) (areas : Areas) (kinds operands : List ℕ) (base : ℕ) (room : Judged)
-    → judgeFollow len order areas noTable kinds operands base room ≡ judgeFollowBefore len order areas kinds operands base room
-unfolding judgeFollow judgeBegin judgeFollowBefore judgeBeginBefore
-judged len order areas kinds operands base room = rw (no_table len order areas)
+    → judge_follow len order areas no_table kinds operands base room ≡ judge_follow_before len order areas kinds operands base room
+unfolding judge_follow judge_begin judge_follow_before judge_begin_before
+judged len order areas kinds operands base room = rw (no_table_lem len order areas)
 
 module _ (order : ℕ) (areas : Areas) (kinds operands : List ℕ) (base : ℕ) (m : List ℕ) (room : Judged) where
-  passed-taken : judgeFollowBefore (length m) order areas kinds operands base room ≡ Passed → Taken order (length m) areas
-  unfolding judgeFollowBefore judgeBeginBefore
-  passed-taken e = (both-pass _ _ (both-pass _ _ e).0).0
+  passed_taken : judge_follow_before (length m) order areas kinds operands base room ≡ Passed → Taken order (length m) areas
+  unfolding judge_follow_before judge_begin_before
+  passed_taken e = (both_pass _ _ (both_pass _ _ e).0).0
 
-  follow-if : (start : Stand) (items : ℕ) (j : Judged) → judgeFollowBefore (length m) order areas kinds operands base room ≡ j
-      → followIf j (machine_of order areas noTable (length m)) base (listed kinds operands) m start items
-      ≡ followIfBefore j (machineBefore order areas (length m)) base (listed kinds operands) m start items
-  follow-if start items (Refused r) e = refl
-  follow-if start items Passed e =
+  follow_if_lem : (start : Stand) (items : ℕ) (j : Judged) → judge_follow_before (length m) order areas kinds operands base room ≡ j
+      → follow_if j (machine_of order areas no_table (length m)) base (listed kinds operands) m start items
+      ≡ follow_if_before j (machine_before order areas (length m)) base (listed kinds operands) m start items
+  follow_if_lem start items (Refused r) e = refl
+  follow_if_lem start items Passed e =
       let l : Listing = listed kinds operands in
-      rw (same-run order (length m) areas (passed-taken e) base l items (resuming l (position_of m start)))
+      rw (same_run order (length m) areas (passed_taken e) base l items (resuming l (position_of m start)))
 
-pub same-resume-in : SameResumeIn
-unfolding resumeIn resumeInBefore
-same-resume-in room order areas kinds operands base m start items =
+pub same_resume_in : SameResumeIn
+unfolding resume_in resume_in_before
+same_resume_in room order areas kinds operands base m start items =
     rw (judged (length m) order areas kinds operands base room)
-    (follow-if order areas kinds operands base m room start items (judgeFollowBefore (length m) order areas kinds operands base room) refl)
+    (follow_if_lem order areas kinds operands base m room start items (judge_follow_before (length m) order areas kinds operands base room) refl)
 
-pub same-resume : SameResume
-same-resume order areas kinds operands base m start items = same-resume-in Passed order areas kinds operands base m start items
+pub same_resume : SameResume
+same_resume order areas kinds operands base m start items = same_resume_in Passed order areas kinds operands base m start items
 
-pub same-follow : SameFollow
-same-follow order areas kinds operands base m sp rp items =
-    same-resume order areas kinds operands base m (standAt 0 false sp rp) items
+pub same_follow : SameFollow
+same_follow order areas kinds operands base m sp rp items =
+    same_resume order areas kinds operands base m (stand_at 0 false sp rp) items

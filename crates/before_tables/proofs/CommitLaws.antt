@@ -7,9 +7,9 @@ use lib.ListN.{length}
 use Rattle.cell.specs.declared.Checked.{Checked}
 use Rattle.cell.specs.declared.Fault.{Fault}
 use Rattle.cell.proofs.BooleanLaws.{both_true}
-use Rattle.machine.specs.Places.{Width, oneByte, oneCell}
-use Rattle.machine.specs.Effects.{Store, Control, goOn, jump, halt, throwing, Action, Effect}
-use Rattle.machine.specs.Commits.{places_of, putStore, storedOf, Stepped, stepped, controlled, carriedOut, commitOf}
+use Rattle.machine.specs.Places.{Width, one_byte, one_cell}
+use Rattle.machine.specs.Effects.{Store, Control, go_on, jump, halt, throwing, Action, Effect}
+use Rattle.machine.specs.Commits.{places_of, put_store, stored_of, Stepped, stepped, controlled, carried_out, commit_of}
 use Rattle.machine.specs.declared.Machine.{Machine}
 use Rattle.machine.specs.declared.Registers.{Registers}
 use Rattle.machine.specs.declared.Exception.{Exception}
@@ -19,11 +19,11 @@ use Rattle.areas.specs.declared.Areas.{Areas}
 use Rattle.instruction.specs.Dispatch.{taken}
 use Rattle.instruction.specs.declared.OperandForm.{OperandForm}
 use Rattle.instruction.specs.declared.OperandForm.TheVariants.{InCell, Immediate}
-use Rattle.before_tables.specs.Commits.{placesBefore, putBefore, storedBefore, carriedBefore, commitBefore}
-use Rattle.before_tables.specs.Throws.{exceptionBefore}
+use Rattle.before_tables.specs.Commits.{places_before, put_before, stored_before, carried_before, commit_before}
+use Rattle.before_tables.specs.Throws.{exception_before}
 use Rattle.before_tables.specs.Claims.{Taken, untabled, before}
-use Rattle.before_tables.proofs.EffectLaws.{Told, Judges, good, bad, named, allNamed, Asks, acts, raises, firsts}
-use Rattle.before_tables.proofs.PlaceLaws.{judged-same}
+use Rattle.before_tables.proofs.EffectLaws.{Told, Judges, good, bad, named, all_named, Asks, acts, raises, firsts}
+use Rattle.before_tables.proofs.PlaceLaws.{judged_same}
 
 -- two steps: memory and registers are the same, and so is the outcome, but for the name of a fault
 abbrev pub leaving : List ℕ → Registers → Outcome → Stepped
@@ -49,40 +49,40 @@ module _ {machine : Machine} {before : Fault → Exception} where
 
   pub controls : (m : List ℕ) (c : Control) (r : Registers)
       → Steps machine before (stepped m (controlled c r)) (stepped m (controlled c r))
-  controls m goOn r = went
+  controls m go_on r = went
   controls m (jump a) r = next
   controls m (halt x) r = halted
   controls m throwing r = threw
 
 -- memory after the stores
-put_same : (machine : Machine) (m : List ℕ) (w : Width) (a x : ℕ) → putStore machine m w a x ≡ putBefore machine.order m w a x
-put_same machine m oneByte a x = refl
-put_same machine m oneCell a x = refl
+put_same : (machine : Machine) (m : List ℕ) (w : Width) (a x : ℕ) → put_store machine m w a x ≡ put_before machine.order m w a x
+put_same machine m one_byte a x = refl
+put_same machine m one_cell a x = refl
 
-pub same-stored : (machine : Machine) (m : List ℕ) (ss : List Store) → storedOf machine m ss ≡ storedBefore machine.order m ss
-unfolding storedOf storedBefore
-same-stored machine m [] = refl
-same-stored machine m (s ∷ ss) = rw (put_same machine m s.width s.at s.value) (same-stored machine _ ss)
+pub same_stored : (machine : Machine) (m : List ℕ) (ss : List Store) → stored_of machine m ss ≡ stored_before machine.order m ss
+unfolding stored_of stored_before
+same_stored machine m [] = refl
+same_stored machine m (s ∷ ss) = rw (put_same machine m s.width s.at s.value) (same_stored machine _ ss)
 
 -- an action whose places were judged
-pub same-carried : {before : Fault → Exception} (machine : Machine) (m : List ℕ) (r : Registers) (x : Action) {c d : Checked} → Judges machine before c d
-    → Steps machine before (carriedOut machine m r x c) (carriedBefore machine.order m r x d)
-same-carried machine m r x good = rw (same-stored machine m x.stores) (controls _ x.control _)
-same-carried machine m r x (bad t) = faults t
+pub same_carried : {before : Fault → Exception} (machine : Machine) (m : List ℕ) (r : Registers) (x : Action) {c d : Checked} → Judges machine before c d
+    → Steps machine before (carried_out machine m r x c) (carried_before machine.order m r x d)
+same_carried machine m r x good = rw (same_stored machine m x.stores) (controls _ x.control _)
+same_carried machine m r x (bad t) = faults t
 
 module _ (order len : ℕ) (areas : Areas) (t : Taken order len areas) where
-  pub same-places : (size : ℕ) (ss : List Store) → allNamed ss ≡ true
-      → Judges (untabled order len areas) (exceptionBefore (before order len areas)) (places_of (untabled order len areas) size ss)
-      (placesBefore (before order len areas) size ss)
-  unfolding places_of placesBefore allNamed
-  same-places size [] n = good
-  same-places size (s ∷ ss) n =
-      let both : (named s.width s.access ≡ true) × (allNamed ss ≡ true) = both_true _ _ n in
-      firsts (judged-same order len areas t size s.at s.width s.access both.0) (same-places size ss both.1)
+  pub same_places : (size : ℕ) (ss : List Store) → all_named ss ≡ true
+      → Judges (untabled order len areas) (exception_before (before order len areas)) (places_of (untabled order len areas) size ss)
+      (places_before (before order len areas) size ss)
+  unfolding places_of places_before all_named
+  same_places size [] n = good
+  same_places size (s ∷ ss) n =
+      let both : (named s.width s.access ≡ true) × (all_named ss ≡ true) = both_true _ _ n in
+      firsts (judged_same order len areas t size s.at s.width s.access both.0) (same_places size ss both.1)
 
-  pub same-commit : (m : List ℕ) (r : Registers) {e f : Effect} → Asks (untabled order len areas) (exceptionBefore (before order len areas)) e f
-      → Steps (untabled order len areas) (exceptionBefore (before order len areas)) (commitOf (untabled order len areas) m r e)
-      (commitBefore (before order len areas) m r f)
-  unfolding commitOf commitBefore
-  same-commit m r (acts {x} n) = same-carried (untabled order len areas) m r x (same-places (length m) x.stores n)
-  same-commit m r (raises u) = faults u
+  pub same_commit : (m : List ℕ) (r : Registers) {e f : Effect} → Asks (untabled order len areas) (exception_before (before order len areas)) e f
+      → Steps (untabled order len areas) (exception_before (before order len areas)) (commit_of (untabled order len areas) m r e)
+      (commit_before (before order len areas) m r f)
+  unfolding commit_of commit_before
+  same_commit m r (acts {x} n) = same_carried (untabled order len areas) m r x (same_places (length m) x.stores n)
+  same_commit m r (raises u) = faults u

@@ -13,10 +13,10 @@ use Rattle.cell.specs.declared.Checked.{Checked}
 use Rattle.cell.specs.declared.Checked.TheVariants.{Good, Bad}
 use Rattle.cell.specs.declared.Fetched.{Fetched}
 use Rattle.cell.specs.declared.Fetched.TheVariants.{Cell, Failed}
-use Rattle.machine.specs.Places.{Width, oneByte, oneCell, fetchOf, fetchByteOf}
-use Rattle.exceptions.specs.Exceptions.{exceptionOf}
+use Rattle.machine.specs.Places.{Width, one_byte, one_cell, fetch_of, fetch_byte_of}
+use Rattle.exceptions.specs.Exceptions.{exception_of}
 use Rattle.machine.specs.Effects.{Store, Action, Effect, act, raise, fetched}
-use Rattle.machine.specs.Commits.{firstBad}
+use Rattle.machine.specs.Commits.{first_bad}
 use Rattle.machine.specs.declared.Machine.{Machine}
 use Rattle.machine.specs.declared.Access.{Access}
 use Rattle.machine.specs.declared.Access.TheVariants.{DataRead, DataWrite, ReturnRead, ReturnWrite, NamedRead, NamedWrite, Stream, Push}
@@ -25,7 +25,7 @@ use Rattle.before_tables.specs.Places.{Reading}
 
 -- a fault of the machine, and a fault of before: the same is thrown for both
 abbrev pub Told : Machine → (Fault → Exception) → Fault → Fault → Type 0
-Told machine before f g = exceptionOf machine f ≡ before g
+Told machine before f g = exception_of machine f ≡ before g
 
 -- two judgements of a place
 pub data Judges (machine : Machine) (before : Fault → Exception) : Checked → Checked → Type 0 where
@@ -39,29 +39,29 @@ pub data Fetches (machine : Machine) (before : Fault → Exception) : Fetched �
 
 -- a byte is named by an operand, for no stack is made of bytes
 abbrev pub named : Width → Access → Bool
-named oneCell access = true
-named oneByte DataRead = false
-named oneByte DataWrite = false
-named oneByte ReturnRead = false
-named oneByte ReturnWrite = false
-named oneByte NamedRead = true
-named oneByte NamedWrite = true
-named oneByte Stream = false
-named oneByte Push = false
+named one_cell access = true
+named one_byte DataRead = false
+named one_byte DataWrite = false
+named one_byte ReturnRead = false
+named one_byte ReturnWrite = false
+named one_byte NamedRead = true
+named one_byte NamedWrite = true
+named one_byte Stream = false
+named one_byte Push = false
 
-unfoldable pub allNamed : List Store → Bool
-allNamed [] = true
-allNamed (s ∷ ss) = named s.width s.access && allNamed ss
+unfoldable pub all_named : List Store → Bool
+all_named [] = true
+all_named (s ∷ ss) = named s.width s.access && all_named ss
 
 -- two effects: one action, or faults for which the same is thrown
 pub data Asks (machine : Machine) (before : Fault → Exception) : Effect → Effect → Type 0 where
-  acts : {x : Action} → allNamed x.stores ≡ true → Asks machine before (act x) (act x)
+  acts : {x : Action} → all_named x.stores ≡ true → Asks machine before (act x) (act x)
   raises : {f g : Fault} → Told machine before f g → Asks machine before (raise f) (raise g)
 
 -- a memory that a reading of before reads as the machine does, and whose faults are told alike
 pub record Alike (machine : Machine) (before : Fault → Exception) (m : List ℕ) (reads : Reading) : Type 0 where
-  pub cells : (access : Access) (a : ℕ) → Fetches machine before (fetchOf machine access m a) (reads.cell access a)
-  pub bytes : (a : ℕ) → Fetches machine before (fetchByteOf machine NamedRead m a) (reads.byte a)
+  pub cells : (access : Access) (a : ℕ) → Fetches machine before (fetch_of machine access m a) (reads.cell access a)
+  pub bytes : (a : ℕ) → Fetches machine before (fetch_byte_of machine NamedRead m a) (reads.byte a)
   pub range : (a : Address) → Told machine before (Range a) (Range a)
   pub unaligned : (a : Address) → Told machine before (Alignment a) (Alignment a)
   pub divisor : Told machine before Divisor Divisor
@@ -74,7 +74,7 @@ module _ {machine : Machine} {before : Fault → Exception} where
   reads x (bad t) = fails t
 
   pub firsts : {c d e f : Checked} → Judges machine before c d → Judges machine before e f
-      → Judges machine before (firstBad c e) (firstBad d f)
+      → Judges machine before (first_bad c e) (first_bad d f)
   firsts good q = q
   firsts (bad t) q = bad t
 

@@ -4,87 +4,87 @@ use mathlib.Core.Bool.{true, false≢true}
 use mathlib.Core.List.{List}
 use Prim.Native.Nat.{ℕ}
 use lib.ListN.{length}
-use Rattle.cell.specs.Refusals.{Lent, judgeMachine}
+use Rattle.cell.specs.Refusals.{Lent, judge_machine}
 use Rattle.cell.specs.declared.Fault.{Fault}
 use Rattle.cell.specs.declared.Fault.TheVariants as fault
 use Rattle.cell.specs.declared.Checked.{Checked}
 use Rattle.cell.specs.declared.Checked.TheVariants.{Good, Bad}
 use Rattle.cell.specs.declared.Judged.TheVariants.{Passed}
-use Rattle.cell.proofs.JudgementLaws.{both-pass, machine-good}
-use Rattle.machine.specs.Places.{Width, oneByte, oneCell, openTo, place_of, fetchOf, fetchByteOf}
-use Rattle.exceptions.specs.Exceptions.{exceptionOf}
+use Rattle.cell.proofs.JudgementLaws.{both_pass, machine_good}
+use Rattle.machine.specs.Places.{Width, one_byte, one_cell, open_to, place_of, fetch_of, fetch_byte_of}
+use Rattle.exceptions.specs.Exceptions.{exception_of}
 use Rattle.machine.specs.declared.Access.{Access}
 use Rattle.machine.specs.declared.Access.TheVariants.{DataRead, DataWrite, ReturnRead, ReturnWrite, NamedRead, NamedWrite, Stream, Push}
-use Rattle.areas.specs.Areas.{judgeAreas}
+use Rattle.areas.specs.Areas.{judge_areas}
 use Rattle.areas.specs.declared.Areas.{Areas}
-use Rattle.before_tables.specs.Places.{placeBefore, fetchBefore, fetchByteBefore, readingBefore}
-use Rattle.before_tables.specs.Throws.{exceptionBefore}
-use Rattle.before_tables.specs.Answers.{judgeBoundedBefore}
+use Rattle.before_tables.specs.Places.{place_before, fetch_before, fetch_byte_before, reading_before}
+use Rattle.before_tables.specs.Throws.{exception_before}
+use Rattle.before_tables.specs.Answers.{judge_bounded_before}
 use Rattle.before_tables.specs.Claims.{Taken, untabled, before, SamePlace, SameException}
 use Rattle.before_tables.proofs.EffectLaws.{Judges, good, bad, named, Alike, reads}
-use Rattle.before_tables.proofs.MachineLaws.{stack-ends, returns-end, allowed_same, spared}
+use Rattle.before_tables.proofs.MachineLaws.{stack_ends, returns_end, allowed_same, spared}
 
-pub open-true : (c : Checked) → openTo c true ≡ c
-open-true Good = refl
-open-true (Bad f) = refl
+pub open_true : (c : Checked) → open_to c true ≡ c
+open_true Good = refl
+open_true (Bad f) = refl
 
 module _ (order len : ℕ) (areas : Areas) (t : Taken order len areas) where
   lent : Lent len
-  unfolding judgeBoundedBefore
-  lent = (machine-good len order (both-pass (judgeMachine len order) (judgeAreas len areas) t).0).lent
+  unfolding judge_bounded_before
+  lent = (machine_good len order (both_pass (judge_machine len order) (judge_areas len areas) t).0).lent
 
-  passed : judgeAreas len areas ≡ Passed
-  unfolding judgeBoundedBefore
-  passed = (both-pass (judgeMachine len order) (judgeAreas len areas) t).1
+  passed : judge_areas len areas ≡ Passed
+  unfolding judge_bounded_before
+  passed = (both_pass (judge_machine len order) (judge_areas len areas) t).1
 
   -- in a memory of any size
   module _ (size a : ℕ) where
-    cells : (access : Access) → place_of (untabled order len areas) oneCell access size a ≡ placeBefore (before order len areas) oneCell access size a
-    unfolding place_of placeBefore
+    cells : (access : Access) → place_of (untabled order len areas) one_cell access size a ≡ place_before (before order len areas) one_cell access size a
+    unfolding place_of place_before
     cells access =
-        rw (spared (untabled order len areas) refl access a, allowed_same order len areas lent passed access a) (open-true _)
+        rw (spared (untabled order len areas) refl access a, allowed_same order len areas lent passed access a) (open_true _)
 
     pub place_same : (w : Width) (access : Access) → named w access ≡ true
-        → place_of (untabled order len areas) w access size a ≡ placeBefore (before order len areas) w access size a
-    unfolding place_of placeBefore
-    place_same oneCell access n = cells access
-    place_same oneByte NamedRead n = open-true _
-    place_same oneByte NamedWrite n = rw (spared (untabled order len areas) refl NamedWrite a) (open-true _)
-    place_same oneByte DataRead n = absurd (false≢true n)
-    place_same oneByte DataWrite n = absurd (false≢true n)
-    place_same oneByte ReturnRead n = absurd (false≢true n)
-    place_same oneByte ReturnWrite n = absurd (false≢true n)
-    place_same oneByte Stream n = absurd (false≢true n)
-    place_same oneByte Push n = absurd (false≢true n)
+        → place_of (untabled order len areas) w access size a ≡ place_before (before order len areas) w access size a
+    unfolding place_of place_before
+    place_same one_cell access n = cells access
+    place_same one_byte NamedRead n = open_true _
+    place_same one_byte NamedWrite n = rw (spared (untabled order len areas) refl NamedWrite a) (open_true _)
+    place_same one_byte DataRead n = absurd (false≢true n)
+    place_same one_byte DataWrite n = absurd (false≢true n)
+    place_same one_byte ReturnRead n = absurd (false≢true n)
+    place_same one_byte ReturnWrite n = absurd (false≢true n)
+    place_same one_byte Stream n = absurd (false≢true n)
+    place_same one_byte Push n = absurd (false≢true n)
 
-  pub told_same : (f : Fault) → exceptionOf (untabled order len areas) f ≡ exceptionBefore (before order len areas) f
-  unfolding exceptionOf exceptionBefore
+  pub told_same : (f : Fault) → exception_of (untabled order len areas) f ≡ exception_before (before order len areas) f
+  unfolding exception_of exception_before
   told_same (fault.Range a) = refl
   told_same (fault.Alignment a) = refl
-  told_same (fault.Data a) = rw (stack-ends order len areas lent passed).end
-  told_same (fault.Return a) = rw (returns-end order len areas lent passed).end
+  told_same (fault.Data a) = rw (stack_ends order len areas lent passed).end
+  told_same (fault.Return a) = rw (returns_end order len areas lent passed).end
   told_same fault.Table = refl
   told_same fault.Divisor = refl
   told_same fault.Illegal = refl
   told_same fault.Library = refl
 
-  judges : (c : Checked) → Judges (untabled order len areas) (exceptionBefore (before order len areas)) c c
+  judges : (c : Checked) → Judges (untabled order len areas) (exception_before (before order len areas)) c c
   judges Good = good
   judges (Bad f) = bad (told_same f)
 
-  pub judged-same : (size a : ℕ) (w : Width) (access : Access) → named w access ≡ true
-      → Judges (untabled order len areas) (exceptionBefore (before order len areas)) (place_of (untabled order len areas) w access size a)
-      (placeBefore (before order len areas) w access size a)
-  judged-same size a w access n = rw (place_same size a w access n) (judges (placeBefore (before order len areas) w access size a))
+  pub judged_same : (size a : ℕ) (w : Width) (access : Access) → named w access ≡ true
+      → Judges (untabled order len areas) (exception_before (before order len areas)) (place_of (untabled order len areas) w access size a)
+      (place_before (before order len areas) w access size a)
+  judged_same size a w access n = rw (place_same size a w access n) (judges (place_before (before order len areas) w access size a))
 
   -- so a memory is read as it was
   pub alike : (m : List ℕ)
-      → Alike (untabled order len areas) (exceptionBefore (before order len areas)) m (readingBefore (before order len areas) m)
-  unfolding fetchOf fetchByteOf fetchBefore fetchByteBefore
+      → Alike (untabled order len areas) (exception_before (before order len areas)) m (reading_before (before order len areas) m)
+  unfolding fetch_of fetch_byte_of fetch_before fetch_byte_before
   alike m =
       record {
-        cells = λ access a. reads _ (judged-same (length m) a oneCell access refl);
-        bytes = λ a. reads _ (judged-same (length m) a oneByte NamedRead refl);
+        cells = λ access a. reads _ (judged_same (length m) a one_cell access refl);
+        bytes = λ a. reads _ (judged_same (length m) a one_byte NamedRead refl);
         range = λ a. told_same (fault.Range a);
         unaligned = λ a. told_same (fault.Alignment a);
         divisor = told_same fault.Divisor;
@@ -94,10 +94,10 @@ module _ (order len : ℕ) (areas : Areas) (t : Taken order len areas) where
 
 pub same_place : SamePlace
 same_place order len areas t a = (
-  λ access. place_same order len areas t len a oneCell access refl,
-  place_same order len areas t len a oneByte NamedRead refl,
-  place_same order len areas t len a oneByte NamedWrite refl,
+  λ access. place_same order len areas t len a one_cell access refl,
+  place_same order len areas t len a one_byte NamedRead refl,
+  place_same order len areas t len a one_byte NamedWrite refl,
 )
 
-pub same-exception : SameException
-same-exception order len areas t f = told_same order len areas t f
+pub same_exception : SameException
+same_exception order len areas t f = told_same order len areas t f

@@ -1,61 +1,61 @@
 -- What the exported calls of the machine left and answered before tables. Document 01, and document 02, (a).
 use Rattle.std.specs.Prelude.{Bool, false, List, ℕ, length}
-use Rattle.cell.specs.Refusals.{refusalNumber}
+use Rattle.cell.specs.Refusals.{refusal_number}
 use Rattle.cell.specs.declared.Judged.{Judged}
 use Rattle.cell.specs.declared.Judged.TheVariants as judged
 use Rattle.areas.specs.declared.Areas.{Areas}
-use Rattle.lent_arrays.specs.Lending.{areasIn, registersOf, withRoom}
-use Rattle.processor_calls.specs.Machines.{startTold, cycleTold, runTold, Called, called}
-use Rattle.list_telling.specs.Telling.{listTold, judgeLent}
-use Rattle.list_calls.specs.Lists.{standGiven}
-use Rattle.before_tables.specs.Answers.{judgeBoundedBefore, startAnswerBefore, cycleAnswerBefore, runAnswerBefore, resumeInBefore}
+use Rattle.lent_arrays.specs.Lending.{areas_in, registers_of, with_room}
+use Rattle.processor_calls.specs.Machines.{start_told, cycle_told, run_told, Called, called}
+use Rattle.list_telling.specs.Telling.{list_told, judge_lent}
+use Rattle.list_calls.specs.Lists.{stand_given}
+use Rattle.before_tables.specs.Answers.{judge_bounded_before, start_answer_before, cycle_answer_before, run_answer_before, resume_in_before}
 
 -- -4101, -4102, -4111 and -4105 in this order
-unfoldable pub judgeCallBefore : ℕ → ℕ → Areas → ℕ → ℕ → ℕ → Judged
-judgeCallBefore len order areas registers out needed = withRoom (withRoom (judgeBoundedBefore len order areas) registers 8) out needed
+unfoldable pub judge_call_before : ℕ → ℕ → Areas → ℕ → ℕ → ℕ → Judged
+judge_call_before len order areas registers out needed = with_room (with_room (judge_bounded_before len order areas) registers 8) out needed
 
 -- where the areas come with the registers
-abbrev pub judgeWithBefore : ℕ → ℕ → List ℕ → ℕ → ℕ → Judged
-judgeWithBefore len order registers out needed = judgeCallBefore len order (areasIn 4 registers) (length registers) out needed
+abbrev pub judge_with_before : ℕ → ℕ → List ℕ → ℕ → ℕ → Judged
+judge_with_before len order registers out needed = judge_call_before len order (areas_in 4 registers) (length registers) out needed
 
 module _ (order : ℕ) (m registers out : List ℕ) where
   -- start
-  abbrev pub startCallIf : Judged → Areas → ℕ → ℕ → Called
-  startCallIf (judged.Refused n) areas ep handler = called m registers out (refusalNumber n)
-  startCallIf judged.Passed areas ep handler =
-      let s = startAnswerBefore order areas m ep handler in
-      record { memory = s.memory; told = startTold registers out s.answer }
+  abbrev pub start_call_if : Judged → Areas → ℕ → ℕ → Called
+  start_call_if (judged.Refused n) areas ep handler = called m registers out (refusal_number n)
+  start_call_if judged.Passed areas ep handler =
+      let s = start_answer_before order areas m ep handler in
+      record { memory = s.memory; told = start_told registers out s.answer }
 
-  unfoldable pub startCallBefore : Areas → ℕ → ℕ → Called
-  startCallBefore areas ep handler =
-      startCallIf (judgeCallBefore (length m) order areas (length registers) (length out) 1) areas ep handler
+  unfoldable pub start_call_before : Areas → ℕ → ℕ → Called
+  start_call_before areas ep handler =
+      start_call_if (judge_call_before (length m) order areas (length registers) (length out) 1) areas ep handler
 
   -- cycle
-  abbrev pub cycleCallIf : Judged → Called
-  cycleCallIf (judged.Refused n) = called m registers out (refusalNumber n)
-  cycleCallIf judged.Passed =
-      let s = cycleAnswerBefore order m (registersOf registers) in
-      record { memory = s.memory; told = cycleTold registers out s.answer }
+  abbrev pub cycle_call_if : Judged → Called
+  cycle_call_if (judged.Refused n) = called m registers out (refusal_number n)
+  cycle_call_if judged.Passed =
+      let s = cycle_answer_before order m (registers_of registers) in
+      record { memory = s.memory; told = cycle_told registers out s.answer }
 
-  unfoldable pub cycleCallBefore : Called
-  cycleCallBefore = cycleCallIf (judgeWithBefore (length m) order registers (length out) 1)
+  unfoldable pub cycle_call_before : Called
+  cycle_call_before = cycle_call_if (judge_with_before (length m) order registers (length out) 1)
 
   -- run
-  abbrev pub runCallIf : Judged → ℕ → Called
-  runCallIf (judged.Refused n) budget = called m registers out (refusalNumber n)
-  runCallIf judged.Passed budget =
-      let s = runAnswerBefore order m (registersOf registers) budget in
-      record { memory = s.memory; told = runTold registers out budget s.answer }
+  abbrev pub run_call_if : Judged → ℕ → Called
+  run_call_if (judged.Refused n) budget = called m registers out (refusal_number n)
+  run_call_if judged.Passed budget =
+      let s = run_answer_before order m (registers_of registers) budget in
+      record { memory = s.memory; told = run_told registers out budget s.answer }
 
-  unfoldable pub runCallBefore : ℕ → Called
-  runCallBefore budget = runCallIf (judgeWithBefore (length m) order registers (length out) 2) budget
+  unfoldable pub run_call_before : ℕ → Called
+  run_call_before budget = run_call_if (judge_with_before (length m) order registers (length out) 2) budget
 
 -- the list machine
-unfoldable pub resumeCallBefore : ℕ → List ℕ → List ℕ → ℕ → List ℕ → ℕ → Bool → List ℕ → ℕ → List ℕ → Called
-resumeCallBefore order kinds operands base m item ran pointers items out =
-    let room = judgeLent (length pointers) (length out) in
-    let s = resumeInBefore room order (areasIn 2 pointers) kinds operands base m (standGiven item ran pointers) items in
-    record { memory = s.memory; told = listTold pointers out s }
+unfoldable pub resume_call_before : ℕ → List ℕ → List ℕ → ℕ → List ℕ → ℕ → Bool → List ℕ → ℕ → List ℕ → Called
+resume_call_before order kinds operands base m item ran pointers items out =
+    let room = judge_lent (length pointers) (length out) in
+    let s = resume_in_before room order (areas_in 2 pointers) kinds operands base m (stand_given item ran pointers) items in
+    record { memory = s.memory; told = list_told pointers out s }
 
-abbrev pub listCallBefore : ℕ → List ℕ → List ℕ → ℕ → List ℕ → List ℕ → ℕ → List ℕ → Called
-listCallBefore order kinds operands base m pointers items out = resumeCallBefore order kinds operands base m 0 false pointers items out
+abbrev pub list_call_before : ℕ → List ℕ → List ℕ → ℕ → List ℕ → List ℕ → ℕ → List ℕ → Called
+list_call_before order kinds operands base m pointers items out = resume_call_before order kinds operands base m 0 false pointers items out

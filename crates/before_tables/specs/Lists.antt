@@ -6,79 +6,79 @@ use Rattle.cell.specs.declared.Checked.{Checked}
 use Rattle.cell.specs.declared.Checked.TheVariants.{Good, Bad}
 use Rattle.cell.specs.declared.Fault.TheVariants.{Illegal}
 use Rattle.cell.specs.declared.Fetched.TheVariants.{Cell}
-use Rattle.machine.specs.Places.{oneCell}
-use Rattle.exceptions.specs.Exceptions.{exceptionCode}
-use Rattle.machine.specs.Effects.{Store, cellStore, Control, goOn, jump, halt, throwing, Action, Effect, act, raise}
+use Rattle.machine.specs.Places.{one_cell}
+use Rattle.exceptions.specs.Exceptions.{exception_code}
+use Rattle.machine.specs.Effects.{Store, cell_store, Control, go_on, jump, halt, throwing, Action, Effect, act, raise}
 use Rattle.machine.specs.declared.Access.TheVariants.{Push}
 use Rattle.machine.specs.declared.Exception.{Exception}
-use Rattle.instruction.specs.Dispatch.{decodeOf, OperandClass, next, plain, taking, operandClass}
+use Rattle.instruction.specs.Dispatch.{decode_of, OperandClass, next, plain, taking, operand_class}
 use Rattle.pack_layout.specs.Listing.{Listing}
-use Rattle.pack_layout.specs.Packing.{epValue, behind}
+use Rattle.pack_layout.specs.Packing.{ep_value, behind}
 use Rattle.list_machine.specs.declared.Outside.TheVariants.{WritesImage, NoEntry}
 use Rattle.list_machine.specs.ListMachine.{Position, Carried, stopped, outside}
-use Rattle.list_machine.specs.Runs.{Course, goesOn, stoppedBy, stoodOutside, Run}
+use Rattle.list_machine.specs.Runs.{Course, goes_on, stopped_by, stood_outside, Run}
 use Rattle.before_tables.specs.Machines.{MachineBefore}
-use Rattle.before_tables.specs.Places.{placeBefore, readingBefore}
-use Rattle.before_tables.specs.Plain.{plainBefore}
-use Rattle.before_tables.specs.Taking.{takingBefore}
-use Rattle.before_tables.specs.Commits.{placesBefore}
-use Rattle.before_tables.specs.Throws.{exceptionBefore, throwBefore, throwingBefore}
-use Rattle.before_tables.specs.Items.{operandAtBefore, writesImageBefore, transferredBefore, registersAtBefore, handledBefore, ranOnBefore, actedToBefore, furtherByBefore}
+use Rattle.before_tables.specs.Places.{place_before, reading_before}
+use Rattle.before_tables.specs.Plain.{plain_before}
+use Rattle.before_tables.specs.Taking.{taking_before}
+use Rattle.before_tables.specs.Commits.{places_before}
+use Rattle.before_tables.specs.Throws.{exception_before, throw_before, throwing_before}
+use Rattle.before_tables.specs.Items.{operand_at_before, writes_image_before, transferred_before, registers_at_before, handled_before, ran_on_before, acted_to_before, further_by_before}
 
 -- the store of a throw
-abbrev pub pushBefore : ℕ → Exception → Checked → List Store
-pushBefore a e (Bad f) = []
-pushBefore a e Good = cellStore Push a (exceptionCode e) ∷ []
+abbrev pub push_before : ℕ → Exception → Checked → List Store
+push_before a e (Bad f) = []
+push_before a e Good = cell_store Push a (exception_code e) ∷ []
 
 module _ (machine : MachineBefore) (base : ℕ) (l : Listing) where
   -- what an item asks for: EP stands for the item's EP value
-  abbrev pub effectAsBefore : OperandClass → Position → Effect
-  effectAsBefore next p = raise Illegal
-  effectAsBefore plain p =
-      plainBefore machine.order p.memory (readingBefore machine p.memory) (epValue base l p.item) p.sp p.rp
-      (decodeOf (l.kind p.item))
-  effectAsBefore (taking form t) p =
-      takingBefore (readingBefore machine p.memory) p.sp p.rp (Cell (operandAtBefore machine.order base l p.item t))
+  abbrev pub effect_as_before : OperandClass → Position → Effect
+  effect_as_before next p = raise Illegal
+  effect_as_before plain p =
+      plain_before machine.order p.memory (reading_before machine p.memory) (ep_value base l p.item) p.sp p.rp
+      (decode_of (l.kind p.item))
+  effect_as_before (taking form t) p =
+      taking_before (reading_before machine p.memory) p.sp p.rp (Cell (operand_at_before machine.order base l p.item t))
       (behind base l p.item)
       t
 
   -- an item that raises
-  abbrev pub thrownBefore : Position → Exception → Carried
-  thrownBefore p e =
+  abbrev pub thrown_before : Position → Exception → Carried
+  thrown_before p e =
       if
-      (writesImageBefore machine.order base l
-      (pushBefore (difference p.sp 4) e (placeBefore machine oneCell Push (length p.memory) (difference p.sp 4))))
+      (writes_image_before machine.order base l
+      (push_before (difference p.sp 4) e (place_before machine one_cell Push (length p.memory) (difference p.sp 4))))
       (outside WritesImage)
-      (handledBefore machine.order base l p (throwBefore machine p.memory (registersAtBefore machine.order base l p) e))
+      (handled_before machine.order base l p (throw_before machine p.memory (registers_at_before machine.order base l p) e))
 
   -- what follows the stores, p the position after them
-  abbrev pub followedBefore : Control → Position → Carried
-  followedBefore goOn p = ranOnBefore machine.order base l p
-  followedBefore (jump a) p = transferredBefore machine.order base l NoEntry a p
-  followedBefore (halt x) p = stopped x p
-  followedBefore throwing p =
-      handledBefore machine.order base l p (throwingBefore machine p.memory (registersAtBefore machine.order base l p))
+  abbrev pub followed_before : Control → Position → Carried
+  followed_before go_on p = ran_on_before machine.order base l p
+  followed_before (jump a) p = transferred_before machine.order base l NoEntry a p
+  followed_before (halt x) p = stopped x p
+  followed_before throwing p =
+      handled_before machine.order base l p (throwing_before machine p.memory (registers_at_before machine.order base l p))
 
   -- an action whose places were judged
-  abbrev pub actedBefore : Position → Action → Checked → Carried
-  actedBefore p x (Bad f) = thrownBefore p (exceptionBefore machine f)
-  actedBefore p x Good =
-      if (writesImageBefore machine.order base l x.stores) (outside WritesImage)
-      (followedBefore x.control (actedToBefore machine.order base l p x))
+  abbrev pub acted_before : Position → Action → Checked → Carried
+  acted_before p x (Bad f) = thrown_before p (exception_before machine f)
+  acted_before p x Good =
+      if (writes_image_before machine.order base l x.stores) (outside WritesImage)
+      (followed_before x.control (acted_to_before machine.order base l p x))
 
-  abbrev pub carriedByBefore : Position → Effect → Carried
-  carriedByBefore p (raise f) = thrownBefore p (exceptionBefore machine f)
-  carriedByBefore p (act x) = actedBefore p x (placesBefore machine (length p.memory) x.stores)
+  abbrev pub carried_by_before : Position → Effect → Carried
+  carried_by_before p (raise f) = thrown_before p (exception_before machine f)
+  carried_by_before p (act x) = acted_before p x (places_before machine (length p.memory) x.stores)
 
-  unfoldable pub carryBefore : Position → Carried
-  carryBefore p = carriedByBefore p (effectAsBefore (operandClass (decodeOf (l.kind p.item))) p)
+  unfoldable pub carry_before : Position → Carried
+  carry_before p = carried_by_before p (effect_as_before (operand_class (decode_of (l.kind p.item))) p)
 
-  abbrev pub furtherInBefore : Run → Course → Run
-  furtherInBefore s goesOn = furtherByBefore machine.order base l s (carryBefore s.position)
-  furtherInBefore s (stoppedBy x) = s
-  furtherInBefore s (stoodOutside why) = s
+  abbrev pub further_in_before : Run → Course → Run
+  further_in_before s goes_on = further_by_before machine.order base l s (carry_before s.position)
+  further_in_before s (stopped_by x) = s
+  further_in_before s (stood_outside why) = s
 
   -- k items, or as many as are carried out
-  unfoldable pub runBefore : ℕ → Run → Run
-  runBefore zero s = s
-  runBefore (suc k) s = furtherInBefore (runBefore k s) (runBefore k s).course
+  unfoldable pub run_before : ℕ → Run → Run
+  run_before zero s = s
+  run_before (suc k) s = further_in_before (run_before k s) (run_before k s).course

@@ -3,22 +3,22 @@ use mathlib.Core.Path.{◌≡◌, refl}
 use mathlib.Core.Bool.{Bool, true, false}
 use Prim.Native.Nat.{ℕ}
 use native.Mathlib.Omega.{arith}
-use Rattle.cell.specs.Refusals.{after, judgeMachine, Lent}
+use Rattle.cell.specs.Refusals.{after, judge_machine, Lent}
 use Rattle.cell.specs.declared.Judged.TheVariants.{Passed}
-use Rattle.cell.proofs.JudgementLaws.{both-pass, machine-good}
+use Rattle.cell.proofs.JudgementLaws.{both_pass, machine_good}
 use Rattle.machine.specs.Places.{Fits}
 use Rattle.machine.specs.declared.Table.{Table}
-use Rattle.areas.specs.Areas.{none, judgeAreas}
+use Rattle.areas.specs.Areas.{none, judge_areas}
 use Rattle.areas.specs.declared.Areas.{Areas}
 use Rattle.areas.proofs.AreaLaws.{taken}
-use Rattle.code_tables.specs.Tables.{judgeTable}
-use Rattle.code_tables.proofs.TableLaws.{table-guards}
-use Rattle.bounds.specs.Bounds.{judgeBounded, machine_of}
+use Rattle.code_tables.specs.Tables.{judge_table}
+use Rattle.code_tables.proofs.TableLaws.{table_guards}
+use Rattle.bounds.specs.Bounds.{judge_bounded, machine_of}
 
 -- the machine of areas that were taken fits a memory that is lent
-pub machine-fits : (order len : ℕ) (areas : Areas) (table : Table) → Lent len → judgeAreas len areas ≡ Passed → judgeTable len table ≡ Passed
+pub machine_fits : (order len : ℕ) (areas : Areas) (table : Table) → Lent len → judge_areas len areas ≡ Passed → judge_table len table ≡ Passed
     → Fits (machine_of order areas table len) len
-machine-fits order len areas table l e j = go (none areas) refl
+machine_fits order len areas table l e j = go (none areas) refl
   where
     go : (b : Bool) → none areas ≡ b → Fits (machine_of order areas table len) len
     go true q =
@@ -28,7 +28,7 @@ machine-fits order len areas table l e j = go (none areas) refl
           stack = rw q (record { aligned = omega arith; begins = omega arith; ends = omega arith });
           fewer = rw q (omega arith);
           returns = rw q (record { aligned = omega arith; begins = omega arith; ends = omega arith });
-          guards = table-guards len table l.most j;
+          guards = table_guards len table l.most j;
         }
     go false q =
         let t = taken len areas q e in
@@ -40,23 +40,23 @@ machine-fits order len areas table l e j = go (none areas) refl
           stack = rw q (record { aligned = omega arith; begins = omega arith; ends = omega arith });
           fewer = rw q (omega arith);
           returns = rw q (record { aligned = omega arith; begins = omega arith; ends = omega arith });
-          guards = table-guards len table l.most j;
+          guards = table_guards len table l.most j;
         }
 
 -- a judgement that passed
-module _ (len order : ℕ) (areas : Areas) (table : Table) (e : judgeBounded len order areas table ≡ Passed) where
-  parts : (judgeMachine len order ≡ Passed) × (after (judgeAreas len areas) (judgeTable len table) ≡ Passed)
-  unfolding judgeBounded
-  parts = both-pass (judgeMachine len order) (after (judgeAreas len areas) (judgeTable len table)) e
+module _ (len order : ℕ) (areas : Areas) (table : Table) (e : judge_bounded len order areas table ≡ Passed) where
+  parts : (judge_machine len order ≡ Passed) × (after (judge_areas len areas) (judge_table len table) ≡ Passed)
+  unfolding judge_bounded
+  parts = both_pass (judge_machine len order) (after (judge_areas len areas) (judge_table len table)) e
 
   pub lent : Lent len
-  lent = (machine-good len order parts.0).lent
+  lent = (machine_good len order parts.0).lent
 
-  pub areas-pass : judgeAreas len areas ≡ Passed
-  areas-pass = (both-pass (judgeAreas len areas) (judgeTable len table) parts.1).0
+  pub areas_pass : judge_areas len areas ≡ Passed
+  areas_pass = (both_pass (judge_areas len areas) (judge_table len table) parts.1).0
 
-  pub table-pass : judgeTable len table ≡ Passed
-  table-pass = (both-pass (judgeAreas len areas) (judgeTable len table) parts.1).1
+  pub table_pass : judge_table len table ≡ Passed
+  table_pass = (both_pass (judge_areas len areas) (judge_table len table) parts.1).1
 
-  pub passed-fits : Fits (machine_of order areas table len) len
-  passed-fits = machine-fits order len areas table lent areas-pass table-pass
+  pub passed_fits : Fits (machine_of order areas table len) len
+  passed_fits = machine_fits order len areas table lent areas_pass table_pass

@@ -13,7 +13,7 @@ use machine::{Machine, Span, Table};
 // The cells of an area that was taken, and those held under it.
 fn span_of(held: u32, area: Area) -> Span
     requires held_bound { held ≤ 1 }
-    requires le_cells { (1 ≤ area.cells.0) × (areas.bytesWith held area ≤ area.top.0) }
+    requires le_cells { (1 ≤ area.cells.0) × (areas.bytes_with held area ≤ area.top.0) }
     ensures { result ≡ bounds.span_of held area }
 {
     let top = area.top;
@@ -27,7 +27,7 @@ fn span_of(held: u32, area: Area) -> Span
 // The machine of areas that were taken.
 pub fn machine_of(order: u8, given: Areas, table: Table, length: usize) -> Machine
     requires in_bounds { (4 ≤ length) × (length ≤ 16777216) }
-    requires given_value { areas.judgeAreas length given ≡ judged.Passed }
+    requires given_value { areas.judge_areas length given ≡ judged.Passed }
     ensures { result ≡ bounds.machine_of order given table length }
 {
     if is_none(given) {
@@ -48,7 +48,7 @@ pub fn machine_of(order: u8, given: Areas, table: Table, length: usize) -> Machi
 // Where the data stack begins.
 pub fn first_sp(length: usize, given: Areas) -> u32
     requires { (1024 ≤ length) × (length ≤ 16777216) }
-    ensures { result ≡ bounds.firstSp length given }
+    ensures { result ≡ bounds.first_sp length given }
 {
     if is_none(given) {
         return (length - 0x100) as u32;
@@ -61,7 +61,7 @@ pub fn first_sp(length: usize, given: Areas) -> u32
 // Where the return stack begins.
 pub fn first_rp(length: usize, given: Areas) -> u32
     requires { length ≤ 16777216 }
-    ensures { result ≡ bounds.firstRp length given }
+    ensures { result ≡ bounds.first_rp length given }
 {
     if is_none(given) {
         return length as u32;

@@ -11,7 +11,7 @@ use machine::Table;
 
 // What every call that is given areas and a table judges first.
 pub fn judge_bounded(length: usize, order: u8, given: Areas, table: Table) -> Judged
-    ensures { result ≡ bounds.judgeBounded length order given table }
+    ensures { result ≡ bounds.judge_bounded length order given table }
 {
     match judge_machine(length, order) {
         Judged::Refused(r) => Judged::Refused(r),

@@ -9,7 +9,7 @@ use packer::Packed;
 
 pub fn note_packed(answer: Packed, out: &mut [u32]) -> u32
     requires { 1 ≤ length out.old }
-    ensures { modules.noted out.new result ≡ listings.packNoted out.old answer }
+    ensures { modules.noted out.new result ≡ listings.pack_noted out.old answer }
 {
     match answer {
         // reached by a call alone that has not judged before it asks for this answer

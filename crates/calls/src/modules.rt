@@ -9,7 +9,7 @@ use module_saving::Saved;
 
 pub fn note_loaded(answer: Loaded, out: &mut [u32]) -> u32
     requires { 1 ≤ length out.old }
-    ensures { modules.noted out.new result ≡ modules.loadNoted out.old answer }
+    ensures { modules.noted out.new result ≡ modules.load_noted out.old answer }
 {
     match answer {
         // never reached: the call judges before it asks for this answer
@@ -23,7 +23,7 @@ pub fn note_loaded(answer: Loaded, out: &mut [u32]) -> u32
 
 pub fn note_saved(answer: Saved, out: &mut [u32]) -> u32
     requires { 1 ≤ length out.old }
-    ensures { modules.noted out.new result ≡ modules.saveNoted out.old answer }
+    ensures { modules.noted out.new result ≡ modules.save_noted out.old answer }
 {
     match answer {
         // never reached: the call judges before it asks for this answer

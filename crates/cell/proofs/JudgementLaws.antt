@@ -2,7 +2,7 @@
 use Rattle.std.proofs.Common.{◌≡◌, ℕ, ◌%◌, Bool, true, false, not, ◌||◌, eqb, ltb, [], ◌∷◌, refl, arith, ltb-false, eqb-true}
 use borrow.Author.Tests.{not-false}
 use Rattle.cell.specs.Choice.{if}
-use Rattle.cell.specs.Refusals.{refusalNumber, judge, after, memoryLength, byteOrder, judgeMachine, GoodMachine}
+use Rattle.cell.specs.Refusals.{refusal_number, judge, after, memory_length, byte_order, judge_machine, GoodMachine}
 use Rattle.cell.specs.declared.Refusal.{Refusal}
 use Rattle.cell.specs.declared.Refusal.TheVariants as refusal
 use Rattle.cell.specs.declared.Judged.{Judged}
@@ -10,49 +10,49 @@ use Rattle.cell.specs.declared.Judged.TheVariants.{Passed, Refused}
 use Rattle.cell.proofs.BooleanLaws.{neither}
 
 -- both judgements pass; of a list judged in order, the first and the rest
-pub both-pass : (i j : Judged) → after i j ≡ Passed → (i ≡ Passed) × (j ≡ Passed)
-both-pass Passed j e = (refl, e)
-both-pass (Refused r) j e = absurd (let z : ◌≡◌ {A = ℕ} 0 1 = cc in omega arith)
+pub both_pass : (i j : Judged) → after i j ≡ Passed → (i ≡ Passed) × (j ≡ Passed)
+both_pass Passed j e = (refl, e)
+both_pass (Refused r) j e = absurd (let z : ◌≡◌ {A = ℕ} 0 1 = cc in omega arith)
 
 -- a judgement that nothing follows, and three in order
-pub after-passed : (j : Judged) → after j Passed ≡ j
-after-passed Passed = refl
-after-passed (Refused r) = refl
+pub after_passed : (j : Judged) → after j Passed ≡ j
+after_passed Passed = refl
+after_passed (Refused r) = refl
 
-pub after-after : (i j k : Judged) → after (after i j) k ≡ after i (after j k)
-after-after Passed j k = refl
-after-after (Refused r) j k = refl
+pub after_after : (i j k : Judged) → after (after i j) k ≡ after i (after j k)
+after_after Passed j k = refl
+after_after (Refused r) j k = refl
 
 -- a ground that does not refuse does not apply
-pub one-clear : (t : Bool) (r : Refusal) (j : Judged) → if t (Refused r) j ≡ Passed → (t ≡ false) × (j ≡ Passed)
-one-clear true r j e = absurd (let z : ◌≡◌ {A = ℕ} 0 1 = cc in omega arith)
-one-clear false r j e = (refl, e)
+pub one_clear : (t : Bool) (r : Refusal) (j : Judged) → if t (Refused r) j ≡ Passed → (t ≡ false) × (j ≡ Passed)
+one_clear true r j e = absurd (let z : ◌≡◌ {A = ℕ} 0 1 = cc in omega arith)
+one_clear false r j e = (refl, e)
 
 -- no refusal has the number 0
-pub refusal-some : (r : Refusal) → refusalNumber r ≡ 0 → ⊥
-refusal-some refusal.MemoryLength e = omega arith
-refusal-some refusal.ByteOrder e = omega arith
-refusal-some refusal.StackAreas e = omega arith
-refusal-some refusal.Table e = omega arith
-refusal-some refusal.Header e = omega arith
-refusal-some refusal.FileLength e = omega arith
-refusal-some refusal.Unaligned e = omega arith
-refusal-some refusal.Outside e = omega arith
-refusal-some refusal.ShortOutput e = omega arith
-refusal-some refusal.ItemCount e = omega arith
-refusal-some refusal.OperandCount e = omega arith
-refusal-some refusal.Kind e = omega arith
-refusal-some refusal.PlainOperand e = omega arith
-refusal-some refusal.Target e = omega arith
-refusal-some refusal.Base e = omega arith
-refusal-some refusal.NoListing e = omega arith
-refusal-some refusal.ModuleSet e = omega arith
+pub refusal_some : (r : Refusal) → refusal_number r ≡ 0 → ⊥
+refusal_some refusal.MemoryLength e = omega arith
+refusal_some refusal.ByteOrder e = omega arith
+refusal_some refusal.StackAreas e = omega arith
+refusal_some refusal.Table e = omega arith
+refusal_some refusal.Header e = omega arith
+refusal_some refusal.FileLength e = omega arith
+refusal_some refusal.Unaligned e = omega arith
+refusal_some refusal.Outside e = omega arith
+refusal_some refusal.ShortOutput e = omega arith
+refusal_some refusal.ItemCount e = omega arith
+refusal_some refusal.OperandCount e = omega arith
+refusal_some refusal.Kind e = omega arith
+refusal_some refusal.PlainOperand e = omega arith
+refusal_some refusal.Target e = omega arith
+refusal_some refusal.Base e = omega arith
+refusal_some refusal.NoListing e = omega arith
+refusal_some refusal.ModuleSet e = omega arith
 
-pub machine-good : (len order : ℕ) → judgeMachine len order ≡ Passed → GoodMachine len order
-unfolding judgeMachine
-machine-good len order e =
-    let p = one-clear (memoryLength len).applies refusal.MemoryLength (judge (byteOrder order ∷ [])) e in
-    let q = one-clear (ltb 1 order) refusal.ByteOrder Passed p.1 in
+pub machine_good : (len order : ℕ) → judge_machine len order ≡ Passed → GoodMachine len order
+unfolding judge_machine
+machine_good len order e =
+    let p = one_clear (memory_length len).applies refusal.MemoryLength (judge (byte_order order ∷ [])) e in
+    let q = one_clear (ltb 1 order) refusal.ByteOrder Passed p.1 in
     let s = neither (ltb len 1024) (ltb 16777216 len || not (eqb (len % 4) 0)) p.0 in
     let t = neither (ltb 16777216 len) (not (eqb (len % 4) 0)) s.1 in
     record {

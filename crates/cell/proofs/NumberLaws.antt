@@ -4,8 +4,8 @@ use Rattle.cell.specs.Shift.{asr8}
 use Rattle.cell.specs.Number.{magnitude, negated, halved}
 
 -- the product of two cells fits 64 bits
-pub product-fits : (a b : ℕ) → a < 2 ^ 32 → b < 2 ^ 32 → a * b < 2 ^ 64
-product-fits a b ha hb = lt_of_le_of_lt (mul-le-mul_left a (le_of_lt hb)) (mul-lt-mul_of_pos_right ha (pow_pos 32))
+pub product_fits : (a b : ℕ) → a < 2 ^ 32 → b < 2 ^ 32 → a * b < 2 ^ 64
+product_fits a b ha hb = lt_of_le_of_lt (mul-le-mul_left a (le_of_lt hb)) (mul-lt-mul_of_pos_right ha (pow_pos 32))
 
 -- b < a is the opposite of a ≤ b
 pub lt_not_le : (a b : ℕ) → ltb b a ≡ not (leb a b)
@@ -15,9 +15,9 @@ lt_not_le a b = go (leb a b) refl
     go true e = le-ltb b a (leb-true a b e)
     go false e = lt-ltb b a (leb-false a b e)
 
-pub magnitude-pos : (a : ℕ) → 0 < a → a < 2 ^ 32 → 0 < magnitude a
+pub magnitude_pos : (a : ℕ) → 0 < a → a < 2 ^ 32 → 0 < magnitude a
 unfolding negated
-magnitude-pos a p h = go (leb 0x80000000 a) refl
+magnitude_pos a p h = go (leb 0x80000000 a) refl
   where
     go : (t : Bool) → leb 0x80000000 a ≡ t → 0 < magnitude a
     go true e = rw e (omega arith)
@@ -32,9 +32,9 @@ halved_is a r h k e = go (leb 0x80000000 a) refl
     go true q = rw q (let l = leb-true 0x80000000 a q in omega arith)
     go false q = rw q (let l = leb-false 0x80000000 a q in omega arith)
 
-pub asr8-is : (a r : ℕ) → a < 2 ^ 32 → r < 2 ^ 32 → (r + 0x800000) % 2 ^ 32 ≡ (a / 256 + 0x800000) % 0x1000000 → r ≡ asr8 a
+pub asr8_is : (a r : ℕ) → a < 2 ^ 32 → r < 2 ^ 32 → (r + 0x800000) % 2 ^ 32 ≡ (a / 256 + 0x800000) % 0x1000000 → r ≡ asr8 a
 unfolding asr8
-asr8-is a r h k e = go (leb 0x80000000 a) refl
+asr8_is a r h k e = go (leb 0x80000000 a) refl
   where
     go : (t : Bool) → leb 0x80000000 a ≡ t → r ≡ asr8 a
     go true q = rw q (let l = leb-true 0x80000000 a q in omega arith)

@@ -14,12 +14,12 @@ abbrev pub apart : ℕ → ℕ → Bool
 apart a b = if (negative a) (not (negative b)) (negative b)
 
 -- U/MOD
-abbrev pub unsignedOf : ℕ → ℕ → Quotient
-unsignedOf a b = record { quotient = a / b; remainder = a % b }
+abbrev pub unsigned_of : ℕ → ℕ → Quotient
+unsigned_of a b = record { quotient = a / b; remainder = a % b }
 
 -- S/REM: the magnitudes are divided; the remainder has the dividend's sign
-unfoldable pub symmetricOf : ℕ → ℕ → Quotient
-symmetricOf a b =
+unfoldable pub symmetric_of : ℕ → ℕ → Quotient
+symmetric_of a b =
     record {
       quotient = signed (apart a b) (magnitude a / magnitude b);
       remainder = signed (negative a) (magnitude a % magnitude b);
@@ -30,5 +30,5 @@ abbrev pub lowered : Bool → ℕ → Quotient → Quotient
 lowered t b q = if t (record { quotient = difference q.quotient 1; remainder = sum q.remainder b }) q
 
 -- / MOD /MOD
-unfoldable pub flooredOf : ℕ → ℕ → Quotient
-flooredOf a b = lowered (not ((symmetricOf a b).remainder == 0) && apart a b) b (symmetricOf a b)
+unfoldable pub floored_of : ℕ → ℕ → Quotient
+floored_of a b = lowered (not ((symmetric_of a b).remainder == 0) && apart a b) b (symmetric_of a b)

@@ -3,8 +3,8 @@
 use Rattle.std.specs.Prelude.{◌≡◌, ℕ, zero, suc, ◌+◌, ◌*◌, ◌/◌, ◌%◌, ◌<◌, ◌≤◌, List, [], ◌∷◌, slice_index, slice_set}
 use Rattle.cell.specs.declared.CellCount.{CellCount}
 
-abbrev pub cellCount : ℕ → CellCount
-cellCount n = record { 0 = n }
+abbrev pub cell_count : ℕ → CellCount
+cell_count n = record { 0 = n }
 
 -- the four bytes of a cell, least significant first
 abbrev pub byte0 : ℕ → ℕ
@@ -20,9 +20,9 @@ abbrev pub byte3 : ℕ → ℕ
 byte3 x = x / 16777216 % 256
 
 -- the four bytes of a cell in a byte order, the first first
-abbrev pub cellBytes : ℕ → ℕ → List ℕ
-cellBytes zero x = byte0 x ∷ byte1 x ∷ byte2 x ∷ byte3 x ∷ []
-cellBytes (suc order) x = byte3 x ∷ byte2 x ∷ byte1 x ∷ byte0 x ∷ []
+abbrev pub cell_bytes : ℕ → ℕ → List ℕ
+cell_bytes zero x = byte0 x ∷ byte1 x ∷ byte2 x ∷ byte3 x ∷ []
+cell_bytes (suc order) x = byte3 x ∷ byte2 x ∷ byte1 x ∷ byte0 x ∷ []
 
 -- a cell of four bytes, a the first in memory
 abbrev pub joined : ℕ → ℕ → ℕ → ℕ → ℕ → ℕ
@@ -38,9 +38,9 @@ abbrev pub put : List ℕ → ℕ → ℕ → ℕ → ℕ → ℕ → List ℕ
 put m a p q r s = slice_set (slice_set (slice_set (slice_set m a p) (a + 1) q) (a + 2) r) (a + 3) s
 
 -- memory with x at byte address a
-unfoldable pub storeCell : ℕ → List ℕ → ℕ → ℕ → List ℕ
-storeCell zero m a x = put m a (byte0 x) (byte1 x) (byte2 x) (byte3 x)
-storeCell (suc order) m a x = put m a (byte3 x) (byte2 x) (byte1 x) (byte0 x)
+unfoldable pub store_cell : ℕ → List ℕ → ℕ → ℕ → List ℕ
+store_cell zero m a x = put m a (byte0 x) (byte1 x) (byte2 x) (byte3 x)
+store_cell (suc order) m a x = put m a (byte3 x) (byte2 x) (byte1 x) (byte0 x)
 
 -- two memories agree on the bytes from lo up to, and without, hi
 unfoldable pub Alike : ℕ → ℕ → List ℕ → List ℕ → Type 0

@@ -52,5 +52,5 @@ unfoldable pub halved : ℕ → ℕ
 halved a = a / 2 + if (negative a) 0x80000000 0
 
 -- C@ and C! in order 1 reach the byte at the other end of its cell: bits 0 and 1 of the address are inverted
-abbrev pub byteAddress : ℕ → ℕ → ℕ
-byteAddress order a = if (order == 0) a (bit_xor 3 a)
+abbrev pub byte_address : ℕ → ℕ → ℕ
+byte_address order a = if (order == 0) a (bit_xor 3 a)

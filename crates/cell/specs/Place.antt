@@ -14,12 +14,12 @@ abbrev pub address : ℕ → Address
 address a = record { 0 = a }
 
 -- a byte's place: inside memory
-abbrev pub checkByte : ℕ → ℕ → Checked
-checkByte len a = if (nat_lt a len) Good (Bad (Range (address a)))
+abbrev pub check_byte : ℕ → ℕ → Checked
+check_byte len a = if (nat_lt a len) Good (Bad (Range (address a)))
 
 -- a cell's place: inside memory, then a multiple of 4
-abbrev pub checkCell : ℕ → ℕ → Checked
-checkCell len a = if (nat_lt a len) (if (a % 4 == 0) Good (Bad (Alignment (address a)))) (Bad (Range (address a)))
+abbrev pub check_cell : ℕ → ℕ → Checked
+check_cell len a = if (nat_lt a len) (if (a % 4 == 0) Good (Bad (Alignment (address a)))) (Bad (Range (address a)))
 
 -- a place that was judged good is read, and a bad one gives its fault
 abbrev pub read : Checked → ℕ → Fetched

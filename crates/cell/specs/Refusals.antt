@@ -10,24 +10,24 @@ use Rattle.cell.specs.declared.Judged.{Judged}
 use Rattle.cell.specs.declared.Judged.TheVariants.{Passed, Refused}
 
 -- the number of each refusal, as a cell in two's complement
-abbrev pub refusalNumber : Refusal → ℕ
-refusalNumber MemoryLength = 2 ^ 32 - 4101
-refusalNumber ByteOrder = 2 ^ 32 - 4102
-refusalNumber StackAreas = 2 ^ 32 - 4111
-refusalNumber Table = 2 ^ 32 - 4112
-refusalNumber Header = 2 ^ 32 - 2
-refusalNumber FileLength = 2 ^ 32 - 4103
-refusalNumber Unaligned = 2 ^ 32 - 4104
-refusalNumber Outside = 2 ^ 32 - 1
-refusalNumber ShortOutput = 2 ^ 32 - 4105
-refusalNumber ItemCount = 2 ^ 32 - 4106
-refusalNumber OperandCount = 2 ^ 32 - 4119
-refusalNumber Kind = 2 ^ 32 - 4107
-refusalNumber PlainOperand = 2 ^ 32 - 4108
-refusalNumber Target = 2 ^ 32 - 4109
-refusalNumber Base = 2 ^ 32 - 4110
-refusalNumber NoListing = 2 ^ 32 - 4116
-refusalNumber ModuleSet = 2 ^ 32 - 4113
+abbrev pub refusal_number : Refusal → ℕ
+refusal_number MemoryLength = 2 ^ 32 - 4101
+refusal_number ByteOrder = 2 ^ 32 - 4102
+refusal_number StackAreas = 2 ^ 32 - 4111
+refusal_number Table = 2 ^ 32 - 4112
+refusal_number Header = 2 ^ 32 - 2
+refusal_number FileLength = 2 ^ 32 - 4103
+refusal_number Unaligned = 2 ^ 32 - 4104
+refusal_number Outside = 2 ^ 32 - 1
+refusal_number ShortOutput = 2 ^ 32 - 4105
+refusal_number ItemCount = 2 ^ 32 - 4106
+refusal_number OperandCount = 2 ^ 32 - 4119
+refusal_number Kind = 2 ^ 32 - 4107
+refusal_number PlainOperand = 2 ^ 32 - 4108
+refusal_number Target = 2 ^ 32 - 4109
+refusal_number Base = 2 ^ 32 - 4110
+refusal_number NoListing = 2 ^ 32 - 4116
+refusal_number ModuleSet = 2 ^ 32 - 4113
 
 -- a refusal, with whether it applies
 pub record Ground : Type 0 where
@@ -45,26 +45,26 @@ after Passed j = j
 after (Refused r) j = Refused r
 
 -- of judgements in order, the first that refuses
-abbrev pub inOrder : List Judged → Judged
-inOrder [] = Passed
-inOrder (j ∷ js) = after j (inOrder js)
+abbrev pub in_order : List Judged → Judged
+in_order [] = Passed
+in_order (j ∷ js) = after j (in_order js)
 
 -- -4101: a memory under 1,024 bytes, over 16,777,216, or not of whole cells
-abbrev pub memoryLength : ℕ → Ground
-memoryLength len =
+abbrev pub memory_length : ℕ → Ground
+memory_length len =
     record { applies = nat_lt len 1024 || (nat_lt 16777216 len || not (len % 4 == 0)); refusal = MemoryLength }
 
 -- -4102: an order that is neither 0 nor 1
-abbrev pub byteOrder : ℕ → Ground
-byteOrder order = record { applies = nat_lt 1 order; refusal = ByteOrder }
+abbrev pub byte_order : ℕ → Ground
+byte_order order = record { applies = nat_lt 1 order; refusal = ByteOrder }
 
 -- -4104: an address that is no multiple of 4
 abbrev pub unaligned : ℕ → Ground
 unaligned a = record { applies = not (a % 4 == 0); refusal = Unaligned }
 
 -- what every call on a lent memory judges first
-unfoldable pub judgeMachine : ℕ → ℕ → Judged
-judgeMachine len order = judge (memoryLength len ∷ byteOrder order ∷ [])
+unfoldable pub judge_machine : ℕ → ℕ → Judged
+judge_machine len order = judge (memory_length len ∷ byte_order order ∷ [])
 
 -- a memory's length that -4101 does not refuse
 pub record Lent (len : ℕ) : Type 0 where

@@ -7,7 +7,7 @@ use crate::number::{add, magnitude, negate, subtract};
 
 pub fn divide_unsigned(a: u32, b: u32) -> Quotient
     requires { 0 < b }
-    ensures { result ≡ division.unsignedOf a b }
+    ensures { result ≡ division.unsigned_of a b }
 {
     Quotient {
         quotient: a / b,
@@ -34,7 +34,7 @@ pub fn with_sign(negative: bool, n: u32) -> u32
 
 pub fn divide_symmetric(a: u32, b: u32) -> Quotient
     requires { 0 < b }
-    ensures { result ≡ division.symmetricOf a b }
+    ensures { result ≡ division.symmetric_of a b }
 {
     let p = magnitude(a);
     let q = magnitude(b);
@@ -46,7 +46,7 @@ pub fn divide_symmetric(a: u32, b: u32) -> Quotient
 
 pub fn divide_floored(a: u32, b: u32) -> Quotient
     requires { 0 < b }
-    ensures { result ≡ division.flooredOf a b }
+    ensures { result ≡ division.floored_of a b }
 {
     let s = divide_symmetric(a, b);
     if s.remainder == 0 {

@@ -6,7 +6,7 @@ use crate::{Judged, Refusal};
 
 // What every call on a lent memory judges first.
 pub fn judge_machine(length: usize, order: u8) -> Judged
-    ensures { result ≡ refusals.judgeMachine length order }
+    ensures { result ≡ refusals.judge_machine length order }
 {
     if length < 1024 {
         return Judged::Refused(Refusal::MemoryLength);
@@ -24,7 +24,7 @@ pub fn judge_machine(length: usize, order: u8) -> Judged
 }
 
 pub fn refusal_number(r: Refusal) -> u32
-    ensures { result ≡ refusals.refusalNumber r }
+    ensures { result ≡ refusals.refusal_number r }
 {
     match r {
         Refusal::MemoryLength => 0xFFFFEFFB,

@@ -47,7 +47,7 @@ pub fn load(order: u8, memory: &[u8], at: Address) -> u32
 
 fn store_least(bytes: &mut [u8], at: usize, x: u32)
     requires { at + 4 ≤ length bytes.old }
-    ensures { bytes.new ≡ mem.storeCell 0 bytes.old at x }
+    ensures { bytes.new ≡ mem.store_cell 0 bytes.old at x }
 {
     bytes[at] = (x % 256) as u8;
     bytes[at + 1] = (x / 256 % 256) as u8;
@@ -58,7 +58,7 @@ fn store_least(bytes: &mut [u8], at: usize, x: u32)
 // The bytes with x at a position.
 pub fn store_at(order: u8, bytes: &mut [u8], at: usize, x: u32)
     requires { at + 4 ≤ length bytes.old }
-    ensures { bytes.new ≡ mem.storeCell order bytes.old at x }
+    ensures { bytes.new ≡ mem.store_cell order bytes.old at x }
 {
     store_least(bytes, at, reverse(order, x))
 }
@@ -66,7 +66,7 @@ pub fn store_at(order: u8, bytes: &mut [u8], at: usize, x: u32)
 // Memory with x at an address inside it.
 pub fn store(order: u8, memory: &mut [u8], at: Address, x: u32)
     requires { at.0 + 4 ≤ length memory.old }
-    ensures { memory.new ≡ mem.storeCell order memory.old at.0 x }
+    ensures { memory.new ≡ mem.store_cell order memory.old at.0 x }
 {
     store_at(order, memory, at.0 as usize, x)
 }

@@ -88,7 +88,7 @@ pub fn shift_byte(a: u32) -> u32
 
 // The address of a byte for C@ and C!.
 pub fn byte_address(order: u8, a: u32) -> u32
-    ensures { result ≡ number.byteAddress order a }
+    ensures { result ≡ number.byte_address order a }
 {
     if order == 0 { a } else { 3 ^ a }
 }

@@ -13,7 +13,7 @@ pub fn address_at(base: Address, index: CellCount) -> Address
 }
 
 pub fn check_byte(length: usize, address: Address) -> Checked
-    ensures { result ≡ place.checkByte length address.0 }
+    ensures { result ≡ place.check_byte length address.0 }
 {
     if (address.0 as usize) < length {
         Checked::Good
@@ -24,7 +24,7 @@ pub fn check_byte(length: usize, address: Address) -> Checked
 
 // One comparison finds a good place: the address, rotated right by two bits, is the number of its cell, or past every number if it is not aligned.
 pub fn check_cell(length: usize, address: Address) -> Checked
-    ensures { result ≡ place.checkCell length address.0 }
+    ensures { result ≡ place.check_cell length address.0 }
 {
     let a = address.0 as usize;
     let cells = length / 4 + (length % 4 + 3) / 4;

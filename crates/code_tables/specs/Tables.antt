@@ -8,28 +8,28 @@ use Rattle.cell.specs.declared.Judged.{Judged}
 use Rattle.cell.specs.declared.Judged.TheVariants.{Passed}
 use Rattle.machine.specs.declared.Table.{Table}
 
-abbrev pub noneGiven : Table → Bool
-noneGiven table = eqb table.first.0 0 && eqb table.end.0 0
+abbrev pub none_given : Table → Bool
+none_given table = eqb table.first.0 0 && eqb table.end.0 0
 
 -- the cells at 0h to Ch are the machine's own
-abbrev pub ownCells : ℕ
-ownCells = 0x10
+abbrev pub own_cells : ℕ
+own_cells = 0x10
 
 -- an unaligned end, the two exchanged, a table over the machine's own cells, or past memory
-abbrev pub badTable : ℕ → Table → Bool
-badTable len table =
+abbrev pub bad_table : ℕ → Table → Bool
+bad_table len table =
     not (eqb (table.first.0 % 4) 0)
-    || (not (eqb (table.end.0 % 4) 0) || (ltb table.end.0 table.first.0 || (ltb table.first.0 ownCells || ltb len table.end.0)))
+    || (not (eqb (table.end.0 % 4) 0) || (ltb table.end.0 table.first.0 || (ltb table.first.0 own_cells || ltb len table.end.0)))
 
 -- -4112
-unfoldable pub judgeTable : ℕ → Table → Judged
-judgeTable len table =
-    if (noneGiven table) Passed (judge (record { applies = badTable len table; refusal = refusal.Table } ∷ []))
+unfoldable pub judge_table : ℕ → Table → Judged
+judge_table len table =
+    if (none_given table) Passed (judge (record { applies = bad_table len table; refusal = refusal.Table } ∷ []))
 
 -- what a table that was taken is, where one was given
 pub record Kept (len : ℕ) (table : Table) : Type 0 where
-  pub first-aligned : table.first.0 % 4 ≡ 0
-  pub end-aligned : table.end.0 % 4 ≡ 0
+  pub first_aligned : table.first.0 % 4 ≡ 0
+  pub end_aligned : table.end.0 % 4 ≡ 0
   pub ordered : table.first.0 ≤ table.end.0
-  pub begins : ownCells ≤ table.first.0
+  pub begins : own_cells ≤ table.first.0
   pub ends : table.end.0 ≤ len

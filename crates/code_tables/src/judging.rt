@@ -7,7 +7,7 @@ use machine::Table;
 
 // Whether both numbers of a table are 0.
 fn is_none_given(table: Table) -> bool
-    ensures { result ≡ tables.noneGiven table }
+    ensures { result ≡ tables.none_given table }
 {
     let first = table.first;
     let end = table.end;
@@ -16,7 +16,7 @@ fn is_none_given(table: Table) -> bool
 
 // Whether a table is unaligned, reversed, over the machine's own cells or past memory.
 fn is_bad_table(length: usize, table: Table) -> bool
-    ensures { result ≡ tables.badTable length table }
+    ensures { result ≡ tables.bad_table length table }
 {
     let first = table.first;
     let end = table.end;
@@ -36,7 +36,7 @@ fn is_bad_table(length: usize, table: Table) -> bool
 }
 
 pub fn judge_table(length: usize, table: Table) -> Judged
-    ensures { result ≡ tables.judgeTable length table }
+    ensures { result ≡ tables.judge_table length table }
 {
     if is_none_given(table) {
         return Judged::Passed;

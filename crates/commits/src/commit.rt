@@ -15,7 +15,7 @@ use machine::{
 
 // The fault that an instruction met in its reading.
 pub fn fault_of(then: Then) -> Checked
-    ensures { result ≡ commits.faultOf then }
+    ensures { result ≡ commits.fault_of then }
 {
     match then {
         Then::GoOn => Checked::Good,
@@ -28,7 +28,7 @@ pub fn fault_of(then: Then) -> Checked
 
 // A bad place is raised, with the registers as they were.
 pub fn raise(r: Registers, place: Checked) -> Step
-    ensures { result ≡ commits.raisedOf r place }
+    ensures { result ≡ commits.raised_of r place }
 {
     match place {
         // never reached: every call stands where the place is not good
@@ -55,7 +55,7 @@ pub fn raise(r: Registers, place: Checked) -> Step
 
 // How the machine is left by what follows.
 fn outcome_of(then: Then) -> Outcome
-    ensures { result ≡ commits.outcomeOf then }
+    ensures { result ≡ commits.outcome_of then }
 {
     match then {
         Then::GoOn => Outcome::Went,
@@ -68,7 +68,7 @@ fn outcome_of(then: Then) -> Outcome
 }
 
 fn ep_of(then: Then, ep: u32) -> u32
-    ensures { result ≡ commits.epOf then ep }
+    ensures { result ≡ commits.ep_of then ep }
 {
     match then {
         Then::GoOn => ep,
@@ -98,7 +98,7 @@ pub fn settle(ep: u32, a: u32, sp: u32, rp: u32, then: Then) -> Step
 // One cell written.
 pub fn put(machine: Machine, memory: &mut [u8], w: Write)
     requires { w.at.0 + 4 ≤ length memory.old }
-    ensures { memory.new ≡ mem.storeCell machine.order memory.old w.at.0 w.value }
+    ensures { memory.new ≡ mem.store_cell machine.order memory.old w.at.0 w.value }
 {
     let at = w.at;
     store(machine.order, memory, at, w.value)
@@ -107,7 +107,7 @@ pub fn put(machine: Machine, memory: &mut [u8], w: Write)
 // The place of a write on the data stack.
 pub fn check_item(machine: Machine, length: usize, w: Write) -> Checked
     requires { places.Fits machine length }
-    ensures { result ≡ places.place_of machine places.oneCell Access.DataWrite length w.at.0 }
+    ensures { result ≡ places.place_of machine places.one_cell Access.DataWrite length w.at.0 }
 {
     let at = w.at;
     check_data_write(machine, length, at)
@@ -116,7 +116,7 @@ pub fn check_item(machine: Machine, length: usize, w: Write) -> Checked
 // The place of a write on the return stack.
 pub fn check_back(machine: Machine, length: usize, w: Write) -> Checked
     requires { places.Fits machine length }
-    ensures { result ≡ places.place_of machine places.oneCell Access.ReturnWrite length w.at.0 }
+    ensures { result ≡ places.place_of machine places.one_cell Access.ReturnWrite length w.at.0 }
 {
     let at = w.at;
     check_return_write(machine, length, at)
@@ -124,14 +124,14 @@ pub fn check_back(machine: Machine, length: usize, w: Write) -> Checked
 
 fn check_store(machine: Machine, length: usize, target: Target, w: Write) -> Checked
     requires { places.Fits machine length }
-    ensures { result ≡ places.place_of machine places.oneCell (places.accessTo target) length w.at.0 }
+    ensures { result ≡ places.place_of machine places.one_cell (places.access_to target) length w.at.0 }
 {
     let at = w.at;
     check_target(machine, target, length, at)
 }
 
 pub fn commit_none(machine: Machine, memory: &[u8], r: Registers, e: NoStore) -> Step
-    ensures { commits.stepped memory.now result ≡ commits.commitOf machine memory.now r (effects.noStore e) }
+    ensures { commits.stepped memory.now result ≡ commits.commit_of machine memory.now r (effects.no_store e) }
 {
     let then = e.then;
     let reading = fault_of(then);
@@ -151,7 +151,7 @@ pub fn commit_none(machine: Machine, memory: &[u8], r: Registers, e: NoStore) ->
 
 pub fn commit_one(machine: Machine, memory: &mut [u8], r: Registers, e: OneStore) -> Step
     requires { places.Fits machine (length memory.old) }
-    ensures { commits.stepped memory.new result ≡ commits.commitOf machine memory.old r (effects.oneStore e) }
+    ensures { commits.stepped memory.new result ≡ commits.commit_of machine memory.old r (effects.one_store e) }
 {
     let then = e.then;
     let write = e.write;
@@ -186,7 +186,7 @@ pub fn commit_one(machine: Machine, memory: &mut [u8], r: Registers, e: OneStore
 
 pub fn commit_maybe(machine: Machine, memory: &mut [u8], r: Registers, e: MaybeStore) -> Step
     requires { places.Fits machine (length memory.old) }
-    ensures { commits.stepped memory.new result ≡ commits.commitOf machine memory.old r (effects.maybeStore e) }
+    ensures { commits.stepped memory.new result ≡ commits.commit_of machine memory.old r (effects.maybe_store e) }
 {
     let then = e.then;
     let write = e.write;
@@ -224,7 +224,7 @@ pub fn commit_maybe(machine: Machine, memory: &mut [u8], r: Registers, e: MaybeS
 
 pub fn commit_byte(machine: Machine, memory: &mut [u8], r: Registers, e: ByteStore) -> Step
     requires { places.Fits machine (length memory.old) }
-    ensures { commits.stepped memory.new result ≡ commits.commitOf machine memory.old r (effects.byteStore e) }
+    ensures { commits.stepped memory.new result ≡ commits.commit_of machine memory.old r (effects.byte_store e) }
 {
     let then = e.then;
     let reading = fault_of(then);

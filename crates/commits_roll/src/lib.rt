@@ -36,7 +36,7 @@ pub fn check_roll(machine: Machine, memory: &[u8], top: Address, depth: CellCoun
 fn roll_cells(machine: Machine, memory: &mut [u8], top: Address, depth: CellCount)
     requires depth_bound { top.0 + 4 * depth.0 < 2 ^ 32 }
     requires depth_in_bounds { 0 < depth.0 → top.0 + 4 * depth.0 + 4 ≤ length memory.old }
-    ensures { memory.new ≡ commits.storedOf machine memory.old (effects.rolled machine.order memory.old top.0 depth.0) }
+    ensures { memory.new ≡ commits.stored_of machine memory.old (effects.rolled machine.order memory.old top.0 depth.0) }
 {
     if depth.0 == 0 {
         return;
@@ -55,7 +55,7 @@ fn roll_cells(machine: Machine, memory: &mut [u8], top: Address, depth: CellCoun
 pub fn commit_roll(machine: Machine, memory: &mut [u8], r: Registers, e: RollStores) -> Step
     requires fits { places.Fits machine (length memory.old) }
     requires reached { effects.Reached e }
-    ensures { commits.stepped memory.new result ≡ commits.commitOf machine memory.old r (effects.rollEffect machine.order memory.old e) }
+    ensures { commits.stepped memory.new result ≡ commits.commit_of machine memory.old r (effects.roll_effect machine.order memory.old e) }
 {
     let then = e.then;
     let top = e.top;

@@ -10,7 +10,7 @@ use machine::{Machine, Registers, Step, ThreeStores, TwoReturns, TwoStores};
 
 pub fn commit_two(machine: Machine, memory: &mut [u8], r: Registers, e: TwoStores) -> Step
     requires { places.Fits machine (length memory.old) }
-    ensures { commits.stepped memory.new result ≡ commits.commitOf machine memory.old r (effects.twoStores e) }
+    ensures { commits.stepped memory.new result ≡ commits.commit_of machine memory.old r (effects.two_stores e) }
 {
     let then = e.then;
     let first = e.first;
@@ -58,7 +58,7 @@ pub fn commit_two(machine: Machine, memory: &mut [u8], r: Registers, e: TwoStore
 
 pub fn commit_two_returns(machine: Machine, memory: &mut [u8], r: Registers, e: TwoReturns) -> Step
     requires { places.Fits machine (length memory.old) }
-    ensures { commits.stepped memory.new result ≡ commits.commitOf machine memory.old r (effects.twoReturns e) }
+    ensures { commits.stepped memory.new result ≡ commits.commit_of machine memory.old r (effects.two_returns e) }
 {
     let then = e.then;
     let first = e.first;
@@ -106,7 +106,7 @@ pub fn commit_two_returns(machine: Machine, memory: &mut [u8], r: Registers, e: 
 
 pub fn commit_three(machine: Machine, memory: &mut [u8], r: Registers, e: ThreeStores) -> Step
     requires { places.Fits machine (length memory.old) }
-    ensures { commits.stepped memory.new result ≡ commits.commitOf machine memory.old r (effects.threeStores e) }
+    ensures { commits.stepped memory.new result ≡ commits.commit_of machine memory.old r (effects.three_stores e) }
 {
     let then = e.then;
     let first = e.first;

@@ -7,77 +7,77 @@ use native.Mathlib.Omega.{arith}
 use lib.ListN.{length}
 use borrow.Author.Tests.{eqb-true, eqb-false}
 use Rattle.machine.specs.Commits.{stepped}
-use Rattle.throws.specs.Throws.{CycleState, withResult, finishOf}
+use Rattle.throws.specs.Throws.{CycleState, with_result, finish_of}
 use Rattle.machine.specs.declared.Machine.{Machine}
 use Rattle.machine.specs.declared.CycleResult.{CycleResult}
 use Rattle.machine.specs.declared.Step.{Step}
 use Rattle.machine.specs.declared.Outcome.TheVariants as outcome
 use Rattle.machine.specs.declared.Ended.{Ended}
 use Rattle.machine.specs.declared.Ended.TheVariants.{Went, Threw, Stopped}
-use Rattle.cycles.specs.Cycles.{cycleOf, advance, cyclesOf}
-use Rattle.cycles.specs.Counts.{isStop, is_last, counted, done_of, begun}
+use Rattle.cycles.specs.Cycles.{cycle_of, advance, cycles_of}
+use Rattle.cycles.specs.Counts.{is_stop, is_last, counted, done_of, begun}
 use Rattle.machine.specs.declared.Registers.{Registers}
-use Rattle.cycles.proofs.CycleLaws.{cycles-suc, goes}
+use Rattle.cycles.proofs.CycleLaws.{cycles_suc, goes}
 
 pub record Running (machine : Machine) (m0 : List ℕ) (t0 : CycleResult) (budget : ℕ) (m : List ℕ) (t : CycleResult) (left : ℕ) : Type 0 where
   pub within : left ≤ budget
-  pub going : isStop t.ended ≡ false
+  pub going : is_stop t.ended ≡ false
   pub spent : left ≡ 0 → t.ended ≡ Went
   pub long : length m ≡ length m0
-  pub here : withResult m t ≡ cyclesOf machine (budget - left) (withResult m0 t0)
-  pub ahead : done_of machine budget (withResult m0 t0) ≡ (budget - left) + done_of machine left (withResult m t)
+  pub here : with_result m t ≡ cycles_of machine (budget - left) (with_result m0 t0)
+  pub ahead : done_of machine budget (with_result m0 t0) ≡ (budget - left) + done_of machine left (with_result m t)
 
 -- a run that has come to its end: what is left and what was done make the budget, and the state is that after what was done
 pub record Done (machine : Machine) (m0 : List ℕ) (t0 : CycleResult) (budget left : ℕ) (m : List ℕ) (t : CycleResult) : Type 0 where
-  pub count : left + done_of machine budget (withResult m0 t0) ≡ budget
-  pub state : withResult m t ≡ cyclesOf machine (done_of machine budget (withResult m0 t0)) (withResult m0 t0)
+  pub count : left + done_of machine budget (with_result m0 t0) ≡ budget
+  pub state : with_result m t ≡ cycles_of machine (done_of machine budget (with_result m0 t0)) (with_result m0 t0)
 
-counted-last : (e : Ended) (left : ℕ) (machine : Machine) (s : CycleState) → is_last e left ≡ true → counted e (done_of machine left s) ≡ 1
+counted_last : (e : Ended) (left : ℕ) (machine : Machine) (s : CycleState) → is_last e left ≡ true → counted e (done_of machine left s) ≡ 1
 unfolding done_of
-counted-last Went left machine s q = absurd (true≢false (sym q))
-counted-last (Threw f) left machine s q = rw (eqb-true left 0 q)
-counted-last (Stopped x) left machine s q = refl
+counted_last Went left machine s q = absurd (true≢false (sym q))
+counted_last (Threw f) left machine s q = rw (eqb-true left 0 q)
+counted_last (Stopped x) left machine s q = refl
 
 -- a cycle after which the run goes on
-not_last : (e : Ended) (left : ℕ) → is_last e left ≡ false → (isStop e ≡ false) × (left ≡ 0 → e ≡ Went)
+not_last : (e : Ended) (left : ℕ) → is_last e left ≡ false → (is_stop e ≡ false) × (left ≡ 0 → e ≡ Went)
 not_last Went left q = (refl, λ z. refl)
 not_last (Threw f) left q = (refl, λ z. absurd (eqb-false left 0 q z))
 not_last (Stopped x) left q = absurd (true≢false q)
 
-pub counted-goes : (e : Ended) (n : ℕ) → isStop e ≡ false → counted e n ≡ suc n
-counted-goes Went n q = refl
-counted-goes (Threw f) n q = refl
-counted-goes (Stopped x) n q = absurd (true≢false q)
+pub counted_goes : (e : Ended) (n : ℕ) → is_stop e ≡ false → counted e n ≡ suc n
+counted_goes Went n q = refl
+counted_goes (Threw f) n q = refl
+counted_goes (Stopped x) n q = absurd (true≢false q)
 
 module _ (machine : Machine) (m0 : List ℕ) (t0 : CycleResult) (budget : ℕ) where
-  pub run-begins : t0.ended ≡ Went → Running machine m0 t0 budget m0 t0 budget
-  unfolding cyclesOf
-  run-begins q =
+  pub run_begins : t0.ended ≡ Went → Running machine m0 t0 budget m0 t0 budget
+  unfolding cycles_of
+  run_begins q =
       let z : budget - budget ≡ 0 = omega arith in
-      record { within = omega arith; going = ap isStop q; spent = λ e. q; long = refl; here = rw z; ahead = rw z (omega arith) }
+      record { within = omega arith; going = ap is_stop q; spent = λ e. q; long = refl; here = rw z; ahead = rw z (omega arith) }
 
   module _ (m : List ℕ) (t : CycleResult) (left : ℕ) (s : Running machine m0 t0 budget m t (suc left)) (m2 : List ℕ) (t2 : CycleResult)
-      (e : withResult m2 t2 ≡ cycleOf machine m t.registers) where
-    next-is : advance machine (withResult m t) ≡ withResult m2 t2
-    next-is = goes machine (withResult m t) s.going ∙ sym e
+      (e : with_result m2 t2 ≡ cycle_of machine m t.registers) where
+    next_is : advance machine (with_result m t) ≡ with_result m2 t2
+    next_is = goes machine (with_result m t) s.going ∙ sym e
 
-    after : withResult m2 t2 ≡ cyclesOf machine (budget - left) (withResult m0 t0)
+    after : with_result m2 t2 ≡ cycles_of machine (budget - left) (with_result m0 t0)
     after =
         let z : budget - left ≡ suc (budget - suc left) = omega (arith, s.within) in
-        rw z (sym next-is ∙ ap (advance machine) s.here ∙ sym (cycles-suc machine (budget - suc left) (withResult m0 t0)))
+        rw z (sym next_is ∙ ap (advance machine) s.here ∙ sym (cycles_suc machine (budget - suc left) (with_result m0 t0)))
 
-    count-is : done_of machine (suc left) (withResult m t) ≡ counted t2.ended (done_of machine left (withResult m2 t2))
+    count_is : done_of machine (suc left) (with_result m t) ≡ counted t2.ended (done_of machine left (with_result m2 t2))
     unfolding done_of
-    count-is = rw next-is
+    count_is = rw next_is
 
-    pub run-stops : is_last t2.ended left ≡ true → Done machine m0 t0 budget left m2 t2
-    run-stops q =
-        let c : done_of machine (suc left) (withResult m t) ≡ 1 = count-is ∙ counted-last t2.ended left machine (withResult m2 t2) q in
-        let d : done_of machine budget (withResult m0 t0) ≡ budget - left = s.ahead ∙ rw c (let w = s.within in omega arith) in
+    pub run_stops : is_last t2.ended left ≡ true → Done machine m0 t0 budget left m2 t2
+    run_stops q =
+        let c : done_of machine (suc left) (with_result m t) ≡ 1 = count_is ∙ counted_last t2.ended left machine (with_result m2 t2) q in
+        let d : done_of machine budget (with_result m0 t0) ≡ budget - left = s.ahead ∙ rw c (let w = s.within in omega arith) in
         record { count = rw d (let w = s.within in omega arith); state = rw d after }
 
-    pub run-goes-on : length m2 ≡ length m → is_last t2.ended left ≡ false → Running machine m0 t0 budget m2 t2 left
-    run-goes-on l q =
+    pub run_goes_on : length m2 ≡ length m → is_last t2.ended left ≡ false → Running machine m0 t0 budget m2 t2 left
+    run_goes_on l q =
         record {
           within = omega (arith, s.within);
           going = (not_last t2.ended left q).0;
@@ -86,7 +86,7 @@ module _ (machine : Machine) (m0 : List ℕ) (t0 : CycleResult) (budget : ℕ) w
           here = after;
           ahead =
               s.ahead
-              ∙ rw (count-is ∙ counted-goes t2.ended _ (not_last t2.ended left q).0) (let w = s.within in omega arith);
+              ∙ rw (count_is ∙ counted_goes t2.ended _ (not_last t2.ended left q).0) (let w = s.within in omega arith);
         }
 
   pub run_ends : (m : List ℕ) (t : CycleResult) → Running machine m0 t0 budget m t 0
@@ -94,7 +94,7 @@ module _ (machine : Machine) (m0 : List ℕ) (t0 : CycleResult) (budget : ℕ) w
   unfolding done_of
   run_ends m t s =
       let z : budget - 0 ≡ budget = omega arith in
-      let d : done_of machine budget (withResult m0 t0) ≡ budget = s.ahead ∙ rw z (omega arith) in
+      let d : done_of machine budget (with_result m0 t0) ≡ budget = s.ahead ∙ rw z (omega arith) in
       record { count = rw d (omega arith); state = rw d (rw (← s.spent refl) (rw z at s.here)) }
 
 -- what the loop keeps: it carries the registers from cycle to cycle, and not how the last cycle ended
@@ -103,21 +103,21 @@ pub record Looping (machine : Machine) (m0 : List ℕ) (r0 : Registers) (budget 
   pub running : Running machine m0 (record { registers = r0; ended = Went }) budget m (record { registers = r; ended = last }) left
 
 module _ (machine : Machine) (m0 : List ℕ) (r0 : Registers) (budget : ℕ) where
-  pub loop-begins : Looping machine m0 r0 budget m0 r0 budget
-  loop-begins = record { last = Went; running = run-begins machine m0 _ budget refl }
+  pub loop_begins : Looping machine m0 r0 budget m0 r0 budget
+  loop_begins = record { last = Went; running = run_begins machine m0 _ budget refl }
 
   module _ (m : List ℕ) (r : Registers) (k : ℕ) (s : Looping machine m0 r0 budget m r k) where
-    module _ (h : 0 < k) (m2 : List ℕ) (t2 : CycleResult) (e : withResult m2 t2 ≡ cycleOf machine m r) where
+    module _ (h : 0 < k) (m2 : List ℕ) (t2 : CycleResult) (e : with_result m2 t2 ≡ cycle_of machine m r) where
       earlier : Running machine m0 (record { registers = r0; ended = Went }) budget m (record { registers = r; ended = s.last }) (suc (k - 1))
       earlier = let n : k ≡ suc (k - 1) = omega arith in rw n at s.running
 
       pub stops_at : is_last t2.ended (k - 1) ≡ true
           → Done machine m0 (record { registers = r0; ended = Went }) budget (k - 1) m2 t2
-      stops_at q = run-stops machine m0 _ budget m _ (k - 1) earlier m2 t2 e q
+      stops_at q = run_stops machine m0 _ budget m _ (k - 1) earlier m2 t2 e q
 
-      pub loops-at : length m2 ≡ length m → is_last t2.ended (k - 1) ≡ false → Looping machine m0 r0 budget m2 t2.registers (k - 1)
-      loops-at l q =
-          record { last = t2.ended; running = run-goes-on machine m0 _ budget m _ (k - 1) earlier m2 t2 e l q }
+      pub loops_at : length m2 ≡ length m → is_last t2.ended (k - 1) ≡ false → Looping machine m0 r0 budget m2 t2.registers (k - 1)
+      loops_at l q =
+          record { last = t2.ended; running = run_goes_on machine m0 _ budget m _ (k - 1) earlier m2 t2 e l q }
 
     pub ends_at : k ≤ 0
         → Done machine m0 (record { registers = r0; ended = Went }) budget 0 m (record { registers = r; ended = Went })
@@ -125,18 +125,18 @@ module _ (machine : Machine) (m0 : List ℕ) (r0 : Registers) (budget : ℕ) whe
 
 -- an instruction that asks for nothing more has ended its cycle
 pub went : (machine : Machine) (m : List ℕ) (s : Step) → s.outcome ≡ outcome.Went
-    → withResult m (record { registers = s.registers; ended = Went }) ≡ finishOf machine (stepped m s)
-unfolding finishOf
+    → with_result m (record { registers = s.registers; ended = Went }) ≡ finish_of machine (stepped m s)
+unfolding finish_of
 went machine m s q = rw q
 
-pub counted-first : (e : Ended) → counted e 0 ≡ 1
-counted-first Went = refl
-counted-first (Threw f) = refl
-counted-first (Stopped x) = refl
+pub counted_first : (e : Ended) → counted e 0 ≡ 1
+counted_first Went = refl
+counted_first (Threw f) = refl
+counted_first (Stopped x) = refl
 
 -- a run with a budget of one is a cycle
-pub one-cycle : (machine : Machine) (m : List ℕ) (r : Registers) (s : CycleState)
-    → s ≡ cyclesOf machine (done_of machine 1 (begun m r)) (begun m r) → s ≡ cycleOf machine m r
-unfolding done_of cyclesOf
-one-cycle machine m r s q =
-    (rw (counted-first (advance machine (begun m r)).result.ended) at q) ∙ goes machine (begun m r) refl
+pub one_cycle : (machine : Machine) (m : List ℕ) (r : Registers) (s : CycleState)
+    → s ≡ cycles_of machine (done_of machine 1 (begun m r)) (begun m r) → s ≡ cycle_of machine m r
+unfolding done_of cycles_of
+one_cycle machine m r s q =
+    (rw (counted_first (advance machine (begun m r)).result.ended) at q) ∙ goes machine (begun m r) refl

@@ -1,6 +1,6 @@
 -- The cycles that a run does within a budget.
 use Rattle.std.specs.Prelude.{Bool, true, false, List, ℕ, zero, suc, eqb}
-use Rattle.throws.specs.Throws.{CycleState, cycleState}
+use Rattle.throws.specs.Throws.{CycleState, cycle_state}
 use Rattle.machine.specs.declared.Machine.{Machine}
 use Rattle.machine.specs.declared.Registers.{Registers}
 use Rattle.machine.specs.declared.Ended.{Ended}
@@ -9,12 +9,12 @@ use Rattle.cycles.specs.Cycles.{advance}
 
 -- before any cycle
 abbrev pub begun : List ℕ → Registers → CycleState
-begun m r = cycleState m r Went
+begun m r = cycle_state m r Went
 
-abbrev pub isStop : Ended → Bool
-isStop Went = false
-isStop (Threw f) = false
-isStop (Stopped x) = true
+abbrev pub is_stop : Ended → Bool
+is_stop Went = false
+is_stop (Threw f) = false
+is_stop (Stopped x) = true
 
 -- a cycle that ends a run with so much of its budget left: a stop, or a throw in the last one
 abbrev pub is_last : Ended → ℕ → Bool

@@ -24,7 +24,7 @@ pub struct Progress {
 // NEXT's fetch, where the instruction asks for it. What is still to be done of the cycle is then nothing, a throw or a stop.
 fn fetch_next(machine: Machine, memory: &[u8], s: Step) -> Step
     requires { places.Fits machine (length memory.now) }
-    ensures { throws.finishOf machine (commits.stepped memory.now result) ≡ throws.finishOf machine (commits.stepped memory.now s) }
+    ensures { throws.finish_of machine (commits.stepped memory.now result) ≡ throws.finish_of machine (commits.stepped memory.now s) }
 {
     let outcome = s.outcome;
     let Outcome::Next = outcome else {
@@ -53,7 +53,7 @@ fn fetch_next(machine: Machine, memory: &[u8], s: Step) -> Step
 fn execute(machine: Machine, memory: &mut [u8], r: Registers) -> Step
     requires fits { places.Fits machine (length memory.old) }
     requires in_bounds { 16 ≤ length memory.old }
-    ensures { throws.finishOf machine (commits.stepped memory.new result) ≡ cycles.cycleOf machine memory.old r }
+    ensures { throws.finish_of machine (commits.stepped memory.new result) ≡ cycles.cycle_of machine memory.old r }
 {
     let opcode = r.a % 256;
     let s = execute_from_00(
@@ -87,7 +87,7 @@ pub fn run_cycles(machine: Machine, memory: &mut [u8], r: Registers, budget: u32
     requires fits { places.Fits machine (length memory.old) }
     requires in_bounds { 16 ≤ length memory.old }
     ensures r_value { result.left + counts.done_of machine budget (counts.begun memory.old r) ≡ budget }
-    ensures result_after { throws.withResult memory.new result.result ≡ cycles.cyclesOf machine (counts.done_of machine budget (counts.begun memory.old r)) (counts.begun memory.old r) }
+    ensures result_after { throws.with_result memory.new result.result ≡ cycles.cycles_of machine (counts.done_of machine budget (counts.begun memory.old r)) (counts.begun memory.old r) }
 {
     let mut registers = r;
     let mut left = budget;

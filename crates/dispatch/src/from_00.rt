@@ -17,7 +17,7 @@ use storage::stack::{drop, dup, nip, over, pick, question_dup, r_fetch, r_from, 
 // One instruction by its opcode, up to its NEXT, throw or stop: its effect, then the commit of the effect's shape.
 pub fn execute_from_00(machine: Machine, memory: &mut [u8], r: Registers, opcode: u32) -> Step
     requires { places.Fits machine (length memory.old) }
-    ensures { commits.stepped memory.new result ≡ dispatch.executeOf machine memory.old r (dispatch.decodeOf opcode) }
+    ensures { commits.stepped memory.new result ≡ dispatch.execute_of machine memory.old r (dispatch.decode_of opcode) }
 {
     match opcode {
         // NEXT

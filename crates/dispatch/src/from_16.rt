@@ -18,7 +18,7 @@ use operators::comparison::{u_greater, u_less, zero_not_equal};
 pub fn execute_from_16(machine: Machine, memory: &mut [u8], r: Registers, opcode: u32) -> Step
     requires fits { places.Fits machine (length memory.old) }
     requires le_opcode { 22 ≤ opcode }
-    ensures { commits.stepped memory.new result ≡ dispatch.executeOf machine memory.old r (dispatch.decodeOf opcode) }
+    ensures { commits.stepped memory.new result ≡ dispatch.execute_of machine memory.old r (dispatch.decode_of opcode) }
 {
     match opcode {
         // 0<>

@@ -16,7 +16,7 @@ use storage::registers::{rp_store, sp_store};
 pub fn execute_from_2c(machine: Machine, memory: &mut [u8], r: Registers, opcode: u32) -> Step
     requires fits { places.Fits machine (length memory.old) }
     requires le_opcode { 44 ≤ opcode }
-    ensures { commits.stepped memory.new result ≡ dispatch.executeOf machine memory.old r (dispatch.decodeOf opcode) }
+    ensures { commits.stepped memory.new result ≡ dispatch.execute_of machine memory.old r (dispatch.decode_of opcode) }
 {
     match opcode {
         // CELLS

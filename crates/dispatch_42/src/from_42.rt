@@ -19,7 +19,7 @@ use machine::{Machine, NoStore, Outcome, Registers, Step, Then};
 pub fn execute_from_42(machine: Machine, memory: &mut [u8], r: Registers, opcode: u32) -> Step
     requires fits { places.Fits machine (length memory.old) }
     requires le_opcode { 66 ≤ opcode }
-    ensures { commits.stepped memory.new result ≡ dispatch.executeOf machine memory.old r (dispatch.decodeOf opcode) }
+    ensures { commits.stepped memory.new result ≡ dispatch.execute_of machine memory.old r (dispatch.decode_of opcode) }
 {
     match opcode {
         // BRANCH

@@ -14,7 +14,7 @@ use machine::{Machine, MaybeStore, Registers, Step};
 
 // The immediate opcode is the odd one.
 fn form_of(opcode: u32) -> OperandForm
-    ensures { result ≡ dispatch.formOf opcode }
+    ensures { result ≡ dispatch.form_of opcode }
 {
     if opcode % 2 == 0 {
         return OperandForm::InCell;
@@ -31,7 +31,7 @@ fn loop_effect(
     opcode: u32,
 ) -> MaybeStore
     requires { places.Fits machine (length memory.now) }
-    ensures { effects.maybeStore result ≡ taking.takingAt machine form (dispatch.loop_of opcode) memory.now r }
+    ensures { effects.maybe_store result ≡ taking.taking_at machine form (dispatch.loop_of opcode) memory.now r }
 {
     if opcode < 0x4E {
         return step_loop(machine, memory, r, form);
@@ -42,7 +42,7 @@ fn loop_effect(
 pub fn execute_loop(machine: Machine, memory: &mut [u8], r: Registers, opcode: u32) -> Step
     requires fits { places.Fits machine (length memory.old) }
     requires opcode_value { opcode / 4 ≡ 0x13 }
-    ensures { commits.stepped memory.new result ≡ dispatch.executeOf machine memory.old r (dispatch.decodeOf opcode) }
+    ensures { commits.stepped memory.new result ≡ dispatch.execute_of machine memory.old r (dispatch.decode_of opcode) }
 {
     let form = form_of(opcode);
     let e = loop_effect(

@@ -16,25 +16,25 @@ use Rattle.machine.specs.declared.Exception.TheVariants.{Range, Alignment, DataO
 abbrev pub end_of : Span → ℕ → Exception → Exception → Exception
 end_of span a below above = if (eqb (a % 4) 0) (if (ltb a (end_in span)) below above) (Alignment (address a))
 
-unfoldable pub exceptionOf : Machine → Fault → Exception
-exceptionOf machine (fault.Range a) = Range a
-exceptionOf machine (fault.Alignment a) = Alignment a
-exceptionOf machine (fault.Data a) = end_of machine.stack a.0 DataOverflow DataUnderflow
-exceptionOf machine (fault.Return a) = end_of machine.returns a.0 ReturnOverflow ReturnUnderflow
-exceptionOf machine fault.Table = ReadOnly
-exceptionOf machine fault.Divisor = Divisor
-exceptionOf machine fault.Illegal = Illegal
-exceptionOf machine fault.Library = Library
+unfoldable pub exception_of : Machine → Fault → Exception
+exception_of machine (fault.Range a) = Range a
+exception_of machine (fault.Alignment a) = Alignment a
+exception_of machine (fault.Data a) = end_of machine.stack a.0 DataOverflow DataUnderflow
+exception_of machine (fault.Return a) = end_of machine.returns a.0 ReturnOverflow ReturnUnderflow
+exception_of machine fault.Table = ReadOnly
+exception_of machine fault.Divisor = Divisor
+exception_of machine fault.Illegal = Illegal
+exception_of machine fault.Library = Library
 
 -- the code of each, as the cell that a throw pushes
-abbrev pub exceptionCode : Exception → ℕ
-exceptionCode (Range a) = 2 ^ 32 - 9
-exceptionCode (Alignment a) = 2 ^ 32 - 23
-exceptionCode DataOverflow = 2 ^ 32 - 3
-exceptionCode DataUnderflow = 2 ^ 32 - 4
-exceptionCode ReturnOverflow = 2 ^ 32 - 5
-exceptionCode ReturnUnderflow = 2 ^ 32 - 6
-exceptionCode ReadOnly = 2 ^ 32 - 20
-exceptionCode Divisor = 2 ^ 32 - 10
-exceptionCode Illegal = 2 ^ 32 - 256
-exceptionCode Library = 2 ^ 32 - 257
+abbrev pub exception_code : Exception → ℕ
+exception_code (Range a) = 2 ^ 32 - 9
+exception_code (Alignment a) = 2 ^ 32 - 23
+exception_code DataOverflow = 2 ^ 32 - 3
+exception_code DataUnderflow = 2 ^ 32 - 4
+exception_code ReturnOverflow = 2 ^ 32 - 5
+exception_code ReturnUnderflow = 2 ^ 32 - 6
+exception_code ReadOnly = 2 ^ 32 - 20
+exception_code Divisor = 2 ^ 32 - 10
+exception_code Illegal = 2 ^ 32 - 256
+exception_code Library = 2 ^ 32 - 257

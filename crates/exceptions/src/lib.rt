@@ -24,7 +24,7 @@ fn tell_end(span: Span, a: Address, below: Exception, above: Exception) -> Excep
 
 // What is thrown for a fault.
 pub fn tell(machine: Machine, f: Fault) -> Exception
-    ensures { result ≡ exceptions.exceptionOf machine f }
+    ensures { result ≡ exceptions.exception_of machine f }
 {
     match f {
         Fault::Range(a) => Exception::Range(a),
@@ -49,7 +49,7 @@ pub fn tell(machine: Machine, f: Fault) -> Exception
 }
 
 pub fn code_of(e: Exception) -> u32
-    ensures { result ≡ exceptions.exceptionCode e }
+    ensures { result ≡ exceptions.exception_code e }
 {
     match e {
         Exception::Range(_) => 0xFFFFFFF7,

@@ -1,9 +1,9 @@
 // Batches of forms.
 ghost use Rattle.std.specs.Prelude.{◌≡◌};
 ghost use Rattle.machine.specs.Places.{table_of};
-ghost use Rattle.areas.specs.Areas.{areasOf, filed};
+ghost use Rattle.areas.specs.Areas.{areas_of, filed};
 ghost use Rattle.calls.specs.Modules.{moved};
-ghost use Rattle.batches.specs.Batches.{commonOf, formsGiven};
+ghost use Rattle.batches.specs.Batches.{common_of, forms_given};
 ghost use Rattle.batch_calls.specs.Batches as batches;
 
 use areas::RegisterFile;
@@ -34,7 +34,7 @@ pub extern "C" fn beetle_batch(
     budget: u32,
     out: &mut [u32],
 ) -> u32
-    ensures { moved memory.new out.new result ≡ batches.batchCall (commonOf order start.now address (filed (areasOf data_top data_cells return_top return_cells) (record { ep = ep; a = a; sp = sp; rp = rp })) (table_of table table_end) budget) memory.old (formsGiven forms.now count form_length) out.old }
+    ensures { moved memory.new out.new result ≡ batches.batch_call (common_of order start.now address (filed (areas_of data_top data_cells return_top return_cells) (record { ep = ep; a = a; sp = sp; rp = rp })) (table_of table table_end) budget) memory.old (forms_given forms.now count form_length) out.old }
 {
     let r = RegisterFile {
         registers: Registers {

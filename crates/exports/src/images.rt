@@ -16,7 +16,7 @@ pub extern "C" fn beetle_unpack(
     operands: &mut [u32],
     out: &mut [u32],
 ) -> u32
-    ensures { images.listed kinds.new operands.new out.new result ≡ images.unpackCall order image.now base kinds.old operands.old out.old }
+    ensures { images.listed kinds.new operands.new out.new result ≡ images.unpack_call order image.now base kinds.old operands.old out.old }
 {
     if out.len() < 1 {
         return no_place(judge_unpack(order, image, Address(base), kinds.len(), operands.len()));

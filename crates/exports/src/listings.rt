@@ -14,7 +14,7 @@ pub extern "C" fn beetle_pack(
     output: &mut [u8],
     out: &mut [u32],
 ) -> u32
-    ensures { modules.moved output.new out.new result ≡ listings.packCall order kinds.now operands.now base output.old out.old }
+    ensures { modules.moved output.new out.new result ≡ listings.pack_call order kinds.now operands.now base output.old out.old }
 {
     call_pack(order, kinds, operands, base, output, out)
 }
@@ -26,7 +26,7 @@ pub extern "C" fn beetle_pack_file(
     output: &mut [u8],
     out: &mut [u32],
 ) -> u32
-    ensures { modules.moved output.new out.new result ≡ listings.packFileCall order file.now output.old out.old }
+    ensures { modules.moved output.new out.new result ≡ listings.pack_file_call order file.now output.old out.old }
 {
     call_pack_file(order, file, output, out)
 }

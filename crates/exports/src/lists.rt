@@ -22,7 +22,7 @@ pub extern "C" fn beetle_list_run(
     items: u32,
     out: &mut [u32],
 ) -> u32
-    ensures { machines.called memory.new pointers.new out.new result ≡ lists.listCall order kinds.now operands.now base memory.old (table_of table table_end) pointers.old items out.old }
+    ensures { machines.called memory.new pointers.new out.new result ≡ lists.list_call order kinds.now operands.now base memory.old (table_of table table_end) pointers.old items out.old }
 {
     resume_list(
         order,
@@ -55,7 +55,7 @@ pub extern "C" fn beetle_list_resume(
     items: u32,
     out: &mut [u32],
 ) -> u32
-    ensures { machines.called memory.new pointers.new out.new result ≡ lists.resumeCall order kinds.now operands.now base memory.old (table_of table table_end) item (not (eqb ran 0)) pointers.old items out.old }
+    ensures { machines.called memory.new pointers.new out.new result ≡ lists.resume_call order kinds.now operands.now base memory.old (table_of table table_end) item (not (eqb ran 0)) pointers.old items out.old }
 {
     resume_list(
         order,

@@ -3,7 +3,7 @@ ghost use Rattle.std.specs.Prelude.{◌≡◌};
 ghost use Rattle.processor_calls.specs.Machines as machines;
 ghost use Rattle.processor.specs.Answers as answers;
 ghost use Rattle.machine.specs.Places.{table_of};
-ghost use Rattle.areas.specs.Areas.{areasOf};
+ghost use Rattle.areas.specs.Areas.{areas_of};
 
 use cell::Judged;
 use cell::judgement::refusal_number;
@@ -27,7 +27,7 @@ pub extern "C" fn beetle_start(
     registers: &mut [u32],
     out: &mut [u32],
 ) -> u32
-    ensures { machines.called memory.new registers.new out.new result ≡ machines.startCall order (areasOf data_top data_cells return_top return_cells) (table_of table table_end) memory.old ep handler registers.old out.old }
+    ensures { machines.called memory.new registers.new out.new result ≡ machines.start_call order (areas_of data_top data_cells return_top return_cells) (table_of table table_end) memory.old ep handler registers.old out.old }
 {
     let areas = make_areas(data_top, data_cells, return_top, return_cells);
     let given = make_table(table, table_end);
@@ -43,7 +43,7 @@ pub extern "C" fn beetle_cycle(
     registers: &mut [u32],
     out: &mut [u32],
 ) -> u32
-    ensures { machines.called memory.new registers.new out.new result ≡ machines.cycleCall order (table_of table table_end) memory.old registers.old out.old }
+    ensures { machines.called memory.new registers.new out.new result ≡ machines.cycle_call order (table_of table table_end) memory.old registers.old out.old }
 {
     let given = make_table(table, table_end);
     match judge_with(memory.len(), order, given, registers, out.len(), 1) {
@@ -65,7 +65,7 @@ pub extern "C" fn beetle_run(
     budget: u32,
     out: &mut [u32],
 ) -> u32
-    ensures { machines.called memory.new registers.new out.new result ≡ machines.runCall (answers.given_of order (table_of table table_end) memory.old registers.old budget) out.old }
+    ensures { machines.called memory.new registers.new out.new result ≡ machines.run_call (answers.given_of order (table_of table table_end) memory.old registers.old budget) out.old }
 {
     let given = make_table(table, table_end);
     match judge_with(memory.len(), order, given, registers, out.len(), 2) {

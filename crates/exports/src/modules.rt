@@ -13,7 +13,7 @@ pub extern "C" fn beetle_load_first(
     cells: u32,
     out: &mut [u32],
 ) -> u32
-    ensures { modules.moved memory.new out.new result ≡ modules.loadFirstCall order memory.old file.now address cells out.old }
+    ensures { modules.moved memory.new out.new result ≡ modules.load_first_call order memory.old file.now address cells out.old }
 {
     call_load_first(order, memory, file, address, cells, out)
 }
@@ -27,7 +27,7 @@ pub extern "C" fn beetle_load(
     address: u32,
     out: &mut [u32],
 ) -> u32
-    ensures { modules.moved memory.new out.new result ≡ modules.loadCall order memory.old file.now address out.old }
+    ensures { modules.moved memory.new out.new result ≡ modules.load_call order memory.old file.now address out.old }
 {
     call_load_first(order, memory, file, address, 0xFFFFFFFF, out)
 }
@@ -41,7 +41,7 @@ pub extern "C" fn beetle_save(
     output: &mut [u8],
     out: &mut [u32],
 ) -> u32
-    ensures { modules.moved output.new out.new result ≡ modules.saveCall order memory.now address cells output.old out.old }
+    ensures { modules.moved output.new out.new result ≡ modules.save_call order memory.now address cells output.old out.old }
 {
     call_save(order, memory, address, cells, output, out)
 }

@@ -13,7 +13,7 @@ pub extern "C" fn beetle_load_set(
     modules: &[u32],
     out: &mut [u32],
 ) -> u32
-    ensures { moved memory.new out.new result ≡ sets.loadSetCall order memory.old buffer.now modules.now out.old }
+    ensures { moved memory.new out.new result ≡ sets.load_set_call order memory.old buffer.now modules.now out.old }
 {
     call_load_set(order, memory, buffer, modules, out)
 }

@@ -12,7 +12,7 @@ use shortening::{judge_shorten, shorten};
 
 #[unsafe(no_mangle)]
 pub extern "C" fn beetle_shorten(file: &[u8], output: &mut [u8], out: &mut [u32]) -> u32
-    ensures { modules.moved output.new out.new result ≡ shorts.shortenCall file.now output.old out.old }
+    ensures { modules.moved output.new out.new result ≡ shorts.shorten_call file.now output.old out.old }
 {
     if out.len() < 1 {
         return no_place(judge_shorten(file, output.len()));
@@ -22,7 +22,7 @@ pub extern "C" fn beetle_shorten(file: &[u8], output: &mut [u8], out: &mut [u32]
 
 #[unsafe(no_mangle)]
 pub extern "C" fn beetle_lengthen(file: &[u8], output: &mut [u8], out: &mut [u32]) -> u32
-    ensures { modules.moved output.new out.new result ≡ shorts.lengthenCall file.now output.old out.old }
+    ensures { modules.moved output.new out.new result ≡ shorts.lengthen_call file.now output.old out.old }
 {
     if out.len() < 1 {
         return no_place(judge_lengthen(file, output.len()));
@@ -37,7 +37,7 @@ pub extern "C" fn beetle_pack_short(
     output: &mut [u8],
     out: &mut [u32],
 ) -> u32
-    ensures { modules.moved output.new out.new result ≡ shorts.packShortCall order file.now output.old out.old }
+    ensures { modules.moved output.new out.new result ≡ shorts.pack_short_call order file.now output.old out.old }
 {
     if out.len() < 1 {
         return no_place(judge_pack_short(order, file, output.len()));

@@ -15,7 +15,7 @@ use machine::{Machine, NoStore, OneStore, Registers, Target, Then, Write};
 // 42h BRANCH, 43h BRANCHI ( -- )
 pub fn branch(machine: Machine, memory: &[u8], r: Registers, form: OperandForm) -> NoStore
     requires { places.Fits machine (length memory.now) }
-    ensures { effects.noStore result ≡ taking.takingAt machine form taking.branch memory.now r }
+    ensures { effects.no_store result ≡ taking.taking_at machine form taking.branch memory.now r }
 {
     let got = branch_operand(machine, memory, r, form);
     let Fetched::Cell(to) = got else {
@@ -31,7 +31,7 @@ pub fn branch(machine: Machine, memory: &[u8], r: Registers, form: OperandForm) 
 // 44h ?BRANCH, 45h ?BRANCHI ( flag -- )
 pub fn question_branch(machine: Machine, memory: &[u8], r: Registers, form: OperandForm) -> NoStore
     requires { places.Fits machine (length memory.now) }
-    ensures { effects.noStore result ≡ taking.takingAt machine form taking.questionBranch memory.now r }
+    ensures { effects.no_store result ≡ taking.taking_at machine form taking.question_branch memory.now r }
 {
     let got = fetch_data(machine, memory, Address(r.sp));
     let Fetched::Cell(x) = got else {
@@ -58,7 +58,7 @@ pub fn question_branch(machine: Machine, memory: &[u8], r: Registers, form: Oper
 // 46h EXECUTE ( xt -- ) R: ( -- a-addr )
 pub fn execute(machine: Machine, memory: &[u8], r: Registers) -> OneStore
     requires { places.Fits machine (length memory.now) }
-    ensures { effects.oneStore result ≡ plain.plainAt machine Instruction.Execute memory.now r }
+    ensures { effects.one_store result ≡ plain.plain_at machine Instruction.Execute memory.now r }
 {
     let got = fetch_data(machine, memory, Address(r.sp));
     let Fetched::Cell(to) = got else {
@@ -79,7 +79,7 @@ pub fn execute(machine: Machine, memory: &[u8], r: Registers) -> OneStore
 // 47h @EXECUTE ( a-addr1 -- ) R: ( -- a-addr2 )
 pub fn fetch_execute(machine: Machine, memory: &[u8], r: Registers) -> OneStore
     requires { places.Fits machine (length memory.now) }
-    ensures { effects.oneStore result ≡ plain.plainAt machine Instruction.FetchExecute memory.now r }
+    ensures { effects.one_store result ≡ plain.plain_at machine Instruction.FetchExecute memory.now r }
 {
     let got = fetch_data(machine, memory, Address(r.sp));
     let Fetched::Cell(a) = got else {
@@ -104,7 +104,7 @@ pub fn fetch_execute(machine: Machine, memory: &[u8], r: Registers) -> OneStore
 // 48h CALL, 49h CALLI ( -- ) R: ( -- a-addr )
 pub fn call(machine: Machine, memory: &[u8], r: Registers, form: OperandForm) -> OneStore
     requires { places.Fits machine (length memory.now) }
-    ensures { effects.oneStore result ≡ taking.takingAt machine form taking.call memory.now r }
+    ensures { effects.one_store result ≡ taking.taking_at machine form taking.call memory.now r }
 {
     let got = branch_operand(machine, memory, r, form);
     let Fetched::Cell(to) = got else {
@@ -126,7 +126,7 @@ pub fn call(machine: Machine, memory: &[u8], r: Registers, form: OperandForm) ->
 // 4Ah EXIT ( -- ) R: ( a-addr -- )
 pub fn exit(machine: Machine, memory: &[u8], r: Registers) -> NoStore
     requires { places.Fits machine (length memory.now) }
-    ensures { effects.noStore result ≡ plain.plainAt machine Instruction.Exit memory.now r }
+    ensures { effects.no_store result ≡ plain.plain_at machine Instruction.Exit memory.now r }
 {
     let got = fetch_return(machine, memory, Address(r.rp));
     let Fetched::Cell(to) = got else {

@@ -15,7 +15,7 @@ use machine::{Machine, NoStore, Registers, Then};
 // 55h HALT ( x -- ): an SP that is no valid cell stops the machine with -258.
 pub fn halt(machine: Machine, memory: &[u8], r: Registers) -> NoStore
     requires { places.Fits machine (length memory.now) }
-    ensures { effects.noStore result ≡ plain.plainAt machine Instruction.Halt memory.now r }
+    ensures { effects.no_store result ≡ plain.plain_at machine Instruction.Halt memory.now r }
 {
     let got = fetch_data(machine, memory, Address(r.sp));
     let Fetched::Cell(x) = got else {
@@ -35,7 +35,7 @@ pub fn halt(machine: Machine, memory: &[u8], r: Registers) -> NoStore
 // 57h LIB ( n -- )
 pub fn lib(machine: Machine, memory: &[u8], r: Registers) -> NoStore
     requires { places.Fits machine (length memory.now) }
-    ensures { effects.noStore result ≡ plain.plainAt machine Instruction.Lib memory.now r }
+    ensures { effects.no_store result ≡ plain.plain_at machine Instruction.Lib memory.now r }
 {
     let got = fetch_data(machine, memory, Address(r.sp));
     let Fetched::Cell(_) = got else {

@@ -12,7 +12,7 @@ use machine::{Machine, OneStore, Registers};
 // 52h (LITERAL), 53h (LITERAL)I ( -- x )
 pub fn literal(machine: Machine, memory: &[u8], r: Registers, form: OperandForm) -> OneStore
     requires { places.Fits machine (length memory.now) }
-    ensures { effects.oneStore result ≡ taking.takingAt machine form taking.literal memory.now r }
+    ensures { effects.one_store result ≡ taking.taking_at machine form taking.literal memory.now r }
 {
     let got = literal_operand(machine, memory, r, form);
     let Fetched::Cell(x) = got else {

@@ -15,6 +15,6 @@ fails sp rp ss (Cell x) = refl
 fails sp rp ss (Failed f) = refl
 
 -- EP + 4 A, with A cut to 30 bits before it is multiplied
-pub branch-target : (ep a : ℕ) → sum ep (a % 0x40000000 * 4) ≡ (ep + 4 * a) % 2 ^ 32
+pub branch_target : (ep a : ℕ) → sum ep (a % 0x40000000 * 4) ≡ (ep + 4 * a) % 2 ^ 32
 unfolding sum
-branch-target ep a = omega arith
+branch_target ep a = omega arith

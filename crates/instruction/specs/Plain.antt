@@ -5,8 +5,8 @@
 use Rattle.std.specs.Prelude.{not, List, [], ◌∷◌, ℕ, ◌+◌, ◌*◌, ◌%◌, ◌^◌, ltb, eqb}
 use Rattle.std.specs.Int.Bits.{bit_and, bit_or, bit_xor}
 use Rattle.cell.specs.Choice.{if}
-use Rattle.cell.specs.Number.{sum, difference, product, negated, less, magnitude, greater, lesser, flag, inverted, shifted_left, shifted_right, halved, byteAddress}
-use Rattle.cell.specs.Division.{unsignedOf, symmetricOf, flooredOf}
+use Rattle.cell.specs.Number.{sum, difference, product, negated, less, magnitude, greater, lesser, flag, inverted, shifted_left, shifted_right, halved, byte_address}
+use Rattle.cell.specs.Division.{unsigned_of, symmetric_of, floored_of}
 use Rattle.cell.specs.Memory.{byte0}
 use Rattle.cell.specs.Place.{address}
 use Rattle.cell.specs.declared.Quotient.{Quotient}
@@ -14,9 +14,9 @@ use Rattle.cell.specs.declared.Fault.TheVariants.{Range, Alignment, Divisor, Lib
 use Rattle.cell.specs.declared.Fault.TheVariants as fault
 use Rattle.cell.specs.declared.Fetched.{Fetched}
 use Rattle.cell.specs.declared.Fetched.TheVariants as fetch
-use Rattle.machine.specs.Places.{oneByte, fetchOf, fetchByteOf}
-use Rattle.machine.specs.Effects.{Store, cellStore, Control, goOn, jump, halt, throwing, Effect, act, raise, fetched, rolled}
-use Rattle.exceptions.specs.Fixed.{badStack}
+use Rattle.machine.specs.Places.{one_byte, fetch_of, fetch_byte_of}
+use Rattle.machine.specs.Effects.{Store, cell_store, Control, go_on, jump, halt, throwing, Effect, act, raise, fetched, rolled}
+use Rattle.exceptions.specs.Fixed.{bad_stack}
 use Rattle.machine.specs.declared.Machine.{Machine}
 use Rattle.machine.specs.declared.Registers.{Registers}
 use Rattle.machine.specs.declared.Then.{Then}
@@ -31,46 +31,46 @@ action sp rp stores control = act (record { sp = sp; rp = rp; stores = stores; c
 
 -- the data stack's top item replaced; the top two replaced by one; one more item
 abbrev pub replaces : ℕ → ℕ → ℕ → Effect
-replaces sp rp x = action sp rp (cellStore DataWrite sp x ∷ []) goOn
+replaces sp rp x = action sp rp (cell_store DataWrite sp x ∷ []) go_on
 
 abbrev pub reduces : ℕ → ℕ → ℕ → Effect
-reduces sp rp x = action (sum sp 4) rp (cellStore DataWrite (sum sp 4) x ∷ []) goOn
+reduces sp rp x = action (sum sp 4) rp (cell_store DataWrite (sum sp 4) x ∷ []) go_on
 
 abbrev pub pushes : ℕ → ℕ → ℕ → Effect
-pushes sp rp x = action (difference sp 4) rp (cellStore DataWrite (difference sp 4) x ∷ []) goOn
+pushes sp rp x = action (difference sp 4) rp (cell_store DataWrite (difference sp 4) x ∷ []) go_on
 
 -- the items of the stacks, the top one first
 module _ (machine : Machine) (m : List ℕ) where
   abbrev pub data1 : ℕ → (ℕ → Effect) → Effect
-  data1 sp k = fetched (fetchOf machine DataRead m sp) k
+  data1 sp k = fetched (fetch_of machine DataRead m sp) k
 
   abbrev pub data2 : ℕ → (ℕ → ℕ → Effect) → Effect
-  data2 sp k = data1 sp (λ x2. fetched (fetchOf machine DataRead m (sum sp 4)) (λ x1. k x1 x2))
+  data2 sp k = data1 sp (λ x2. fetched (fetch_of machine DataRead m (sum sp 4)) (λ x1. k x1 x2))
 
   abbrev pub data3 : ℕ → (ℕ → ℕ → ℕ → Effect) → Effect
-  data3 sp k = data2 sp (λ x2 x3. fetched (fetchOf machine DataRead m (sum sp 8)) (λ x1. k x1 x2 x3))
+  data3 sp k = data2 sp (λ x2 x3. fetched (fetch_of machine DataRead m (sum sp 8)) (λ x1. k x1 x2 x3))
 
   abbrev pub return1 : ℕ → (ℕ → Effect) → Effect
-  return1 rp k = fetched (fetchOf machine ReturnRead m rp) k
+  return1 rp k = fetched (fetch_of machine ReturnRead m rp) k
 
   abbrev pub return2 : ℕ → (ℕ → ℕ → Effect) → Effect
-  return2 rp k = return1 rp (λ x2. fetched (fetchOf machine ReturnRead m (sum rp 4)) (λ x1. k x1 x2))
+  return2 rp k = return1 rp (λ x2. fetched (fetch_of machine ReturnRead m (sum rp 4)) (λ x1. k x1 x2))
 
   abbrev pub return3 : ℕ → (ℕ → ℕ → ℕ → Effect) → Effect
-  return3 rp k = return2 rp (λ x2 x3. fetched (fetchOf machine ReturnRead m (sum rp 8)) (λ x1. k x1 x2 x3))
+  return3 rp k = return2 rp (λ x2 x3. fetched (fetch_of machine ReturnRead m (sum rp 8)) (λ x1. k x1 x2 x3))
 
   -- two items and the divisor, which is the top one
   abbrev pub divided : ℕ → (ℕ → ℕ → Effect) → Effect
   divided sp k = data2 sp (λ n1 n2. if (eqb n2 0) (raise Divisor) (k n1 n2))
 
   -- PICK and ROLL reach down by an exact sum, which may pass 2^32: the fault is then -9 and names the sum modulo 2^32
-  abbrev pub fetchDeep : ℕ → Fetched
-  fetchDeep a = if (ltb a (2 ^ 32)) (fetchOf machine DataRead m a) (fetch.Failed (Range (address (a % 2 ^ 32))))
+  abbrev pub fetch_deep : ℕ → Fetched
+  fetch_deep a = if (ltb a (2 ^ 32)) (fetch_of machine DataRead m a) (fetch.Failed (Range (address (a % 2 ^ 32))))
 
 -- both results of a division, the remainder below the quotient
-abbrev pub dividedBoth : ℕ → ℕ → Quotient → Effect
-dividedBoth sp rp q =
-    action sp rp (cellStore DataWrite (sum sp 4) q.remainder ∷ cellStore DataWrite sp q.quotient ∷ []) goOn
+abbrev pub divided_both : ℕ → ℕ → Quotient → Effect
+divided_both sp rp q =
+    action sp rp (cell_store DataWrite (sum sp 4) q.remainder ∷ cell_store DataWrite sp q.quotient ∷ []) go_on
 
 -- the address that SP! or RP! takes has to be aligned, but need not lie in memory
 abbrev pub aligned : ℕ → Effect → Effect
@@ -79,48 +79,48 @@ aligned x e = if (eqb (x % 4) 0) e (raise (Alignment (address x)))
 -- HALT stops with the item that it pops, or with -258 where there is none to pop; SP then stays
 abbrev pub halted : ℕ → ℕ → Fetched → Effect
 halted sp rp (fetch.Cell x) = action (sum sp 4) rp [] (halt x)
-halted sp rp (fetch.Failed f) = action sp rp [] (halt badStack)
+halted sp rp (fetch.Failed f) = action sp rp [] (halt bad_stack)
 
 unfoldable pub plain_of : Machine → Instruction → List ℕ → ℕ → ℕ → ℕ → Effect
 -- 01h DUP ( x -- x x )
 plain_of machine Dup m ep sp rp = data1 machine m sp (λ x. pushes sp rp x)
 -- 02h DROP ( x -- )
-plain_of machine Drop m ep sp rp = data1 machine m sp (λ x. action (sum sp 4) rp [] goOn)
+plain_of machine Drop m ep sp rp = data1 machine m sp (λ x. action (sum sp 4) rp [] go_on)
 -- 03h SWAP ( x1 x2 -- x2 x1 )
-plain_of machine Swap m ep sp rp = data2 machine m sp (λ x1 x2. action sp rp (cellStore DataWrite (sum sp 4) x2 ∷ cellStore DataWrite sp x1 ∷ []) goOn)
+plain_of machine Swap m ep sp rp = data2 machine m sp (λ x1 x2. action sp rp (cell_store DataWrite (sum sp 4) x2 ∷ cell_store DataWrite sp x1 ∷ []) go_on)
 -- 04h OVER ( x1 x2 -- x1 x2 x1 )
 plain_of machine Over m ep sp rp = data2 machine m sp (λ x1 x2. pushes sp rp x1)
 -- 05h ROT ( x1 x2 x3 -- x2 x3 x1 )
 plain_of machine Rot m ep sp rp =
     data3 machine m sp
-    (λ x1 x2 x3. action sp rp (cellStore DataWrite (sum sp 8) x2 ∷ cellStore DataWrite (sum sp 4) x3 ∷ cellStore DataWrite sp x1 ∷ []) goOn)
+    (λ x1 x2 x3. action sp rp (cell_store DataWrite (sum sp 8) x2 ∷ cell_store DataWrite (sum sp 4) x3 ∷ cell_store DataWrite sp x1 ∷ []) go_on)
 -- 06h -ROT ( x1 x2 x3 -- x3 x1 x2 )
 plain_of machine MinusRot m ep sp rp =
     data3 machine m sp
-    (λ x1 x2 x3. action sp rp (cellStore DataWrite (sum sp 8) x3 ∷ cellStore DataWrite (sum sp 4) x1 ∷ cellStore DataWrite sp x2 ∷ []) goOn)
+    (λ x1 x2 x3. action sp rp (cell_store DataWrite (sum sp 8) x3 ∷ cell_store DataWrite (sum sp 4) x1 ∷ cell_store DataWrite sp x2 ∷ []) go_on)
 -- 07h TUCK ( x1 x2 -- x2 x1 x2 )
 plain_of machine Tuck m ep sp rp =
     data2 machine m sp
     (λ x1 x2.
     action (difference sp 4) rp
-    (cellStore DataWrite (sum sp 4) x2 ∷ cellStore DataWrite sp x1 ∷ cellStore DataWrite (difference sp 4) x2 ∷ [])
-    goOn)
+    (cell_store DataWrite (sum sp 4) x2 ∷ cell_store DataWrite sp x1 ∷ cell_store DataWrite (difference sp 4) x2 ∷ [])
+    go_on)
 -- 08h NIP ( x1 x2 -- x2 )
 plain_of machine Nip m ep sp rp = data2 machine m sp (λ x1 x2. reduces sp rp x2)
 -- 09h PICK ( x_u .. x_0 u -- x_u .. x_0 x_u )
-plain_of machine Pick m ep sp rp = data1 machine m sp (λ u. fetched (fetchDeep machine m (sp + 4 + 4 * u)) (λ x. replaces sp rp x))
+plain_of machine Pick m ep sp rp = data1 machine m sp (λ u. fetched (fetch_deep machine m (sp + 4 + 4 * u)) (λ x. replaces sp rp x))
 -- 0Ah ROLL ( x_u .. x_0 u -- x_u-1 .. x_0 x_u )
 plain_of machine Roll m ep sp rp =
     data1 machine m sp
-    (λ u. fetched (fetchDeep machine m (sp + 4 + 4 * u)) (λ x. action (sum sp 4) rp (rolled machine.order m (sp + 4) u) goOn))
+    (λ u. fetched (fetch_deep machine m (sp + 4 + 4 * u)) (λ x. action (sum sp 4) rp (rolled machine.order m (sp + 4) u) go_on))
 -- 0Bh ?DUP ( x -- 0 | x x )
-plain_of machine QuestionDup m ep sp rp = data1 machine m sp (λ x. if (eqb x 0) (action sp rp [] goOn) (pushes sp rp x))
+plain_of machine QuestionDup m ep sp rp = data1 machine m sp (λ x. if (eqb x 0) (action sp rp [] go_on) (pushes sp rp x))
 -- 0Ch >R ( x -- ) R: ( -- x )
 plain_of machine ToR m ep sp rp =
-    data1 machine m sp (λ x. action (sum sp 4) (difference rp 4) (cellStore ReturnWrite (difference rp 4) x ∷ []) goOn)
+    data1 machine m sp (λ x. action (sum sp 4) (difference rp 4) (cell_store ReturnWrite (difference rp 4) x ∷ []) go_on)
 -- 0Dh R> ( -- x ) R: ( x -- )
 plain_of machine RFrom m ep sp rp =
-    return1 machine m rp (λ x. action (difference sp 4) (sum rp 4) (cellStore DataWrite (difference sp 4) x ∷ []) goOn)
+    return1 machine m rp (λ x. action (difference sp 4) (sum rp 4) (cell_store DataWrite (difference sp 4) x ∷ []) go_on)
 -- 0Eh R@ ( -- x ) R: ( x -- x )
 plain_of machine RFetch m ep sp rp = return1 machine m rp (λ x. pushes sp rp x)
 -- 0Fh < ( n1 n2 -- flag )
@@ -170,15 +170,15 @@ plain_of machine CellMinus m ep sp rp = data1 machine m sp (λ x. replaces sp rp
 -- 25h * ( n1 n2 -- n3 )
 plain_of machine Star m ep sp rp = data2 machine m sp (λ x1 x2. reduces sp rp (product x1 x2))
 -- 26h / ( n1 n2 -- n3 )
-plain_of machine Slash m ep sp rp = divided machine m sp (λ n1 n2. reduces sp rp (flooredOf n1 n2).quotient)
+plain_of machine Slash m ep sp rp = divided machine m sp (λ n1 n2. reduces sp rp (floored_of n1 n2).quotient)
 -- 27h MOD ( n1 n2 -- n3 )
-plain_of machine Mod m ep sp rp = divided machine m sp (λ n1 n2. reduces sp rp (flooredOf n1 n2).remainder)
+plain_of machine Mod m ep sp rp = divided machine m sp (λ n1 n2. reduces sp rp (floored_of n1 n2).remainder)
 -- 28h /MOD ( n1 n2 -- n3 n4 )
-plain_of machine SlashMod m ep sp rp = divided machine m sp (λ n1 n2. dividedBoth sp rp (flooredOf n1 n2))
+plain_of machine SlashMod m ep sp rp = divided machine m sp (λ n1 n2. divided_both sp rp (floored_of n1 n2))
 -- 29h U/MOD ( u1 u2 -- u3 u4 )
-plain_of machine USlashMod m ep sp rp = divided machine m sp (λ u1 u2. dividedBoth sp rp (unsignedOf u1 u2))
+plain_of machine USlashMod m ep sp rp = divided machine m sp (λ u1 u2. divided_both sp rp (unsigned_of u1 u2))
 -- 2Ah S/REM ( n1 n2 -- n3 n4 )
-plain_of machine SSlashRem m ep sp rp = divided machine m sp (λ n1 n2. dividedBoth sp rp (symmetricOf n1 n2))
+plain_of machine SSlashRem m ep sp rp = divided machine m sp (λ n1 n2. divided_both sp rp (symmetric_of n1 n2))
 -- 2Bh 2/ ( x1 -- x2 )
 plain_of machine TwoSlash m ep sp rp = data1 machine m sp (λ x. replaces sp rp (halved x))
 -- 2Ch CELLS ( n1 -- n2 )
@@ -208,40 +208,40 @@ plain_of machine OneLShift m ep sp rp = data1 machine m sp (λ x. replaces sp rp
 -- 38h 1RSHIFT ( x1 -- x2 )
 plain_of machine OneRShift m ep sp rp = data1 machine m sp (λ x. replaces sp rp (shifted_right x 1))
 -- 39h @ ( a-addr -- x )
-plain_of machine FetchCell m ep sp rp = data1 machine m sp (λ a. fetched (fetchOf machine NamedRead m a) (λ x. replaces sp rp x))
+plain_of machine FetchCell m ep sp rp = data1 machine m sp (λ a. fetched (fetch_of machine NamedRead m a) (λ x. replaces sp rp x))
 -- 3Ah ! ( x a-addr -- )
-plain_of machine StoreCell m ep sp rp = data2 machine m sp (λ x a. action (sum sp 8) rp (cellStore NamedWrite a x ∷ []) goOn)
+plain_of machine StoreCell m ep sp rp = data2 machine m sp (λ x a. action (sum sp 8) rp (cell_store NamedWrite a x ∷ []) go_on)
 -- 3Bh C@ ( c-addr -- char )
 plain_of machine CFetch m ep sp rp =
-    data1 machine m sp (λ a. fetched (fetchByteOf machine NamedRead m (byteAddress machine.order a)) (λ x. replaces sp rp x))
+    data1 machine m sp (λ a. fetched (fetch_byte_of machine NamedRead m (byte_address machine.order a)) (λ x. replaces sp rp x))
 -- 3Ch C! ( char c-addr -- )
 plain_of machine CStore m ep sp rp =
     data2 machine m sp
     (λ x a.
     action (sum sp 8) rp
-    (record { width = oneByte; access = NamedWrite; at = byteAddress machine.order a; value = byte0 x } ∷ [])
-    goOn)
+    (record { width = one_byte; access = NamedWrite; at = byte_address machine.order a; value = byte0 x } ∷ [])
+    go_on)
 -- 3Dh +! ( n a-addr -- )
 plain_of machine PlusStore m ep sp rp =
     data2 machine m sp
-    (λ n a. fetched (fetchOf machine NamedRead m a) (λ x. action (sum sp 8) rp (cellStore NamedWrite a (sum x n) ∷ []) goOn))
+    (λ n a. fetched (fetch_of machine NamedRead m a) (λ x. action (sum sp 8) rp (cell_store NamedWrite a (sum x n) ∷ []) go_on))
 -- 3Eh SP@ ( -- a-addr )
 plain_of machine SpFetch m ep sp rp = pushes sp rp sp
 -- 3Fh SP! ( a-addr -- )
-plain_of machine SpStore m ep sp rp = data1 machine m sp (λ x. aligned x (action x rp [] goOn))
+plain_of machine SpStore m ep sp rp = data1 machine m sp (λ x. aligned x (action x rp [] go_on))
 -- 40h RP@ ( -- a-addr )
 plain_of machine RpFetch m ep sp rp = pushes sp rp rp
 -- 41h RP! ( a-addr -- )
-plain_of machine RpStore m ep sp rp = data1 machine m sp (λ x. aligned x (action (sum sp 4) x [] goOn))
+plain_of machine RpStore m ep sp rp = data1 machine m sp (λ x. aligned x (action (sum sp 4) x [] go_on))
 -- 46h EXECUTE ( xt -- ) R: ( -- a-addr )
 plain_of machine Execute m ep sp rp =
-    data1 machine m sp (λ to. action (sum sp 4) (difference rp 4) (cellStore ReturnWrite (difference rp 4) ep ∷ []) (jump to))
+    data1 machine m sp (λ to. action (sum sp 4) (difference rp 4) (cell_store ReturnWrite (difference rp 4) ep ∷ []) (jump to))
 -- 47h @EXECUTE ( a-addr1 -- ) R: ( -- a-addr2 )
 plain_of machine FetchExecute m ep sp rp =
     data1 machine m sp
     (λ a.
-    fetched (fetchOf machine NamedRead m a)
-    (λ to. action (sum sp 4) (difference rp 4) (cellStore ReturnWrite (difference rp 4) ep ∷ []) (jump to)))
+    fetched (fetch_of machine NamedRead m a)
+    (λ to. action (sum sp 4) (difference rp 4) (cell_store ReturnWrite (difference rp 4) ep ∷ []) (jump to)))
 -- 4Ah EXIT ( -- ) R: ( a-addr -- )
 plain_of machine Exit m ep sp rp = return1 machine m rp (λ to. action sp (sum rp 4) [] (jump to))
 -- 4Bh (DO) ( x1 x2 -- ) R: ( -- x1 x2 )
@@ -249,16 +249,16 @@ plain_of machine Do m ep sp rp =
     data2 machine m sp
     (λ x1 x2.
     action (sum sp 8) (difference rp 8)
-    (cellStore ReturnWrite (difference rp 4) x1 ∷ cellStore ReturnWrite (difference rp 8) x2 ∷ [])
-    goOn)
+    (cell_store ReturnWrite (difference rp 4) x1 ∷ cell_store ReturnWrite (difference rp 8) x2 ∷ [])
+    go_on)
 -- 50h UNLOOP R: ( x1 x2 -- )
-plain_of machine Unloop m ep sp rp = return2 machine m rp (λ x1 x2. action sp (sum rp 8) [] goOn)
+plain_of machine Unloop m ep sp rp = return2 machine m rp (λ x1 x2. action sp (sum rp 8) [] go_on)
 -- 51h J ( -- x1 ) R: ( x1 x2 x3 -- x1 x2 x3 )
 plain_of machine J m ep sp rp = return3 machine m rp (λ x1 x2 x3. pushes sp rp x1)
 -- 54h THROW ( -- )
 plain_of machine Throw m ep sp rp = action sp rp [] throwing
 -- 55h HALT ( x -- )
-plain_of machine Halt m ep sp rp = halted sp rp (fetchOf machine DataRead m sp)
+plain_of machine Halt m ep sp rp = halted sp rp (fetch_of machine DataRead m sp)
 -- 57h LIB ( n -- )
 plain_of machine Lib m ep sp rp = data1 machine m sp (λ n. raise Library)
 -- opcodes without an instruction, and (CREATE), OS, LINK, RUN and STEP, which this machine does not have: -256
@@ -279,15 +279,15 @@ plain_of machine Literal m ep sp rp = raise fault.Illegal
 plain_of machine LiteralI m ep sp rp = raise fault.Illegal
 
 -- at the registers of a cycle
-abbrev pub plainAt : Machine → Instruction → List ℕ → Registers → Effect
-plainAt machine i m r = plain_of machine i m r.ep r.sp r.rp
+abbrev pub plain_at : Machine → Instruction → List ℕ → Registers → Effect
+plain_at machine i m r = plain_of machine i m r.ep r.sp r.rp
 
 -- the stack pointers alone
 abbrev pub moved : ℕ → ℕ → Effect
-moved sp rp = action sp rp [] goOn
+moved sp rp = action sp rp [] go_on
 
-abbrev pub deepAddress : ℕ → ℕ → ℕ
-deepAddress sp u = sp + 4 + 4 * u
+abbrev pub deep_address : ℕ → ℕ → ℕ
+deep_address sp u = sp + 4 + 4 * u
 
 -- the fault that the code raises for a fetch that failed; of a cell nothing is ever asked
 abbrev pub failed : Fetched → Effect

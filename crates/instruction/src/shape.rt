@@ -18,7 +18,7 @@ use machine::{
 
 // The top item of the data stack replaced.
 pub fn replace(r: Registers, x: u32) -> OneStore
-    ensures { effects.oneStore result ≡ plain.replaces r.sp r.rp x }
+    ensures { effects.one_store result ≡ plain.replaces r.sp r.rp x }
 {
     OneStore {
         sp: r.sp,
@@ -34,7 +34,7 @@ pub fn replace(r: Registers, x: u32) -> OneStore
 
 // The top two items replaced by one.
 pub fn reduce(r: Registers, x: u32) -> OneStore
-    ensures { effects.oneStore result ≡ plain.reduces r.sp r.rp x }
+    ensures { effects.one_store result ≡ plain.reduces r.sp r.rp x }
 {
     let sp = add(r.sp, 4);
     OneStore {
@@ -51,7 +51,7 @@ pub fn reduce(r: Registers, x: u32) -> OneStore
 
 // One more item.
 pub fn push(r: Registers, x: u32) -> OneStore
-    ensures { effects.oneStore result ≡ plain.pushes r.sp r.rp x }
+    ensures { effects.one_store result ≡ plain.pushes r.sp r.rp x }
 {
     let sp = subtract(r.sp, 4);
     OneStore {
@@ -68,7 +68,7 @@ pub fn push(r: Registers, x: u32) -> OneStore
 
 // Both results of a division, the remainder below the quotient.
 pub fn replace_both(r: Registers, q: Quotient) -> TwoStores
-    ensures { effects.twoStores result ≡ plain.dividedBoth r.sp r.rp q }
+    ensures { effects.two_stores result ≡ plain.divided_both r.sp r.rp q }
 {
     TwoStores {
         sp: r.sp,
@@ -87,7 +87,7 @@ pub fn replace_both(r: Registers, q: Quotient) -> TwoStores
 
 // The stack pointers alone.
 pub fn write_nothing(sp: u32, rp: u32) -> MaybeStore
-    ensures { effects.maybeStore result ≡ plain.moved sp rp }
+    ensures { effects.maybe_store result ≡ plain.moved sp rp }
 {
     MaybeStore {
         sp: sp,
@@ -113,7 +113,7 @@ fn failure(got: Fetched) -> Then
 
 pub fn fail_none(got: Fetched) -> NoStore
     requires { place.Failing got }
-    ensures { effects.noStore result ≡ plain.failed got }
+    ensures { effects.no_store result ≡ plain.failed got }
 {
     NoStore {
         sp: 0,
@@ -124,7 +124,7 @@ pub fn fail_none(got: Fetched) -> NoStore
 
 pub fn fail_one(got: Fetched) -> OneStore
     requires { place.Failing got }
-    ensures { effects.oneStore result ≡ plain.failed got }
+    ensures { effects.one_store result ≡ plain.failed got }
 {
     OneStore {
         sp: 0,
@@ -140,7 +140,7 @@ pub fn fail_one(got: Fetched) -> OneStore
 
 pub fn fail_maybe(got: Fetched) -> MaybeStore
     requires { place.Failing got }
-    ensures { effects.maybeStore result ≡ plain.failed got }
+    ensures { effects.maybe_store result ≡ plain.failed got }
 {
     MaybeStore {
         sp: 0,
@@ -157,7 +157,7 @@ pub fn fail_maybe(got: Fetched) -> MaybeStore
 
 pub fn fail_two(got: Fetched) -> TwoStores
     requires { place.Failing got }
-    ensures { effects.twoStores result ≡ plain.failed got }
+    ensures { effects.two_stores result ≡ plain.failed got }
 {
     TwoStores {
         sp: 0,
@@ -176,7 +176,7 @@ pub fn fail_two(got: Fetched) -> TwoStores
 
 pub fn fail_two_returns(got: Fetched) -> TwoReturns
     requires { place.Failing got }
-    ensures { effects.twoReturns result ≡ plain.failed got }
+    ensures { effects.two_returns result ≡ plain.failed got }
 {
     TwoReturns {
         sp: 0,
@@ -195,7 +195,7 @@ pub fn fail_two_returns(got: Fetched) -> TwoReturns
 
 pub fn fail_three(got: Fetched) -> ThreeStores
     requires { place.Failing got }
-    ensures { effects.threeStores result ≡ plain.failed got }
+    ensures { effects.three_stores result ≡ plain.failed got }
 {
     ThreeStores {
         sp: 0,
@@ -218,7 +218,7 @@ pub fn fail_three(got: Fetched) -> ThreeStores
 
 pub fn fail_byte(got: Fetched) -> ByteStore
     requires { place.Failing got }
-    ensures { effects.byteStore result ≡ plain.failed got }
+    ensures { effects.byte_store result ≡ plain.failed got }
 {
     ByteStore {
         sp: 0,
@@ -231,7 +231,7 @@ pub fn fail_byte(got: Fetched) -> ByteStore
 
 pub fn fail_roll(got: Fetched) -> RollStores
     requires { place.Failing got }
-    ensures by_index { (order : ℕ) → (m : List ℕ) → effects.rollEffect order m result ≡ plain.failed got }
+    ensures by_index { (order : ℕ) → (m : List ℕ) → effects.roll_effect order m result ≡ plain.failed got }
     ensures reached { effects.Reached result }
 {
     RollStores {
@@ -246,7 +246,7 @@ pub fn fail_roll(got: Fetched) -> RollStores
 // The item `depth` below the top one, at its exact address.
 pub fn fetch_deep(machine: Machine, memory: &[u8], sp: Address, depth: CellCount) -> Fetched
     requires { places.Fits machine (length memory.now) }
-    ensures { result ≡ plain.fetchDeep machine memory.now (plain.deepAddress sp.0 depth.0) }
+    ensures { result ≡ plain.fetch_deep machine memory.now (plain.deep_address sp.0 depth.0) }
 {
     let a = sp.0 as u64 + 4 + 4 * (depth.0 as u64);
     if a < 0x1_0000_0000 {
@@ -259,7 +259,7 @@ pub fn fetch_deep(machine: Machine, memory: &[u8], sp: Address, depth: CellCount
 // The address that a branch leads to.
 pub fn branch_operand(machine: Machine, memory: &[u8], r: Registers, form: OperandForm) -> Fetched
     requires { places.Fits machine (length memory.now) }
-    ensures { result ≡ taking.branchOperand machine form memory.now r.ep r.a }
+    ensures { result ≡ taking.branch_operand machine form memory.now r.ep r.a }
 {
     match form {
         OperandForm::InCell => fetch(machine, memory, Address(r.ep)),
@@ -270,7 +270,7 @@ pub fn branch_operand(machine: Machine, memory: &[u8], r: Registers, form: Opera
 // The value of a literal.
 pub fn literal_operand(machine: Machine, memory: &[u8], r: Registers, form: OperandForm) -> Fetched
     requires { places.Fits machine (length memory.now) }
-    ensures { result ≡ taking.literalOperand machine form memory.now r.ep r.a }
+    ensures { result ≡ taking.literal_operand machine form memory.now r.ep r.a }
 {
     match form {
         OperandForm::InCell => fetch(machine, memory, Address(r.ep)),
@@ -290,7 +290,7 @@ pub fn return_address(r: Registers, form: OperandForm) -> u32
 
 // Where nothing was taken: past the operand cell, or NEXT.
 pub fn onward(form: OperandForm, s: Step) -> Step
-    ensures { result ≡ taking.onwardOf form s }
+    ensures { result ≡ taking.onward_of form s }
 {
     let outcome = s.outcome;
     let r = s.registers;

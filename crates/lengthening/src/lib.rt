@@ -1,9 +1,9 @@
 // lengthen: the listing file of a short file.
 ghost use Rattle.std.specs.Prelude.{◌≡◌, ◌++◌, ◌+◌, ◌*◌, ◌≤◌, length, drop};
 ghost use Rattle.std.proofs.lemmas.List.Edits.{sets};
-ghost use Rattle.short_judging.specs.Operands.{operandsBefore, in_turn};
-ghost use Rattle.short_judging.specs.ShortFile.{shortCount, shortKind, shortListing};
-ghost use Rattle.short_files.specs.Files.{kindByte, operandBytes};
+ghost use Rattle.short_judging.specs.Operands.{operands_before, in_turn};
+ghost use Rattle.short_judging.specs.ShortFile.{short_count, short_kind, short_listing};
+ghost use Rattle.short_files.specs.Files.{kind_byte, operand_bytes};
 ghost use Rattle.short_files.specs.Converted as answers;
 
 use cell::{Judged, Refusal};
@@ -16,9 +16,9 @@ use short_judging::short::judge_short;
 
 // Kinds and operands, in one pass. The header is written already.
 fn write_items(file: &[u8], n: usize, output: &mut [u8])
-    requires n_value { (n ≡ shortCount file.now) × (n ≤ 4096) × (12 + n + 4 * operandsBefore (shortKind file.now) (shortCount file.now) ≤ length file.now) }
+    requires n_value { (n ≡ short_count file.now) × (n ≤ 4096) × (12 + n + 4 * operands_before (short_kind file.now) (short_count file.now) ≤ length file.now) }
     requires n_in_bounds { 8 + 5 * n ≤ length output.old }
-    ensures { output.new ≡ sets (sets output.old 8 (in_turn (kindByte (shortListing file.now)) n)) (8 + n) (in_turn (operandBytes (shortListing file.now)) n) }
+    ensures { output.new ≡ sets (sets output.old 8 (in_turn (kind_byte (short_listing file.now)) n)) (8 + n) (in_turn (operand_bytes (short_listing file.now)) n) }
 {
     let mut at = 12 + n;
     let mut i: usize = 0;
@@ -34,8 +34,8 @@ fn write_items(file: &[u8], n: usize, output: &mut [u8])
 
 // The listing file, where the output has room.
 fn write_long(file: &[u8], output: &mut [u8])
-    requires file_bound { (shortCount file.now ≤ 4096) × (12 + shortCount file.now + 4 * operandsBefore (shortKind file.now) (shortCount file.now) ≤ length file.now) }
-    requires file_in_bounds { 8 + 5 * shortCount file.now ≤ length output.old }
+    requires file_bound { (short_count file.now ≤ 4096) × (12 + short_count file.now + 4 * operands_before (short_kind file.now) (short_count file.now) ≤ length file.now) }
+    requires file_in_bounds { 8 + 5 * short_count file.now ≤ length output.old }
     ensures { output.new ≡ answers.lengthened file.now ++ drop (length (answers.lengthened file.now)) output.old }
 {
     let n = cell_at(file, 0);
@@ -46,7 +46,7 @@ fn write_long(file: &[u8], output: &mut [u8])
 
 // A lengthening into an output of some size.
 pub fn judge_lengthen(file: &[u8], size: usize) -> Judged
-    ensures { result ≡ answers.judgeLengthen file.now size }
+    ensures { result ≡ answers.judge_lengthen file.now size }
 {
     match judge_short(file) {
         Judged::Refused(r) => Judged::Refused(r),
@@ -60,7 +60,7 @@ pub fn judge_lengthen(file: &[u8], size: usize) -> Judged
 }
 
 pub fn lengthen(file: &[u8], output: &mut [u8]) -> Converted
-    ensures { answers.convertedTo output.new result ≡ answers.lengthenOf file.now output.old }
+    ensures { answers.converted_to output.new result ≡ answers.lengthen_of file.now output.old }
 {
     match judge_lengthen(file, output.len()) {
         Judged::Refused(r) => Converted::Refused(r),

@@ -10,22 +10,22 @@ use Rattle.cell.specs.Refusals.{judge}
 use Rattle.cell.specs.declared.Refusal.TheVariants.{ShortOutput}
 use Rattle.cell.specs.declared.Judged.{Judged}
 use Rattle.cell.specs.declared.Judged.TheVariants.{Passed}
-use Rattle.cell.proofs.JudgementLaws.{both-pass, one-clear}
-use Rattle.lent_arrays.specs.Lending.{written, areasAt, areasIn, shortArray, withRoom}
+use Rattle.cell.proofs.JudgementLaws.{both_pass, one_clear}
+use Rattle.lent_arrays.specs.Lending.{written, areas_at, areas_in, short_array, with_room}
 
 pub record Roomy (j : Judged) (size needed : ℕ) : Type 0 where
   pub passed : j ≡ Passed
   pub room : needed ≤ size
 
-pub roomy : (j : Judged) (size needed : ℕ) → withRoom j size needed ≡ Passed → Roomy j size needed
+pub roomy : (j : Judged) (size needed : ℕ) → with_room j size needed ≡ Passed → Roomy j size needed
 roomy j size needed e =
-    let p = both-pass j (judge (shortArray size needed ∷ [])) e in
-    record { passed = p.0; room = ltb-false size needed (one-clear (ltb size needed) ShortOutput Passed p.1).0 }
+    let p = both_pass j (judge (short_array size needed ∷ [])) e in
+    record { passed = p.0; room = ltb-false size needed (one_clear (ltb size needed) ShortOutput Passed p.1).0 }
 
 -- an array keeps its length where there is room for what is written
-pub written-length : (xs lent : List ℕ) → length xs ≤ length lent → length (written xs lent) ≡ length lent
-written-length xs lent h = simp (length-append, length-drop) (omega (arith, h))
+pub written_length : (xs lent : List ℕ) → length xs ≤ length lent → length (written xs lent) ≡ length lent
+written_length xs lent h = simp (length-append, length-drop) (omega (arith, h))
 
 -- an array that is long enough gives its areas to be judged
-pub areas-there : (i : ℕ) (lent : List ℕ) → i + 4 ≤ length lent → areasIn i lent ≡ areasAt i lent
-areas-there i lent h = rw (le-ltb (length lent) (i + 4) h)
+pub areas_there : (i : ℕ) (lent : List ℕ) → i + 4 ≤ length lent → areas_in i lent ≡ areas_at i lent
+areas_there i lent h = rw (le-ltb (length lent) (i + 4) h)

@@ -1,7 +1,7 @@
 // Lent arrays: reading, writing and judging them.
 ghost use Rattle.std.specs.Prelude.{◌≡◌, [], ◌∷◌, ◌+◌, ◌≤◌, length};
 ghost use Rattle.machine.specs.Places.{table_of};
-ghost use Rattle.areas.specs.Areas.{areasOf};
+ghost use Rattle.areas.specs.Areas.{areas_of};
 ghost use Rattle.lent_arrays.specs.Lending as lending;
 
 use areas::{Area, Areas, RegisterFile};
@@ -11,7 +11,7 @@ use machine::{Registers, Table};
 
 // A judgement so far, and then whether a lent array has room for what a success writes.
 pub fn with_room(judged: Judged, size: usize, needed: usize) -> Judged
-    ensures { result ≡ lending.withRoom judged size needed }
+    ensures { result ≡ lending.with_room judged size needed }
 {
     match judged {
         Judged::Refused(n) => Judged::Refused(n),
@@ -27,7 +27,7 @@ pub fn with_room(judged: Judged, size: usize, needed: usize) -> Judged
 
 // The number answered where `out` has no place.
 pub fn no_place(judged: Judged) -> u32
-    ensures { result ≡ lending.noPlace judged }
+    ensures { result ≡ lending.no_place judged }
 {
     match judged {
         Judged::Refused(r) => refusal_number(r),
@@ -37,7 +37,7 @@ pub fn no_place(judged: Judged) -> u32
 
 // Areas of four numbers.
 pub fn make_areas(data_top: u32, data_cells: u32, return_top: u32, return_cells: u32) -> Areas
-    ensures { result ≡ areasOf data_top data_cells return_top return_cells }
+    ensures { result ≡ areas_of data_top data_cells return_top return_cells }
 {
     Areas {
         stack: Area {
@@ -64,7 +64,7 @@ pub fn make_table(first: u32, end: u32) -> Table
 // The areas that stand in a lent array from a place on.
 pub fn read_areas(lent: &[u32], at: usize) -> Areas
     requires { at + 4 ≤ length lent.now }
-    ensures { result ≡ lending.areasAt at lent.now }
+    ensures { result ≡ lending.areas_at at lent.now }
 {
     make_areas(lent[at], lent[at + 1], lent[at + 2], lent[at + 3])
 }
@@ -72,7 +72,7 @@ pub fn read_areas(lent: &[u32], at: usize) -> Areas
 // The same for the judgement: none where the array is too short to hold them.
 pub fn areas_in(lent: &[u32], at: usize) -> Areas
     requires { at ≤ 4 }
-    ensures { result ≡ lending.areasIn at lent.now }
+    ensures { result ≡ lending.areas_in at lent.now }
 {
     if lent.len() < at + 4 {
         return make_areas(0, 0, 0, 0);
@@ -82,7 +82,7 @@ pub fn areas_in(lent: &[u32], at: usize) -> Areas
 
 pub fn read_registers(lent: &[u32]) -> RegisterFile
     requires { 8 ≤ length lent.now }
-    ensures { result ≡ lending.registersOf lent.now }
+    ensures { result ≡ lending.registers_of lent.now }
 {
     let areas = read_areas(lent, 4);
     RegisterFile {
@@ -98,7 +98,7 @@ pub fn read_registers(lent: &[u32]) -> RegisterFile
 
 pub fn write_registers(lent: &mut [u32], f: RegisterFile)
     requires { 8 ≤ length lent.old }
-    ensures { lent.new ≡ lending.written (lending.registerList f) lent.old }
+    ensures { lent.new ≡ lending.written (lending.register_list f) lent.old }
 {
     let r = f.registers;
     let areas = f.areas;
@@ -121,7 +121,7 @@ pub fn write_registers(lent: &mut [u32], f: RegisterFile)
 // SP and RP of the list machine, and its areas.
 pub fn write_pointers(lent: &mut [u32], sp: u32, rp: u32, areas: Areas)
     requires { 6 ≤ length lent.old }
-    ensures { lent.new ≡ lending.written (sp ∷ rp ∷ lending.areaList areas) lent.old }
+    ensures { lent.new ≡ lending.written (sp ∷ rp ∷ lending.area_list areas) lent.old }
 {
     let stack = areas.stack;
     let top = stack.top;

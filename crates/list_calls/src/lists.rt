@@ -25,7 +25,7 @@ pub fn resume_list(
     items: u32,
     out: &mut [u32],
 ) -> u32
-    ensures { machines.called memory.new pointers.new out.new result ≡ lists.resumeCall order kinds.now operands.now base.0 memory.old table item.0 (not (eqb ran 0)) pointers.old items out.old }
+    ensures { machines.called memory.new pointers.new out.new result ≡ lists.resume_call order kinds.now operands.now base.0 memory.old table item.0 (not (eqb ran 0)) pointers.old items out.old }
 {
     let sp = number_at(pointers, 0);
     let rp = number_at(pointers, 1);

@@ -13,10 +13,10 @@ use Rattle.list_counting.specs.declared.Ending.TheVariants as ending
 use Rattle.list_counting.specs.declared.ItemRun.{ItemRun}
 
 -- what an item comes to, with the memory m
-abbrev pub carriedAs : List ℕ → Carried → lists.Carried
-carriedAs m (On s) = lists.on (position_of m s)
-carriedAs m (Stopped s x) = lists.stopped x (position_of m s)
-carriedAs m (Outside why) = lists.outside why
+abbrev pub carried_as : List ℕ → Carried → lists.Carried
+carried_as m (On s) = lists.on (position_of m s)
+carried_as m (Stopped s x) = lists.stopped x (position_of m s)
+carried_as m (Outside why) = lists.outside why
 
 -- memory, and what the item came to
 pub record Left : Type 0 where
@@ -24,26 +24,26 @@ pub record Left : Type 0 where
   pub carried : lists.Carried
 
 abbrev pub left : List ℕ → Carried → Left
-left m c = record { memory = m; carried = carriedAs m c }
+left m c = record { memory = m; carried = carried_as m c }
 
 -- the memory that an item leaves; it stays where the machine stands outside
-abbrev pub memoryAfter : List ℕ → lists.Carried → List ℕ
-memoryAfter m (lists.on p) = p.memory
-memoryAfter m (lists.stopped x p) = p.memory
-memoryAfter m (lists.outside why) = m
+abbrev pub memory_after : List ℕ → lists.Carried → List ℕ
+memory_after m (lists.on p) = p.memory
+memory_after m (lists.stopped x p) = p.memory
+memory_after m (lists.outside why) = m
 
 -- what the code has to leave, from the memory m
 abbrev pub leaves : List ℕ → lists.Carried → Left
-leaves m c = record { memory = memoryAfter m c; carried = c }
+leaves m c = record { memory = memory_after m c; carried = c }
 
-abbrev pub courseOf : Ending → runs.Course
-courseOf ending.GoesOn = runs.goesOn
-courseOf (ending.Stopped x) = runs.stoppedBy x
-courseOf (ending.Outside why) = runs.stoodOutside why
+abbrev pub course_of : Ending → runs.Course
+course_of ending.GoesOn = runs.goes_on
+course_of (ending.Stopped x) = runs.stopped_by x
+course_of (ending.Outside why) = runs.stood_outside why
 
 -- a run, with the memory m
-abbrev pub runAs : List ℕ → ItemRun → runs.Run
-runAs m r = record { position = position_of m r.stand; items = r.items; cycles = r.cycles; course = courseOf r.ending }
+abbrev pub run_as : List ℕ → ItemRun → runs.Run
+run_as m r = record { position = position_of m r.stand; items = r.items; cycles = r.cycles; course = course_of r.ending }
 
 -- nothing is done yet, in a listing of n items
 abbrev pub begun : ℕ → Stand → ItemRun

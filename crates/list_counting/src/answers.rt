@@ -7,7 +7,7 @@ use list_machine::outside_number;
 
 // 0 where all items asked for were carried out, 1 stopped by a reason, 2 outside.
 pub fn ending_number(ending: Ending) -> u32
-    ensures { result ≡ endings.endingNumber ending }
+    ensures { result ≡ endings.ending_number ending }
 {
     match ending {
         Ending::GoesOn => 0,
@@ -18,7 +18,7 @@ pub fn ending_number(ending: Ending) -> u32
 
 // The reason of a stop, the number of the reason to stand outside, else 0.
 pub fn ending_reason(ending: Ending) -> u32
-    ensures { result ≡ endings.endingReason ending }
+    ensures { result ≡ endings.ending_reason ending }
 {
     match ending {
         Ending::GoesOn => 0,

@@ -12,7 +12,7 @@ use list_tables::tables::opens_cell;
 // The cycles that an item counts.
 pub fn cycles_at(table: &[u32], s: Stand) -> u64
     requires { (s.item.0 < tables.rows table.now) × (tables.rows table.now ≤ 4096) }
-    ensures { result ≡ if (s.ran && tables.opensIn table.now s.item.0) 2 1 }
+    ensures { result ≡ if (s.ran && tables.opens_in table.now s.item.0) 2 1 }
 {
     let item = s.item;
     if s.ran {

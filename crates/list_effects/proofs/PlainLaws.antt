@@ -12,7 +12,7 @@ use Rattle.machine.specs.Effects.{raise}
 use Rattle.machine.specs.declared.Machine.{Machine}
 use Rattle.instruction.specs.Plain.{plain_of}
 use Rattle.instruction.specs.declared.Instruction.TheVariants.{Next, Illegal}
-use Rattle.instruction.specs.Dispatch.{opcodes, decodeOf}
+use Rattle.instruction.specs.Dispatch.{opcodes, decode_of}
 use Rattle.instruction.proofs.OpcodeLaws.{past}
 
 -- a number from 42h on that is none of the arms of the code
@@ -30,7 +30,7 @@ pub record Rest (n : ℕ) : Type 0 where
 
 module _ (machine : Machine) (m : List ℕ) (ep sp rp : ℕ) where
   abbrev Raises : ℕ → Type 0
-  Raises n = plain_of machine (decodeOf n) m ep sp rp ≡ raise fault.Illegal
+  Raises n = plain_of machine (decode_of n) m ep sp rp ≡ raise fault.Illegal
 
   -- n is k, or lies above it
   one : (n k : ℕ) → k ≤ n → Raises k → (suc k ≤ n → Raises n) → Raises n
@@ -41,16 +41,16 @@ module _ (machine : Machine) (m : List ℕ) (ep sp rp : ℕ) where
       go false q = f (past k l (eqb-false n k q))
 
   beyond : (n : ℕ) → 0x58 ≤ n → Raises n
-  unfolding plain_of decodeOf
+  unfolding plain_of decode_of
   beyond n h = rw (get_or-eq_default opcodes Illegal h) (go (eqb n 0xFF))
     where
       go : (b : Bool) → plain_of machine (if b Next Illegal) m ep sp rp ≡ raise fault.Illegal
       go true = refl
       go false = refl
 
-  pub rest-raises : (n : ℕ) → Rest n → Raises n
-  unfolding plain_of decodeOf
-  rest-raises n r =
+  pub rest_raises : (n : ℕ) → Rest n → Raises n
+  unfolding plain_of decode_of
+  rest_raises n r =
       one n 0x42 r.from refl (λ a. one n 0x43 a refl (λ b. one n 0x44 b refl (λ c. one n 0x45 c refl (λ d.
       one n 0x48 (past 0x47 (past 0x46 d r.n46) r.n47) refl (λ e. one n 0x49 e refl (λ f.
       one n 0x4C (past 0x4B (past 0x4A f r.n4A) r.n4B) refl (λ g. one n 0x4D g refl (λ h. one n 0x4E h refl (λ i. one n 0x4F i refl (λ j.

@@ -17,7 +17,7 @@ use storage::stack::{drop, dup, nip, over, pick, question_dup, r_fetch, r_from, 
 pub fn propose_from_01(machine: Machine, memory: &[u8], r: Registers, opcode: u32) -> Shape
     requires fits { places.Fits machine (length memory.now) }
     requires le_opcode { 1 ≤ opcode }
-    ensures { shapes.Proposed machine memory.now result (plain.plainAt machine (dispatch.decodeOf opcode) memory.now r) }
+    ensures { shapes.Proposed machine memory.now result (plain.plain_at machine (dispatch.decode_of opcode) memory.now r) }
 {
     match opcode {
         // DUP

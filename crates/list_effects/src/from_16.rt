@@ -18,7 +18,7 @@ use operators::comparison::{u_greater, u_less, zero_not_equal};
 pub fn propose_from_16(machine: Machine, memory: &[u8], r: Registers, opcode: u32) -> Shape
     requires fits { places.Fits machine (length memory.now) }
     requires le_opcode { 22 ≤ opcode }
-    ensures { shapes.Proposed machine memory.now result (plain.plainAt machine (dispatch.decodeOf opcode) memory.now r) }
+    ensures { shapes.Proposed machine memory.now result (plain.plain_at machine (dispatch.decode_of opcode) memory.now r) }
 {
     match opcode {
         // 0<>

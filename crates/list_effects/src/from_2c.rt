@@ -17,7 +17,7 @@ use storage::registers::{rp_store, sp_store};
 pub fn propose_from_2c(machine: Machine, memory: &[u8], r: Registers, opcode: u32) -> Shape
     requires fits { places.Fits machine (length memory.now) }
     requires le_opcode { 44 ≤ opcode }
-    ensures { shapes.Proposed machine memory.now result (plain.plainAt machine (dispatch.decodeOf opcode) memory.now r) }
+    ensures { shapes.Proposed machine memory.now result (plain.plain_at machine (dispatch.decode_of opcode) memory.now r) }
 {
     match opcode {
         // CELLS

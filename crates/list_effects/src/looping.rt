@@ -16,7 +16,7 @@ use machine::{Machine, MaybeStore, Registers, Target, Then, Write};
 
 // Whether the step ends the loop: that of (+LOOP), or that of (LOOP).
 fn step_ends(plus: bool, index: u32, limit: u32, n: u32) -> bool
-    ensures { result ≡ looping.stepEnds plus index limit n }
+    ensures { result ≡ looping.step_ends plus index limit n }
 {
     let next = add(index, n);
     if plus {
@@ -36,7 +36,7 @@ fn propose_step(
     plus: bool,
 ) -> MaybeStore
     requires { places.Fits machine (length memory.now) }
-    ensures { effects.maybeStore result ≡ looping.loopedOf machine memory.now sp rp to.0 n plus }
+    ensures { effects.maybe_store result ≡ looping.looped_of machine memory.now sp rp to.0 n plus }
 {
     let got = fetch_return(machine, memory, Address(rp));
     let Fetched::Cell(index) = got else {
@@ -64,7 +64,7 @@ fn propose_step(
 
 pub fn propose_loop(machine: Machine, memory: &[u8], r: Registers) -> MaybeStore
     requires { places.Fits machine (length memory.now) }
-    ensures { effects.maybeStore result ≡ taking.takingAt machine form.Immediate taking.loop memory.now r }
+    ensures { effects.maybe_store result ≡ taking.taking_at machine form.Immediate taking.loop memory.now r }
 {
     let to = add(r.ep, r.a % 0x40000000 * 4);
     propose_step(machine, memory, r.sp, r.rp, Address(to), 1, false)
@@ -72,7 +72,7 @@ pub fn propose_loop(machine: Machine, memory: &[u8], r: Registers) -> MaybeStore
 
 pub fn propose_plus_loop(machine: Machine, memory: &[u8], r: Registers) -> MaybeStore
     requires { places.Fits machine (length memory.now) }
-    ensures { effects.maybeStore result ≡ taking.takingAt machine form.Immediate taking.plusLoop memory.now r }
+    ensures { effects.maybe_store result ≡ taking.taking_at machine form.Immediate taking.plus_loop memory.now r }
 {
     let got = fetch_data(machine, memory, Address(r.sp));
     let Fetched::Cell(n) = got else {

@@ -15,7 +15,7 @@ use machine::{Machine, Registers};
 // What an instruction with its operand in A would do, by its kind.
 pub fn propose_taking(machine: Machine, memory: &[u8], r: Registers, kind: u32) -> Shape
     requires { places.Fits machine (length memory.now) }
-    ensures { shapes.Proposed machine memory.now result (taking.takingAt machine form.Immediate (shapes.takingKind kind) memory.now r) }
+    ensures { shapes.Proposed machine memory.now result (taking.taking_at machine form.Immediate (shapes.taking_kind kind) memory.now r) }
 {
     match kind {
         // BRANCH

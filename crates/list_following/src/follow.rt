@@ -3,7 +3,7 @@ ghost use Rattle.std.specs.Prelude.{◌≡◌, ◌*◌, length};
 ghost use Rattle.machine.specs.Places as places;
 ghost use Rattle.cell.specs.Refusals.{Lent};
 ghost use Rattle.pack_layout.specs.Listing.{listed, Checked};
-ghost use Rattle.pack_layout.specs.Packing.{imageCells};
+ghost use Rattle.pack_layout.specs.Packing.{image_cells};
 ghost use Rattle.list_refusals.specs.Judging as judging;
 ghost use Rattle.list_following.specs.Follow as follows;
 
@@ -33,7 +33,7 @@ fn follow_checked(
     requires lent { (Lent (length memory.old)) × (places.Fits machine (length memory.old)) }
     requires checked { Checked kinds.now operands.now }
     requires table_len { length table.old ≡ 4 * length kinds.now }
-    ensures { follows.followedTo memory.new start result ≡ follows.followIf (judging.judgeImage base.0 (imageCells (listed kinds.now operands.now)) room) machine base.0 (listed kinds.now operands.now) memory.old start items }
+    ensures { follows.followed_to memory.new start result ≡ follows.follow_if (judging.judge_image base.0 (image_cells (listed kinds.now operands.now)) room) machine base.0 (listed kinds.now operands.now) memory.old start items }
 {
     let cells = settle_table(kinds, operands, table);
     match judge_image(base, cells, room) {
@@ -61,7 +61,7 @@ pub fn follow_within(
     items: u32,
     room: Judged,
 ) -> Followed
-    ensures { follows.followedTo memory.new start result ≡ follows.resumeIn room order areas table kinds.now operands.now base.0 memory.old start items }
+    ensures { follows.followed_to memory.new start result ≡ follows.resume_in room order areas table kinds.now operands.now base.0 memory.old start items }
 {
     match judge_begin(memory.len(), order, areas, table, kinds, operands) {
         Judged::Refused(r) => Followed::Refused(r),

@@ -30,7 +30,7 @@ fn intent_then(
     requires in_bounds { 4 ≤ length memory.now }
     requires near { tables.Near table.now base.0 }
     requires item_bound { s.item.0 < tables.rows table.now }
-    ensures { result ≡ ways.intentThen machine memory.now (tables.entryBelow table.now base.0 (tables.rows table.now)) (tables.rows table.now) s.item.0 (tables.immediateIn table.now s.item.0) s.sp then }
+    ensures { result ≡ ways.intent_then machine memory.now (tables.entry_below table.now base.0 (tables.rows table.now)) (tables.rows table.now) s.item.0 (tables.immediate_in table.now s.item.0) s.sp then }
 {
     let item = s.item;
     match then {
@@ -59,7 +59,7 @@ pub fn intent_of(
     requires near { tables.Near table.now image.base.0 }
     requires cells_nonzero { (0 < image.cells.0) × (image.base.0 + 4 * image.cells.0 < 2 ^ 32) }
     requires item_bound { s.item.0 < tables.rows table.now }
-    ensures { result ≡ ways.intentOf machine memory.now (tables.entryBelow table.now image.base.0 (tables.rows table.now)) image.base.0 (image.base.0 + 4 * image.cells.0) (tables.rows table.now) s.item.0 (tables.immediateIn table.now s.item.0) s.sp shape }
+    ensures { result ≡ ways.intent_of machine memory.now (tables.entry_below table.now image.base.0 (tables.rows table.now)) image.base.0 (image.base.0 + 4 * image.cells.0) (tables.rows table.now) s.item.0 (tables.immediate_in table.now s.item.0) s.sp shape }
 {
     let base = image.base;
     let cells = image.cells;

@@ -49,7 +49,7 @@ fn act_along(
 ) -> Carried
     requires fits { places.Fits machine (length memory.old) }
     requires fits_2 { shapes.Fits shape }
-    ensures { outcomes.left memory.new result ≡ outcomes.leaves memory.old (ways.along way (ways.steppedTo (stands.position_of memory.old s) (commits.commitOf machine memory.old r (shapes.shapeEffect machine memory.old shape)))) }
+    ensures { outcomes.left memory.new result ≡ outcomes.leaves memory.old (ways.along way (ways.stepped_to (stands.position_of memory.old s) (commits.commit_of machine memory.old r (shapes.shape_effect machine memory.old shape)))) }
 {
     match way {
         Way::To(i, ran) => {
@@ -71,7 +71,7 @@ fn act_along(
 fn end(machine: Machine, memory: &mut [u8], r: Registers, cause: Cause) -> CycleResult
     requires fits { places.Fits machine (length memory.old) }
     requires in_bounds { 16 ≤ length memory.old }
-    ensures { throws.withResult memory.new result ≡ ways.end_of machine memory.old r cause }
+    ensures { throws.with_result memory.new result ≡ ways.end_of machine memory.old r cause }
 {
     match cause {
         Cause::Raised(e) => throw(machine, memory, r, e, code_of(e)),
@@ -98,7 +98,7 @@ fn end_along(
 ) -> Carried
     requires fits { places.Fits machine (length memory.old) }
     requires in_bounds { 16 ≤ length memory.old }
-    ensures { outcomes.left memory.new result ≡ outcomes.leaves memory.old (ways.along way (lists.thrownTo (stands.position_of memory.old s) (ways.end_of machine memory.old r cause))) }
+    ensures { outcomes.left memory.new result ≡ outcomes.leaves memory.old (ways.along way (lists.thrown_to (stands.position_of memory.old s) (ways.end_of machine memory.old r cause))) }
 {
     match way {
         Way::To(i, ran) => {
@@ -127,7 +127,7 @@ fn perform(
     requires fits { places.Fits machine (length memory.old) }
     requires in_bounds { 16 ≤ length memory.old }
     requires fits_2 { shapes.Fits shape }
-    ensures { outcomes.left memory.new result ≡ outcomes.leaves memory.old (ways.performed machine (stands.position_of memory.old s) r (shapes.shapeEffect machine memory.old shape) intent) }
+    ensures { outcomes.left memory.new result ≡ outcomes.leaves memory.old (ways.performed machine (stands.position_of memory.old s) r (shapes.shape_effect machine memory.old shape) intent) }
 {
     match intent {
         Intent::Act(way) => act_along(machine, memory, s, r, shape, way),
@@ -148,7 +148,7 @@ pub fn carry_out(
     requires lent { (Lent (length memory.old)) × (places.Fits machine (length memory.old)) }
     requires settled { tables.Settled kinds.now operands.now table.now image }
     requires item_in_bounds { s.item.0 < length kinds.now }
-    ensures { outcomes.left memory.new result ≡ outcomes.leaves memory.old (lists.carryOut machine image.base.0 (listed kinds.now operands.now) (stands.position_of memory.old s)) }
+    ensures { outcomes.left memory.new result ≡ outcomes.leaves memory.old (lists.carry_out machine image.base.0 (listed kinds.now operands.now) (stands.position_of memory.old s)) }
 {
     let base = image.base;
     let shape = shape_of(machine, memory, kinds, operands, table, image, s);

@@ -28,7 +28,7 @@ pub fn run_items(
 ) -> ItemRun
     requires lent { (Lent (length memory.old)) × (places.Fits machine (length memory.old)) }
     requires settled { tables.Settled kinds.now operands.now table.now image }
-    ensures { outcomes.runAs memory.new result ≡ runs.run_of machine image.base.0 (listed kinds.now operands.now) items (runs.resuming (listed kinds.now operands.now) (stands.position_of memory.old start)) }
+    ensures { outcomes.run_as memory.new result ≡ runs.run_of machine image.base.0 (listed kinds.now operands.now) items (runs.resuming (listed kinds.now operands.now) (stands.position_of memory.old start)) }
 {
     let mut ran = begin_run(kinds.len(), start);
     let first = ran.ending;

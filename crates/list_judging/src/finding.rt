@@ -14,7 +14,7 @@ use pack_layout::{Entry, ItemNumber};
 fn is_placed(table: &[u32], base: Address, item: ItemNumber, a: Address) -> bool
     requires near { tables.Near table.now base.0 }
     requires item_bound { item.0 < tables.rows table.now }
-    ensures { result ≡ (tables.entryIn table.now item.0 && eqb (base.0 + 4 * tables.place_in table.now item.0) a.0) }
+    ensures { result ≡ (tables.entry_in table.now item.0 && eqb (base.0 + 4 * tables.place_in table.now item.0) a.0) }
 {
     if is_entry(table, item) {
         let there = address_at(base, place_of(table, item));
@@ -25,7 +25,7 @@ fn is_placed(table: &[u32], base: Address, item: ItemNumber, a: Address) -> bool
 
 pub fn entry_at(table: &[u32], base: Address, a: Address) -> Entry
     requires { tables.Near table.now base.0 }
-    ensures { result ≡ tables.entryBelow table.now base.0 (tables.rows table.now) a.0 }
+    ensures { result ≡ tables.entry_below table.now base.0 (tables.rows table.now) a.0 }
 {
     let mut i = table.len() / 4;
     while 0 < i {
@@ -40,7 +40,7 @@ pub fn entry_at(table: &[u32], base: Address, a: Address) -> Entry
 
 // In front of the entry that was found, or outside.
 pub fn to_entry(why: Outside, e: Entry) -> Way
-    ensures { result ≡ ways.toEntry why e }
+    ensures { result ≡ ways.to_entry why e }
 {
     match e {
         Entry::Item(i) => Way::To(i, false),

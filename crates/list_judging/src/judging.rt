@@ -23,7 +23,7 @@ use pack_layout::ItemNumber;
 // 'THROW is h: an entry, -259, or outside.
 fn handler_way(machine: Machine, memory: &[u8], table: &[u32], base: Address, h: Address) -> Way
     requires { tables.Near table.now base.0 }
-    ensures { result ≡ ways.handlerWay machine memory.now (tables.entryBelow table.now base.0 (tables.rows table.now)) h.0 }
+    ensures { result ≡ ways.handler_way machine memory.now (tables.entry_below table.now base.0 (tables.rows table.now)) h.0 }
 {
     let place = check_named(machine, memory.len(), h);
     let Checked::Good = place else {
@@ -43,7 +43,7 @@ pub fn throw_way(
 ) -> Way
     requires in_bounds { (4 ≤ length memory.now) × (places.Fits machine (length memory.now)) }
     requires near { (tables.Near table.now image.base.0) × (image.base.0 + 4 * image.cells.0 < 2 ^ 32) }
-    ensures { result ≡ ways.throwWay machine memory.now (tables.entryBelow table.now image.base.0 (tables.rows table.now)) image.base.0 (image.base.0 + 4 * image.cells.0) sp e }
+    ensures { result ≡ ways.throw_way machine memory.now (tables.entry_below table.now image.base.0 (tables.rows table.now)) image.base.0 (image.base.0 + 4 * image.cells.0) sp e }
 {
     let base = image.base;
     let cells = image.cells;
@@ -66,7 +66,7 @@ pub fn throw_way(
 pub fn given_way(machine: Machine, memory: &[u8], table: &[u32], base: Address, sp: u32) -> Way
     requires in_bounds { 4 ≤ length memory.now }
     requires near { tables.Near table.now base.0 }
-    ensures { result ≡ ways.givenWay machine memory.now (tables.entryBelow table.now base.0 (tables.rows table.now)) sp }
+    ensures { result ≡ ways.given_way machine memory.now (tables.entry_below table.now base.0 (tables.rows table.now)) sp }
 {
     if sp % 4 == 0 {
         let handler = load(machine.order, memory, HANDLER_CELL);
@@ -78,7 +78,7 @@ pub fn given_way(machine: Machine, memory: &[u8], table: &[u32], base: Address, 
 // The item after this one.
 pub fn next_way(table: &[u32], item: ItemNumber) -> Way
     requires { (item.0 < tables.rows table.now) × (tables.rows table.now ≤ 4096) }
-    ensures { result ≡ ways.nextWay (tables.rows table.now) item.0 (tables.immediateIn table.now item.0) }
+    ensures { result ≡ ways.next_way (tables.rows table.now) item.0 (tables.immediate_in table.now item.0) }
 {
     let next = item.0 + 1;
     if (next as usize) < table.len() / 4 {

@@ -3,7 +3,7 @@ use Rattle.std.specs.Prelude.{◌≡◌, true, ℕ, ◌+◌}
 use Rattle.machine.specs.declared.Machine.{Machine}
 use Rattle.pack_layout.specs.Listing.{Listing}
 use Rattle.list_machine.specs.ListMachine.{Position}
-use Rattle.list_machine.specs.Runs.{goesOn, is_over, Run, run_of, resuming}
+use Rattle.list_machine.specs.Runs.{goes_on, is_over, Run, run_of, resuming}
 
 -- a run that was taken up where another ended, with the items and cycles of that one
 abbrev pub joined : Run → Run → Run
@@ -13,7 +13,7 @@ joined s r = record { position = r.position; items = s.items + r.items; cycles =
 abbrev pub CutInTwo : Type 0
 CutInTwo =
     (machine : Machine) (base : ℕ) (l : Listing) (p : Position) (a b : ℕ)
-    → (run_of machine base l a (resuming l p)).course ≡ goesOn
+    → (run_of machine base l a (resuming l p)).course ≡ goes_on
     → run_of machine base l (a + b) (resuming l p)
     ≡ joined (run_of machine base l a (resuming l p)) (run_of machine base l b (resuming l (run_of machine base l a (resuming l p)).position))
 

@@ -3,8 +3,8 @@ use Rattle.std.specs.Prelude.{ℕ}
 use Rattle.list_machine.specs.declared.Outside.{Outside}
 use Rattle.list_machine.specs.declared.Outside.TheVariants.{WritesImage, NoEntry, NoHandler, PastEnd}
 
-abbrev pub outsideNumber : Outside → ℕ
-outsideNumber WritesImage = 1
-outsideNumber NoEntry = 2
-outsideNumber NoHandler = 3
-outsideNumber PastEnd = 4
+abbrev pub outside_number : Outside → ℕ
+outside_number WritesImage = 1
+outside_number NoEntry = 2
+outside_number NoHandler = 3
+outside_number PastEnd = 4

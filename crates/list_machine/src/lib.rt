@@ -13,7 +13,7 @@ pub enum Outside {
 }
 
 pub fn outside_number(why: Outside) -> u32
-    ensures { result ≡ outsides.outsideNumber why }
+    ensures { result ≡ outsides.outside_number why }
 {
     match why {
         Outside::WritesImage => 1,

@@ -4,97 +4,97 @@ use mathlib.Core.List.{List}
 use Prim.Native.Nat.{ℕ, ◌+◌, ◌*◌, ◌%◌, ◌^◌, ◌<◌}
 use native.Mathlib.Omega.{arith}
 use lib.ListN.{length, get_or}
-use Rattle.cell.specs.Memory.{cellCount}
+use Rattle.cell.specs.Memory.{cell_count}
 use Rattle.cell.specs.Place.{address}
 use Rattle.cell.specs.declared.Address.{Address}
 use Rattle.cell.specs.declared.CellCount.{CellCount}
 use Rattle.machine.specs.declared.Machine.{Machine}
 use Rattle.machine.specs.declared.Registers.{Registers}
-use Rattle.instruction.specs.Plain.{plainAt}
-use Rattle.instruction.specs.Taking.{takingAt}
-use Rattle.instruction.specs.Dispatch.{decodeOf}
+use Rattle.instruction.specs.Plain.{plain_at}
+use Rattle.instruction.specs.Taking.{taking_at}
+use Rattle.instruction.specs.Dispatch.{decode_of}
 use Rattle.instruction.specs.declared.OperandForm.TheVariants as form
 use Rattle.pack_layout.specs.Kinds as sorts
 use Rattle.pack_layout.specs.declared.Class.TheVariants as class
 use Rattle.pack_layout.specs.Listing.{listed}
 use Rattle.pack_layout.specs.Packing.{distance, address_of, behind}
-use Rattle.list_machine.specs.ListMachine.{registersAt, effectAt}
-use Rattle.list_shapes.specs.Shapes.{takingKind, Proposed}
+use Rattle.list_machine.specs.ListMachine.{registers_at, effect_at}
+use Rattle.list_shapes.specs.Shapes.{taking_kind, Proposed}
 use Rattle.list_shapes.specs.declared.Shape.{Shape}
-use Rattle.list_tables.specs.Tables.{place_in, nextIn, behindIn, Settled}
+use Rattle.list_tables.specs.Tables.{place_in, next_in, behind_in, Settled}
 use Rattle.list_tables.specs.declared.Image.{Image}
-use Rattle.list_tables.proofs.TableLaws.{room, place-low, behind-room, next-is, behind-is, target-in, target_is}
-use Rattle.list_proposing.specs.Stands.{position_of, registersFor}
+use Rattle.list_tables.proofs.TableLaws.{room, place_low, behind_room, next_is, behind_is, target_in, target_is}
+use Rattle.list_proposing.specs.Stands.{position_of, registers_for}
 use Rattle.list_proposing.specs.declared.Stand.{Stand}
-use Rattle.list_proposing.proofs.KindLaws.{lands, plain-effect, literal-effect, branch-effect}
+use Rattle.list_proposing.proofs.KindLaws.{lands, plain_effect, literal_effect, branch_effect}
 
 module _ (kinds operands table : List ℕ) (image : Image) (s : Settled kinds operands table image) (machine : Machine) (m : List ℕ)
     (st : Stand) (h : st.item.0 < length kinds) where
   -- the registers of the item, as the code has them
   abbrev pub regs : Registers
-  regs = registersFor (image.base.0 + 4 * nextIn table st.item.0) 0 st
+  regs = registers_for (image.base.0 + 4 * next_in table st.item.0) 0 st
 
-  pub regs-is : regs ≡ registersAt machine image.base.0 (listed kinds operands) (position_of m st)
-  regs-is = rw (next-is kinds operands table image s st.item.0 h)
+  pub regs_is : regs ≡ registers_at machine image.base.0 (listed kinds operands) (position_of m st)
+  regs_is = rw (next_is kinds operands table image s st.item.0 h)
 
   -- a branch leads to its target's address from behind it
-  branch-reaches : sorts.classOf (get_or kinds st.item.0 0) ≡ class.Branch → (ep a : ℕ)
-      → ep ≡ image.base.0 + 4 * behindIn table st.item.0
-      → a ≡ distance (behindIn table st.item.0) (place_in table (get_or operands st.item.0 0))
+  branch_reaches : sorts.class_of (get_or kinds st.item.0 0) ≡ class.Branch → (ep a : ℕ)
+      → ep ≡ image.base.0 + 4 * behind_in table st.item.0
+      → a ≡ distance (behind_in table st.item.0) (place_in table (get_or operands st.item.0 0))
       → (ep + 4 * a) % 2 ^ 32 ≡ address_of image.base.0 (listed kinds operands) (get_or operands st.item.0 0)
-  branch-reaches q ep a e f =
+  branch_reaches q ep a e f =
       rw (e, f)
-      (lands image.base.0 (behindIn table st.item.0) (place_in table (get_or operands st.item.0 0))
-      (omega (arith, (room kinds operands table image s).2)) (behind-room kinds operands table image s st.item.0 h)
-      (place-low kinds operands table image s (get_or operands st.item.0 0) (target-in kinds operands table image s st.item.0 h q))
+      (lands image.base.0 (behind_in table st.item.0) (place_in table (get_or operands st.item.0 0))
+      (omega (arith, (room kinds operands table image s).2)) (behind_room kinds operands table image s st.item.0 h)
+      (place_low kinds operands table image s (get_or operands st.item.0 0) (target_in kinds operands table image s st.item.0 h q))
       ∙ target_is kinds operands table image s st.item.0 h q)
 
   -- what the item asks for, by the class of its kind
   abbrev Asks : Shape → Type 0
-  Asks shape = Proposed machine m shape (effectAt machine image.base.0 (listed kinds operands) (position_of m st))
+  Asks shape = Proposed machine m shape (effect_at machine image.base.0 (listed kinds operands) (position_of m st))
 
-  pub asks-plain : (shape : Shape) (r : Registers) → r ≡ regs → sorts.classOf (get_or kinds st.item.0 0) ≡ class.Plain
-      → Proposed machine m shape (plainAt machine (decodeOf (get_or kinds st.item.0 0)) m r) → Asks shape
-  asks-plain shape r e q p =
-      record { effect = p.effect ∙ plain-effect machine image.base.0 (listed kinds operands) (position_of m st) r (e ∙ regs-is) q; fits = p.fits }
+  pub asks_plain : (shape : Shape) (r : Registers) → r ≡ regs → sorts.class_of (get_or kinds st.item.0 0) ≡ class.Plain
+      → Proposed machine m shape (plain_at machine (decode_of (get_or kinds st.item.0 0)) m r) → Asks shape
+  asks_plain shape r e q p =
+      record { effect = p.effect ∙ plain_effect machine image.base.0 (listed kinds operands) (position_of m st) r (e ∙ regs_is) q; fits = p.fits }
 
   -- an item that takes an operand: the registers r, at the address behind it, with x in A
-  module _ (shape : Shape) (r : Registers) (ep : Address) (x : ℕ) (back : CellCount) (made : r ≡ registersFor ep.0 x st)
-      (there : ep ≡ address (image.base.0 + 4 * back.0)) (follows : back ≡ cellCount (behindIn table st.item.0))
-      (p : Proposed machine m shape (takingAt machine form.Immediate (takingKind (get_or kinds st.item.0 0)) m r)) where
-    ep-is : r.ep ≡ image.base.0 + 4 * behindIn table st.item.0
-    ep-is = rw (made, there, follows)
+  module _ (shape : Shape) (r : Registers) (ep : Address) (x : ℕ) (back : CellCount) (made : r ≡ registers_for ep.0 x st)
+      (there : ep ≡ address (image.base.0 + 4 * back.0)) (follows : back ≡ cell_count (behind_in table st.item.0))
+      (p : Proposed machine m shape (taking_at machine form.Immediate (taking_kind (get_or kinds st.item.0 0)) m r)) where
+    ep_is : r.ep ≡ image.base.0 + 4 * behind_in table st.item.0
+    ep_is = rw (made, there, follows)
 
-    sp-is : r.sp ≡ st.sp
-    sp-is = rw made
+    sp_is : r.sp ≡ st.sp
+    sp_is = rw made
 
-    rp-is : r.rp ≡ st.rp
-    rp-is = rw made
+    rp_is : r.rp ≡ st.rp
+    rp_is = rw made
 
-    a-is : r.a ≡ x
-    a-is = rw made
+    a_is : r.a ≡ x
+    a_is = rw made
 
-    behind-it : r.ep ≡ behind image.base.0 (listed kinds operands) st.item.0
-    behind-it = ep-is ∙ behind-is kinds operands table image s st.item.0 h
+    behind_it : r.ep ≡ behind image.base.0 (listed kinds operands) st.item.0
+    behind_it = ep_is ∙ behind_is kinds operands table image s st.item.0 h
 
-    pub asks-literal : sorts.classOf (get_or kinds st.item.0 0) ≡ class.Literal → x ≡ get_or operands st.item.0 0 → Asks shape
-    asks-literal q e =
+    pub asks_literal : sorts.class_of (get_or kinds st.item.0 0) ≡ class.Literal → x ≡ get_or operands st.item.0 0 → Asks shape
+    asks_literal q e =
         record {
           effect =
               p.effect
-              ∙ literal-effect machine image.base.0 (listed kinds operands) (position_of m st) r sp-is rp-is behind-it
-              (get_or kinds st.item.0 0) q (a-is ∙ e);
+              ∙ literal_effect machine image.base.0 (listed kinds operands) (position_of m st) r sp_is rp_is behind_it
+              (get_or kinds st.item.0 0) q (a_is ∙ e);
           fits = p.fits;
         }
 
-    pub asks-branch : sorts.classOf (get_or kinds st.item.0 0) ≡ class.Branch → (to : CellCount) → x ≡ distance back.0 to.0
-        → to ≡ cellCount (place_in table (get_or operands st.item.0 0)) → Asks shape
-    asks-branch q to e f =
-        let g : r.a ≡ distance (behindIn table st.item.0) (place_in table (get_or operands st.item.0 0)) = a-is ∙ e ∙ rw (follows, f) in
+    pub asks_branch : sorts.class_of (get_or kinds st.item.0 0) ≡ class.Branch → (to : CellCount) → x ≡ distance back.0 to.0
+        → to ≡ cell_count (place_in table (get_or operands st.item.0 0)) → Asks shape
+    asks_branch q to e f =
+        let g : r.a ≡ distance (behind_in table st.item.0) (place_in table (get_or operands st.item.0 0)) = a_is ∙ e ∙ rw (follows, f) in
         record {
           effect =
               p.effect
-              ∙ branch-effect machine image.base.0 (listed kinds operands) (position_of m st) r sp-is rp-is behind-it
-              (get_or kinds st.item.0 0) q (branch-reaches q r.ep r.a ep-is g);
+              ∙ branch_effect machine image.base.0 (listed kinds operands) (position_of m st) r sp_is rp_is behind_it
+              (get_or kinds st.item.0 0) q (branch_reaches q r.ep r.a ep_is g);
           fits = p.fits;
         }

@@ -10,8 +10,8 @@ abbrev pub position_of : List ℕ → Stand → lists.Position
 position_of m s = record { item = s.item.0; ran = s.ran; memory = m; sp = s.sp; rp = s.rp }
 
 -- the registers at an address, with the stack pointers of s
-abbrev pub registersFor : ℕ → ℕ → Stand → Registers
-registersFor ep a s = record { ep = ep; a = a; sp = s.sp; rp = s.rp }
+abbrev pub registers_for : ℕ → ℕ → Stand → Registers
+registers_for ep a s = record { ep = ep; a = a; sp = s.sp; rp = s.rp }
 
 -- in front of an item, with the stack pointers of r
 abbrev pub arrived : ItemNumber → Bool → Registers → Stand

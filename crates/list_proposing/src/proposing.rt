@@ -23,7 +23,7 @@ use pack_rounds::measure::distance_of;
 
 // The registers of an instruction at an address.
 fn registers_for(ep: Address, a: u32, s: Stand) -> Registers
-    ensures { result ≡ stands.registersFor ep.0 a s }
+    ensures { result ≡ stands.registers_for ep.0 a s }
 {
     Registers {
         ep: ep.0,
@@ -36,8 +36,8 @@ fn registers_for(ep: Address, a: u32, s: Stand) -> Registers
 // The registers at an item: its EP value, and no A.
 pub fn registers_at(table: &[u32], base: Address, s: Stand) -> Registers
     requires item_bound { (s.item.0 < tables.rows table.now) × (tables.rows table.now ≤ 4096) }
-    requires item_bound_2 { base.0 + 4 * tables.nextIn table.now s.item.0 < 2 ^ 32 }
-    ensures { result ≡ stands.registersFor (base.0 + 4 * tables.nextIn table.now s.item.0) 0 s }
+    requires item_bound_2 { base.0 + 4 * tables.next_in table.now s.item.0 < 2 ^ 32 }
+    ensures { result ≡ stands.registers_for (base.0 + 4 * tables.next_in table.now s.item.0) 0 s }
 {
     let item = s.item;
     registers_for(address_at(base, next_of(table, item)), 0, s)
@@ -57,7 +57,7 @@ pub fn shape_of(
     requires lent { (Lent (length memory.now)) × (places.Fits machine (length memory.now)) }
     requires settled { tables.Settled kinds.now operands.now table.now image }
     requires item_in_bounds { s.item.0 < length kinds.now }
-    ensures { shapes.Proposed machine memory.now result (lists.effectAt machine image.base.0 (listed kinds.now operands.now) (stands.position_of memory.now s)) }
+    ensures { shapes.Proposed machine memory.now result (lists.effect_at machine image.base.0 (listed kinds.now operands.now) (stands.position_of memory.now s)) }
 {
     let item = s.item;
     let i = item.0 as usize;

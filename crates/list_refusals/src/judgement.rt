@@ -17,7 +17,7 @@ pub fn judge_begin(
     kinds: &[u8],
     operands: &[u32],
 ) -> Judged
-    ensures { result ≡ judging.judgeBegin length order areas table kinds.now operands.now }
+    ensures { result ≡ judging.judge_begin length order areas table kinds.now operands.now }
 {
     match judge_bounded(length, order, areas, table) {
         Judged::Refused(r) => Judged::Refused(r),
@@ -28,7 +28,7 @@ pub fn judge_begin(
 // What is judged once the size of the image is known; room is the caller's judgement of what else was lent.
 pub fn judge_image(base: Address, cells: CellCount, room: Judged) -> Judged
     requires { cells.0 ≤ 8192 }
-    ensures { result ≡ judging.judgeImage base.0 cells.0 room }
+    ensures { result ≡ judging.judge_image base.0 cells.0 room }
 {
     match judge_place(base, cells) {
         Judged::Refused(r) => Judged::Refused(r),

@@ -6,69 +6,69 @@ use mathlib.Core.Logic.{◌≢◌}
 use Prim.Native.Nat.{ℕ, ◌+◌}
 use native.Mathlib.Omega.{arith}
 use lib.ListN.{length}
-use Rattle.cell.proofs.JudgementLaws.{refusal-some}
+use Rattle.cell.proofs.JudgementLaws.{refusal_some}
 use Rattle.cell.specs.declared.Judged.{Judged}
 use Rattle.cell.specs.declared.Judged.TheVariants.{Passed, Refused}
 use Rattle.machine.specs.declared.Machine.{Machine}
 use Rattle.bounds.specs.Bounds.{machine_of}
 use Rattle.pack_layout.specs.Listing.{Listing, listed}
-use Rattle.list_machine.specs.Runs.{Course, goesOn, stoppedBy, stoodOutside, is_over, Run, run_of, resuming}
+use Rattle.list_machine.specs.Runs.{Course, goes_on, stopped_by, stood_outside, is_over, Run, run_of, resuming}
 use Rattle.list_machine.proofs.Lengths.{run_long}
-use Rattle.list_machine.proofs.Cutting.{cut-in-two, stays-over}
+use Rattle.list_machine.proofs.Cutting.{cut_in_two, stays_over}
 use Rattle.list_proposing.specs.Stands.{position_of}
 use Rattle.list_proposing.specs.declared.Stand.{Stand}
-use Rattle.list_refusals.specs.Judging.{judgeFollow}
-use Rattle.list_counting.specs.Endings.{endingNumber}
-use Rattle.list_following.specs.Follow.{FollowResult, followedTo, endingOf, ranOf, followIf, resumeIn}
-use Rattle.list_run.specs.Cutting.{joinedTo, Cut}
+use Rattle.list_refusals.specs.Judging.{judge_follow}
+use Rattle.list_counting.specs.Endings.{ending_number}
+use Rattle.list_following.specs.Follow.{FollowResult, followed_to, ending_of, ran_of, follow_if, resume_in}
+use Rattle.list_run.specs.Cutting.{joined_to, Cut}
 use Rattle.list_following.specs.declared.Followed.TheVariants as followed
 
 -- 0 is a run that goes on, any other number one that is over
-goes_on : (c : Course) → endingNumber (endingOf c) ≡ 0 → c ≡ goesOn
-goes_on goesOn e = refl
-goes_on (stoppedBy x) e = absurd (omega arith)
-goes_on (stoodOutside why) e = absurd (omega arith)
+goes_on_lem : (c : Course) → ending_number (ending_of c) ≡ 0 → c ≡ goes_on
+goes_on_lem goes_on e = refl
+goes_on_lem (stopped_by x) e = absurd (omega arith)
+goes_on_lem (stood_outside why) e = absurd (omega arith)
 
-is-over : (c : Course) → endingNumber (endingOf c) ≢ 0 → is_over c ≡ true
-is-over goesOn h = absurd (h refl)
-is-over (stoppedBy x) h = refl
-is-over (stoodOutside why) h = refl
+is_over_lem : (c : Course) → ending_number (ending_of c) ≢ 0 → is_over c ≡ true
+is_over_lem goes_on h = absurd (h refl)
+is_over_lem (stopped_by x) h = refl
+is_over_lem (stood_outside why) h = refl
 
 module _ (machine : Machine) (base : ℕ) (l : Listing) (m : List ℕ) (start : Stand) (a b : ℕ) where
   abbrev run : ℕ → Run
   run k = run_of machine base l k (resuming l (position_of m start))
 
   -- by the judgement, which both calls share
-  cut-if : (j : Judged) → (followIf j machine base l m start a).number ≡ 0
-      → followIf j machine base l m start (a + b)
-      ≡ joinedTo start (followIf j machine base l m start a)
-      (followIf j machine base l (followIf j machine base l m start a).memory (followIf j machine base l m start a).stand b)
-  cut-if (Refused r) e = absurd (refusal-some r e)
-  cut-if Passed e =
-      ap (λ (r : Run). followedTo r.position.memory start (followed.Run (ranOf r)))
-      (cut-in-two machine base l (position_of m start) a b (goes_on (run a).course e))
+  cut_if : (j : Judged) → (follow_if j machine base l m start a).number ≡ 0
+      → follow_if j machine base l m start (a + b)
+      ≡ joined_to start (follow_if j machine base l m start a)
+      (follow_if j machine base l (follow_if j machine base l m start a).memory (follow_if j machine base l m start a).stand b)
+  cut_if (Refused r) e = absurd (refusal_some r e)
+  cut_if Passed e =
+      ap (λ (r : Run). followed_to r.position.memory start (followed.Run (ran_of r)))
+      (cut_in_two machine base l (position_of m start) a b (goes_on_lem (run a).course e))
 
-  over-if : (j : Judged) → (followIf j machine base l m start a).number ≢ 0
-      → followIf j machine base l m start (a + b) ≡ followIf j machine base l m start a
-  over-if (Refused r) h = refl
-  over-if Passed h =
-      ap (λ (r : Run). followedTo r.position.memory start (followed.Run (ranOf r)))
-      (stays-over machine base l (position_of m start) a b (is-over (run a).course h))
+  over_if_lem : (j : Judged) → (follow_if j machine base l m start a).number ≢ 0
+      → follow_if j machine base l m start (a + b) ≡ follow_if j machine base l m start a
+  over_if_lem (Refused r) h = refl
+  over_if_lem Passed h =
+      ap (λ (r : Run). followed_to r.position.memory start (followed.Run (ran_of r)))
+      (stays_over machine base l (position_of m start) a b (is_over_lem (run a).course h))
 
   -- a call leaves the memory's length
-  kept-long : (j : Judged) → length (followIf j machine base l m start a).memory ≡ length m
-  kept-long (Refused r) = refl
-  kept-long Passed = run_long machine base l a (resuming l (position_of m start))
+  kept_long : (j : Judged) → length (follow_if j machine base l m start a).memory ≡ length m
+  kept_long (Refused r) = refl
+  kept_long Passed = run_long machine base l a (resuming l (position_of m start))
 
 pub cut : Cut
-unfolding resumeIn
+unfolding resume_in
 cut order areas table kinds operands base m start a b =
-    let j : ℕ → Judged = λ n. judgeFollow n order areas table kinds operands base Passed in
+    let j : ℕ → Judged = λ n. judge_follow n order areas table kinds operands base Passed in
     let machine : ℕ → Machine = λ n. machine_of order areas table n in
     let l : Listing = listed kinds operands in
-    let s : FollowResult = followIf (j (length m)) (machine (length m)) base l m start a in (
-      λ e. cut-if (machine (length m)) base l m start a b (j (length m)) e
-          ∙ ap (λ (n : ℕ). joinedTo start s (followIf (j n) (machine n) base l s.memory s.stand b))
-          (sym (kept-long (machine (length m)) base l m start a b (j (length m)))),
-      λ h. over-if (machine (length m)) base l m start a b (j (length m)) h,
+    let s : FollowResult = follow_if (j (length m)) (machine (length m)) base l m start a in (
+      λ e. cut_if (machine (length m)) base l m start a b (j (length m)) e
+          ∙ ap (λ (n : ℕ). joined_to start s (follow_if (j n) (machine n) base l s.memory s.stand b))
+          (sym (kept_long (machine (length m)) base l m start a b (j (length m)))),
+      λ h. over_if_lem (machine (length m)) base l m start a b (j (length m)) h,
     )

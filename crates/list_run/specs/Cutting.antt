@@ -5,29 +5,29 @@ use Rattle.areas.specs.declared.Areas.{Areas}
 use Rattle.list_proposing.specs.declared.Stand.{Stand}
 use Rattle.list_following.specs.declared.Followed.{Followed}
 use Rattle.list_following.specs.declared.Followed.TheVariants as followed
-use Rattle.list_following.specs.Follow.{FollowResult, followedTo, resumeOf}
+use Rattle.list_following.specs.Follow.{FollowResult, followed_to, resume_of}
 
 -- an answer, with the items and cycles of the call before it
-abbrev pub withCounts : ℕ → ℕ → Followed → Followed
-withCounts items cycles (followed.Refused r) = followed.Refused r
-withCounts items cycles (followed.Run x) =
+abbrev pub with_counts : ℕ → ℕ → Followed → Followed
+with_counts items cycles (followed.Refused r) = followed.Refused r
+with_counts items cycles (followed.Run x) =
     followed.Run (record { stand = x.stand; items = items + x.items; cycles = cycles + x.cycles; ending = x.ending })
 
 -- two calls as one: what the second left, with the counts of both
-abbrev pub joinedTo : Stand → FollowResult → FollowResult → FollowResult
-joinedTo start s t = followedTo t.memory start (withCounts s.items s.cycles t.answer)
+abbrev pub joined_to : Stand → FollowResult → FollowResult → FollowResult
+joined_to start s t = followed_to t.memory start (with_counts s.items s.cycles t.answer)
 
 module _ (order : ℕ) (areas : Areas) (table : Table) (kinds operands : List ℕ) (base : ℕ) (m : List ℕ) (start : Stand) (a b : ℕ) where
   abbrev pub first : FollowResult
-  first = resumeOf order areas table kinds operands base m start a
+  first = resume_of order areas table kinds operands base m start a
 
   abbrev pub whole : FollowResult
-  whole = resumeOf order areas table kinds operands base m start (a + b)
+  whole = resume_of order areas table kinds operands base m start (a + b)
 
   -- a call of a items that goes on, taken up from the memory, item, SP and RP that it left, is the call of a + b items
   abbrev pub CutAnswer : Type 0
   CutAnswer =
-      first.number ≡ 0 → whole ≡ joinedTo start first (resumeOf order areas table kinds operands base first.memory first.stand b)
+      first.number ≡ 0 → whole ≡ joined_to start first (resume_of order areas table kinds operands base first.memory first.stand b)
 
   -- any other answer is that of every larger number of items
   abbrev pub OverAnswer : Type 0

@@ -4,8 +4,8 @@ use Prim.{Unit}
 use Rattle.machine.specs.declared.Machine.{Machine}
 use Rattle.cycles.specs.Counts.{begun}
 use Rattle.pack_layout.specs.Listing.{Listing}
-use Rattle.demand3.specs.Demand3.{Holds, firstRegisters, Agree}
-use Rattle.list_counting.specs.Outcomes.{runAs}
+use Rattle.demand3.specs.Demand3.{Holds, first_registers, Agree}
+use Rattle.list_counting.specs.Outcomes.{run_as}
 use Rattle.list_following.specs.declared.Followed.{Followed}
 use Rattle.list_following.specs.declared.Followed.TheVariants as followed
 
@@ -13,4 +13,4 @@ use Rattle.list_following.specs.declared.Followed.TheVariants as followed
 abbrev pub AsPacked : Machine → ℕ → Listing → List ℕ → ℕ → ℕ → List ℕ → Followed → Type 0
 AsPacked machine base l m sp rp after (followed.Refused r) = Unit {0}
 AsPacked machine base l m sp rp after (followed.Run x) =
-    Holds machine base l m → Agree machine (begun m (firstRegisters machine base m sp rp)) (runAs after x)
+    Holds machine base l m → Agree machine (begun m (first_registers machine base m sp rp)) (run_as after x)

@@ -28,7 +28,7 @@ pub fn list_resume(
     rp: u32,
     items: u32,
 ) -> Followed
-    ensures { follows.followedTo memory.new (follows.standAt item.0 ran sp rp) result ≡ follows.resumeOf order areas table kinds.now operands.now base.0 memory.old (follows.standAt item.0 ran sp rp) items }
+    ensures { follows.followed_to memory.new (follows.stand_at item.0 ran sp rp) result ≡ follows.resume_of order areas table kinds.now operands.now base.0 memory.old (follows.stand_at item.0 ran sp rp) items }
 {
     let start = Stand {
         item: item,
@@ -63,7 +63,7 @@ pub fn list_run(
     rp: u32,
     items: u32,
 ) -> Followed
-    ensures result_after { follows.followedTo memory.new (follows.standAt 0 false sp rp) result ≡ follows.followOf order areas table kinds.now operands.now base.0 memory.old sp rp items }
+    ensures result_after { follows.followed_to memory.new (follows.stand_at 0 false sp rp) result ≡ follows.follow_of order areas table kinds.now operands.now base.0 memory.old sp rp items }
     ensures as_packed { packed.AsPacked (machine_of order areas table (length memory.old)) base.0 (listed kinds.now operands.now) memory.old sp rp memory.new result }
 {
     list_resume(

@@ -8,25 +8,25 @@ use native.Mathlib.Omega.{arith}
 use borrow.Author.Tests.{lt-ltb, le-ltb}
 use lib.Dec.{ltb}
 use Rattle.cell.specs.Memory.{cell_at}
-use Rattle.machine.specs.Effects.{Store, store_of, rollStores, rolled}
-use Rattle.machine.specs.Commits.{firstBad, places_of, touches}
+use Rattle.machine.specs.Effects.{Store, store_of, roll_stores, rolled}
+use Rattle.machine.specs.Commits.{first_bad, places_of, touches}
 use Rattle.machine.specs.declared.Machine.{Machine}
 use Rattle.machine.specs.declared.Access.{Access}
 use Rattle.machine.specs.declared.Write.{Write}
 use Rattle.machine.proofs.CommitLaws.{first_good}
 
 -- the test of one range of bytes against another
-pub test-true : (a w lo hi : ℕ) → a < hi → lo < a + w → (ltb a hi && ltb lo (a + w)) ≡ true
-test-true a w lo hi h k = simp (lt-ltb _ _ h, lt-ltb _ _ k)
+pub test_true : (a w lo hi : ℕ) → a < hi → lo < a + w → (ltb a hi && ltb lo (a + w)) ≡ true
+test_true a w lo hi h k = simp (lt-ltb _ _ h, lt-ltb _ _ k)
 
-pub test-left : (a w lo hi : ℕ) → hi ≤ a → (ltb a hi && ltb lo (a + w)) ≡ false
-test-left a w lo hi h = simp (le-ltb _ _ h)
+pub test_left : (a w lo hi : ℕ) → hi ≤ a → (ltb a hi && ltb lo (a + w)) ≡ false
+test_left a w lo hi h = simp (le-ltb _ _ h)
 
-pub test-right : (a w lo hi : ℕ) → a < hi → a + w ≤ lo → (ltb a hi && ltb lo (a + w)) ≡ false
-test-right a w lo hi h k = simp (lt-ltb _ _ h, le-ltb _ _ k)
+pub test_right : (a w lo hi : ℕ) → a < hi → a + w ≤ lo → (ltb a hi && ltb lo (a + w)) ≡ false
+test_right a w lo hi h k = simp (lt-ltb _ _ h, le-ltb _ _ k)
 
-or-true : (a b : Bool) → a ≡ true → (a || b) ≡ true
-or-true a b e = rw e
+or_true : (a b : Bool) → a ≡ true → (a || b) ≡ true
+or_true a b e = rw e
 
 or_left_false : (a b : Bool) → a ≡ false → (a || b) ≡ b
 or_left_false a b e = rw e
@@ -39,50 +39,50 @@ module _ (order : ℕ) (m : List ℕ) (top last lo hi : ℕ) (some : lo < hi) wh
       go : Dec (top + w < hi) → Dec (lo < top + w) → Dec (lo < top + w + 4) → Dec (top < hi)
           → ((ltb (top + w) hi && ltb lo ((top + w) + 4)) || (ltb top hi && ltb lo (top + w))) ≡ (ltb top hi && ltb lo (top + (w + 4)))
       go (yes a) b (yes c) d =
-          or-true _ _ (test-true (top + w) 4 lo hi a c) ∙ sym (test-true top (w + 4) lo hi (omega arith) (omega arith))
+          or_true _ _ (test_true (top + w) 4 lo hi a c) ∙ sym (test_true top (w + 4) lo hi (omega arith) (omega arith))
       go (yes a) b (no c) d =
-          or_left_false _ _ (test-right (top + w) 4 lo hi a (omega arith))
-          ∙ test-right top w lo hi (omega arith) (omega arith)
-          ∙ sym (test-right top (w + 4) lo hi (omega arith) (omega arith))
+          or_left_false _ _ (test_right (top + w) 4 lo hi a (omega arith))
+          ∙ test_right top w lo hi (omega arith) (omega arith)
+          ∙ sym (test_right top (w + 4) lo hi (omega arith) (omega arith))
       go (no a) b c (no d) =
-          or_left_false _ _ (test-left (top + w) 4 lo hi (omega arith))
-          ∙ test-left top w lo hi (omega arith)
-          ∙ sym (test-left top (w + 4) lo hi (omega arith))
+          or_left_false _ _ (test_left (top + w) 4 lo hi (omega arith))
+          ∙ test_left top w lo hi (omega arith)
+          ∙ sym (test_left top (w + 4) lo hi (omega arith))
       go (no a) b c (yes d) =
-          or_left_false _ _ (test-left (top + w) 4 lo hi (omega arith))
-          ∙ test-true top w lo hi d (omega arith)
-          ∙ sym (test-true top (w + 4) lo hi d (omega arith))
+          or_left_false _ _ (test_left (top + w) 4 lo hi (omega arith))
+          ∙ test_true top w lo hi d (omega arith)
+          ∙ sym (test_true top (w + 4) lo hi d (omega arith))
 
-  roll-touches : (u : ℕ) → touches lo hi (rollStores order m top last u) ≡ (ltb top hi && ltb lo (top + (4 * u + 4)))
-  unfolding touches rollStores
-  roll-touches zero = or-false _
-  roll-touches (suc u) =
+  roll_touches : (u : ℕ) → touches lo hi (roll_stores order m top last u) ≡ (ltb top hi && ltb lo (top + (4 * u + 4)))
+  unfolding touches roll_stores
+  roll_touches zero = or-false _
+  roll_touches (suc u) =
       ap (λ (b : Bool). (ltb (top + 4 * suc u) hi && ltb lo ((top + 4 * suc u) + 4)) || b)
-      (roll-touches u ∙ ap (λ (x : ℕ). ltb top hi && ltb lo (top + x)) (let e : 4 * u + 4 ≡ 4 * suc u = omega arith in e))
+      (roll_touches u ∙ ap (λ (x : ℕ). ltb top hi && ltb lo (top + x)) (let e : 4 * u + 4 ≡ 4 * suc u = omega arith in e))
       ∙ more (4 * suc u)
 
 -- ROLL writes the cells from the top one to the deepest, or none
-pub rolled-touches : (order : ℕ) (m : List ℕ) (top u lo hi : ℕ) → lo < hi
+pub rolled_touches : (order : ℕ) (m : List ℕ) (top u lo hi : ℕ) → lo < hi
     → (ltb 0 u && (ltb top hi && ltb lo (top + (4 * u + 4)))) ≡ touches lo hi (rolled order m top u)
 unfolding touches
-rolled-touches order m top zero lo hi h = refl
-rolled-touches order m top (suc u) lo hi h =
+rolled_touches order m top zero lo hi h = refl
+rolled_touches order m top (suc u) lo hi h =
     ap (λ (b : Bool). b && (ltb top hi && ltb lo (top + (4 * suc u + 4)))) (lt-ltb 0 (suc u) (omega arith))
-    ∙ sym (roll-touches order m top (cell_at order m (top + 4 * suc u)) lo hi h (suc u))
+    ∙ sym (roll_touches order m top (cell_at order m (top + 4 * suc u)) lo hi h (suc u))
 
 -- one cell, whatever it is written for
-pub touches-one : (access : Access) (w : Write) (lo hi : ℕ)
+pub touches_one : (access : Access) (w : Write) (lo hi : ℕ)
     → (ltb w.at.0 hi && ltb lo (w.at.0 + 4)) ≡ touches lo hi (store_of access w ∷ [])
 unfolding touches
-touches-one access w lo hi = sym (or-false _)
+touches_one access w lo hi = sym (or-false _)
 
 -- one store more
-pub places-more : (machine : Machine) (len : ℕ) (s : Store) (ss : List Store)
-    → firstBad (places_of machine len (s ∷ [])) (places_of machine len ss) ≡ places_of machine len (s ∷ ss)
+pub places_more : (machine : Machine) (len : ℕ) (s : Store) (ss : List Store)
+    → first_bad (places_of machine len (s ∷ [])) (places_of machine len ss) ≡ places_of machine len (s ∷ ss)
 unfolding places_of
-places-more machine len s ss = rw first_good
+places_more machine len s ss = rw first_good
 
-pub touches-more : (lo hi : ℕ) (s : Store) (ss : List Store)
+pub touches_more : (lo hi : ℕ) (s : Store) (ss : List Store)
     → (touches lo hi (s ∷ []) || touches lo hi ss) ≡ touches lo hi (s ∷ ss)
 unfolding touches
-touches-more lo hi s ss = rw or-false
+touches_more lo hi s ss = rw or-false

@@ -4,59 +4,59 @@ use Rattle.std.specs.Prelude.{◌≡◌, List, [], ◌∷◌, ℕ, eqb, length}
 use Prim.{Unit}
 use Rattle.cell.specs.Choice.{if}
 use Rattle.cell.specs.declared.Checked.{Checked}
-use Rattle.machine.specs.Places.{accessTo}
-use Rattle.machine.specs.Effects.{Store, Effect, effect_of, store_of, byteStores, rolled, Reached}
-use Rattle.machine.specs.Commits.{firstBad, faultOf, places_of}
+use Rattle.machine.specs.Places.{access_to}
+use Rattle.machine.specs.Effects.{Store, Effect, effect_of, store_of, byte_stores, rolled, Reached}
+use Rattle.machine.specs.Commits.{first_bad, fault_of, places_of}
 use Rattle.machine.specs.declared.Machine.{Machine}
 use Rattle.machine.specs.declared.Access.TheVariants.{DataWrite, ReturnWrite}
 use Rattle.machine.specs.declared.Then.{Then}
-use Rattle.instruction.specs.Taking.{Taking, branch, questionBranch, call, loop, plusLoop, literal}
+use Rattle.instruction.specs.Taking.{Taking, branch, question_branch, call, loop, plus_loop, literal}
 use Rattle.list_shapes.specs.declared.Shape.{Shape}
 use Rattle.list_shapes.specs.declared.Shape.TheVariants.{None, One, Maybe, Two, Three, Byte, Roll, TwoReturns}
 
-abbrev pub shapeSp : Shape → ℕ
-shapeSp (None e) = e.sp
-shapeSp (One e) = e.sp
-shapeSp (Maybe e) = e.sp
-shapeSp (Two e) = e.sp
-shapeSp (Three e) = e.sp
-shapeSp (Byte e) = e.sp
-shapeSp (Roll e) = e.sp
-shapeSp (TwoReturns e) = e.sp
+abbrev pub shape_sp : Shape → ℕ
+shape_sp (None e) = e.sp
+shape_sp (One e) = e.sp
+shape_sp (Maybe e) = e.sp
+shape_sp (Two e) = e.sp
+shape_sp (Three e) = e.sp
+shape_sp (Byte e) = e.sp
+shape_sp (Roll e) = e.sp
+shape_sp (TwoReturns e) = e.sp
 
-abbrev pub shapeRp : Shape → ℕ
-shapeRp (None e) = e.rp
-shapeRp (One e) = e.rp
-shapeRp (Maybe e) = e.rp
-shapeRp (Two e) = e.rp
-shapeRp (Three e) = e.rp
-shapeRp (Byte e) = e.rp
-shapeRp (Roll e) = e.rp
-shapeRp (TwoReturns e) = e.rp
+abbrev pub shape_rp : Shape → ℕ
+shape_rp (None e) = e.rp
+shape_rp (One e) = e.rp
+shape_rp (Maybe e) = e.rp
+shape_rp (Two e) = e.rp
+shape_rp (Three e) = e.rp
+shape_rp (Byte e) = e.rp
+shape_rp (Roll e) = e.rp
+shape_rp (TwoReturns e) = e.rp
 
-abbrev pub shapeThen : Shape → Then
-shapeThen (None e) = e.then
-shapeThen (One e) = e.then
-shapeThen (Maybe e) = e.then
-shapeThen (Two e) = e.then
-shapeThen (Three e) = e.then
-shapeThen (Byte e) = e.then
-shapeThen (Roll e) = e.then
-shapeThen (TwoReturns e) = e.then
+abbrev pub shape_then : Shape → Then
+shape_then (None e) = e.then
+shape_then (One e) = e.then
+shape_then (Maybe e) = e.then
+shape_then (Two e) = e.then
+shape_then (Three e) = e.then
+shape_then (Byte e) = e.then
+shape_then (Roll e) = e.then
+shape_then (TwoReturns e) = e.then
 
 -- the stores, in order; ROLL's values are those of the memory m
-abbrev pub shapeStores : Machine → List ℕ → Shape → List Store
-shapeStores machine m (None e) = []
-shapeStores machine m (One e) = store_of (accessTo e.target) e.write ∷ []
-shapeStores machine m (Maybe e) = if e.writes (store_of (accessTo e.target) e.write ∷ []) []
-shapeStores machine m (Two e) = store_of DataWrite e.first ∷ store_of DataWrite e.second ∷ []
-shapeStores machine m (Three e) = store_of DataWrite e.first ∷ store_of DataWrite e.second ∷ store_of DataWrite e.third ∷ []
-shapeStores machine m (Byte e) = byteStores e
-shapeStores machine m (Roll e) = rolled machine.order m e.top.0 e.depth.0
-shapeStores machine m (TwoReturns e) = store_of ReturnWrite e.first ∷ store_of ReturnWrite e.second ∷ []
+abbrev pub shape_stores : Machine → List ℕ → Shape → List Store
+shape_stores machine m (None e) = []
+shape_stores machine m (One e) = store_of (access_to e.target) e.write ∷ []
+shape_stores machine m (Maybe e) = if e.writes (store_of (access_to e.target) e.write ∷ []) []
+shape_stores machine m (Two e) = store_of DataWrite e.first ∷ store_of DataWrite e.second ∷ []
+shape_stores machine m (Three e) = store_of DataWrite e.first ∷ store_of DataWrite e.second ∷ store_of DataWrite e.third ∷ []
+shape_stores machine m (Byte e) = byte_stores e
+shape_stores machine m (Roll e) = rolled machine.order m e.top.0 e.depth.0
+shape_stores machine m (TwoReturns e) = store_of ReturnWrite e.first ∷ store_of ReturnWrite e.second ∷ []
 
-abbrev pub shapeEffect : Machine → List ℕ → Shape → Effect
-shapeEffect machine m s = effect_of (shapeSp s) (shapeRp s) (shapeStores machine m s) (shapeThen s)
+abbrev pub shape_effect : Machine → List ℕ → Shape → Effect
+shape_effect machine m s = effect_of (shape_sp s) (shape_rp s) (shape_stores machine m s) (shape_then s)
 
 -- every place is an address: ROLL has read its deepest item
 abbrev pub Fits : Shape → Type 0
@@ -71,15 +71,15 @@ Fits (TwoReturns e) = Unit
 
 -- a shape that stands for an effect
 pub record Proposed (machine : Machine) (m : List ℕ) (s : Shape) (e : Effect) : Type 0 where
-  pub effect : shapeEffect machine m s ≡ e
+  pub effect : shape_effect machine m s ≡ e
   pub fits : Fits s
 
 -- the fault of the reading, or the first bad place
-abbrev pub shapeFault : Machine → List ℕ → Shape → Checked
-shapeFault machine m s = firstBad (faultOf (shapeThen s)) (places_of machine (length m) (shapeStores machine m s))
+abbrev pub shape_fault : Machine → List ℕ → Shape → Checked
+shape_fault machine m s = first_bad (fault_of (shape_then s)) (places_of machine (length m) (shape_stores machine m s))
 
 -- the instruction of a kind that takes an operand; 52h is the last of them
-abbrev pub takingKind : ℕ → Taking
-takingKind k =
+abbrev pub taking_kind : ℕ → Taking
+taking_kind k =
     if (eqb k 0x42) branch
-    (if (eqb k 0x44) questionBranch (if (eqb k 0x48) call (if (eqb k 0x4C) loop (if (eqb k 0x4E) plusLoop literal))))
+    (if (eqb k 0x44) question_branch (if (eqb k 0x48) call (if (eqb k 0x4C) loop (if (eqb k 0x4E) plus_loop literal))))

@@ -13,7 +13,7 @@ use machine::{Machine, Registers, Step};
 pub fn commit_shape(machine: Machine, memory: &mut [u8], r: Registers, shape: Shape) -> Step
     requires fits { places.Fits machine (length memory.old) }
     requires fits_2 { shapes.Fits shape }
-    ensures { commits.stepped memory.new result ≡ commits.commitOf machine memory.old r (shapes.shapeEffect machine memory.old shape) }
+    ensures { commits.stepped memory.new result ≡ commits.commit_of machine memory.old r (shapes.shape_effect machine memory.old shape) }
 {
     match shape {
         Shape::None(e) => commit_none(machine, memory, r, e),

@@ -14,7 +14,7 @@ use machine::{Machine, Target, Then, Write};
 
 // What follows the writes.
 pub fn then_of(shape: Shape) -> Then
-    ensures { result ≡ shapes.shapeThen shape }
+    ensures { result ≡ shapes.shape_then shape }
 {
     match shape {
         Shape::None(e) => e.then,
@@ -30,7 +30,7 @@ pub fn then_of(shape: Shape) -> Then
 
 // Of two checks in order, the first bad one.
 fn first_bad(a: Checked, b: Checked) -> Checked
-    ensures { result ≡ commits.firstBad a b }
+    ensures { result ≡ commits.first_bad a b }
 {
     match a {
         Checked::Good => b,
@@ -40,7 +40,7 @@ fn first_bad(a: Checked, b: Checked) -> Checked
 
 fn check_write(machine: Machine, target: Target, length: usize, w: Write) -> Checked
     requires { places.Fits machine length }
-    ensures { result ≡ commits.places_of machine length (effects.store_of (places.accessTo target) w ∷ []) }
+    ensures { result ≡ commits.places_of machine length (effects.store_of (places.access_to target) w ∷ []) }
 {
     let at = w.at;
     check_target(machine, target, length, at)
@@ -50,7 +50,7 @@ fn check_write(machine: Machine, target: Target, length: usize, w: Write) -> Che
 fn check_places(machine: Machine, memory: &[u8], shape: Shape) -> Checked
     requires fits { places.Fits machine (length memory.now) }
     requires fits_2 { shapes.Fits shape }
-    ensures { result ≡ commits.places_of machine (length memory.now) (shapes.shapeStores machine memory.now shape) }
+    ensures { result ≡ commits.places_of machine (length memory.now) (shapes.shape_stores machine memory.now shape) }
 {
     let n = memory.len();
     match shape {
@@ -112,7 +112,7 @@ fn check_places(machine: Machine, memory: &[u8], shape: Shape) -> Checked
 pub fn check_shape(machine: Machine, memory: &[u8], shape: Shape) -> Checked
     requires fits { places.Fits machine (length memory.now) }
     requires fits_2 { shapes.Fits shape }
-    ensures { result ≡ shapes.shapeFault machine memory.now shape }
+    ensures { result ≡ shapes.shape_fault machine memory.now shape }
 {
     first_bad(
         fault_of(then_of(shape)),
@@ -156,7 +156,7 @@ fn meets_roll(top: Address, depth: CellCount, lo: Address, hi: Address) -> bool
 // Whether a shape would write a byte from lo up to, and without, hi.
 pub fn writes(machine: Machine, memory: &[u8], shape: Shape, lo: Address, hi: Address) -> bool
     requires { lo.0 < hi.0 }
-    ensures { result ≡ commits.touches lo.0 hi.0 (shapes.shapeStores machine memory.now shape) }
+    ensures { result ≡ commits.touches lo.0 hi.0 (shapes.shape_stores machine memory.now shape) }
 {
     match shape {
         Shape::None(_) => false,

@@ -4,38 +4,38 @@ use Rattle.cell.specs.Choice.{if}
 use Rattle.cell.specs.declared.Judged.TheVariants.{Passed}
 use Rattle.pack_layout.specs.Flags.{bit}
 use Rattle.pack_layout.specs.Listing.{Listing, listed, entry, Checked}
-use Rattle.pack_layout.specs.Layout.{extra, opens, mid, formAt}
-use Rattle.pack_layout.specs.Packing.{layout, imageCells, judgedPlace}
+use Rattle.pack_layout.specs.Layout.{extra, opens, mid, form_at}
+use Rattle.pack_layout.specs.Packing.{layout, image_cells, judged_place}
 use Rattle.pack_layout.specs.declared.Entry.{Entry}
 use Rattle.pack_layout.specs.declared.Entry.TheVariants.{Item, Nothing}
-use Rattle.list_machine.specs.ListMachine.{isImmediate}
+use Rattle.list_machine.specs.ListMachine.{is_immediate}
 use Rattle.list_tables.specs.declared.Image.{Image}
 
 -- the row of item i: the index of its cell, that of its EP value, that of the cell behind it and its operand cell, and three flags in one number
 abbrev pub place_in : List ℕ → ℕ → ℕ
 place_in table i = get_or table (4 * i) 0
 
-abbrev pub nextIn : List ℕ → ℕ → ℕ
-nextIn table i = get_or table (4 * i + 1) 0
+abbrev pub next_in : List ℕ → ℕ → ℕ
+next_in table i = get_or table (4 * i + 1) 0
 
-abbrev pub behindIn : List ℕ → ℕ → ℕ
-behindIn table i = get_or table (4 * i + 2) 0
+abbrev pub behind_in : List ℕ → ℕ → ℕ
+behind_in table i = get_or table (4 * i + 2) 0
 
-abbrev pub flagsIn : List ℕ → ℕ → ℕ
-flagsIn table i = get_or table (4 * i + 3) 0
+abbrev pub flags_in : List ℕ → ℕ → ℕ
+flags_in table i = get_or table (4 * i + 3) 0
 
 -- the flags: the item is an entry, it opens a cell, it is in its immediate form
 abbrev pub flags_of : Bool → Bool → Bool → ℕ
 flags_of entered opened immediate = bit entered + 2 * bit opened + 4 * bit immediate
 
-abbrev pub entryIn : List ℕ → ℕ → Bool
-entryIn table i = eqb (flagsIn table i % 2) 1
+abbrev pub entry_in : List ℕ → ℕ → Bool
+entry_in table i = eqb (flags_in table i % 2) 1
 
-abbrev pub opensIn : List ℕ → ℕ → Bool
-opensIn table i = eqb (flagsIn table i / 2 % 2) 1
+abbrev pub opens_in : List ℕ → ℕ → Bool
+opens_in table i = eqb (flags_in table i / 2 % 2) 1
 
-abbrev pub immediateIn : List ℕ → ℕ → Bool
-immediateIn table i = eqb (flagsIn table i / 4 % 2) 1
+abbrev pub immediate_in : List ℕ → ℕ → Bool
+immediate_in table i = eqb (flags_in table i / 4 % 2) 1
 
 -- the number of rows
 abbrev pub rows : List ℕ → ℕ
@@ -47,10 +47,10 @@ with_row table i at next behind flags =
     set (set (set (set table (4 * i) at) (4 * i + 1) next) (4 * i + 2) behind) (4 * i + 3) flags
 
 -- the entry that an address leads to, among the first items, as many as k says
-unfoldable pub entryBelow : List ℕ → ℕ → ℕ → ℕ → Entry
-entryBelow table base zero a = Nothing
-entryBelow table base (suc i) a =
-    if (entryIn table i && eqb (base + 4 * place_in table i) a) (Item (record { 0 = i })) (entryBelow table base i a)
+unfoldable pub entry_below : List ℕ → ℕ → ℕ → ℕ → Entry
+entry_below table base zero a = Nothing
+entry_below table base (suc i) a =
+    if (entry_in table i && eqb (base + 4 * place_in table i) a) (Item (record { 0 = i })) (entry_below table base i a)
 
 -- few rows, and every cell that they name has an address
 pub record Near (table : List ℕ) (base : ℕ) : Type 0 where
@@ -60,9 +60,9 @@ pub record Near (table : List ℕ) (base : ℕ) : Type 0 where
 -- the row of item i says what the layout does
 pub record Row (l : Listing) (table : List ℕ) (i : ℕ) : Type 0 where
   pub place : place_in table i ≡ (mid (layout l) i).at
-  pub next : nextIn table i ≡ (mid (layout l) i).next
-  pub behind : behindIn table i ≡ (mid (layout l) i).next + extra (formAt (layout l) i)
-  pub flags : flagsIn table i ≡ flags_of (entry l i) (opens (layout l) i) (isImmediate (formAt (layout l) i))
+  pub next : next_in table i ≡ (mid (layout l) i).next
+  pub behind : behind_in table i ≡ (mid (layout l) i).next + extra (form_at (layout l) i)
+  pub flags : flags_in table i ≡ flags_of (entry l i) (opens (layout l) i) (is_immediate (form_at (layout l) i))
 
 -- the rows of the first n items
 abbrev pub Rows : Listing → List ℕ → ℕ → Type 0
@@ -73,5 +73,5 @@ pub record Settled (kinds operands table : List ℕ) (image : Image) : Type 0 wh
   pub checked : Checked kinds operands
   pub whole : length table ≡ 4 * length kinds
   pub rows : Rows (listed kinds operands) table (length kinds)
-  pub size : image.cells.0 ≡ imageCells (listed kinds operands)
-  pub place : judgedPlace image.base.0 image.cells.0 ≡ Passed
+  pub size : image.cells.0 ≡ image_cells (listed kinds operands)
+  pub place : judged_place image.base.0 image.cells.0 ≡ Passed

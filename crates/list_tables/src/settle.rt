@@ -1,8 +1,8 @@
 // The table of a listing that the input list passed.
 ghost use Rattle.std.specs.Prelude.{◌≡◌, ◌*◌, length};
-ghost use Rattle.cell.specs.Memory.{cellCount};
+ghost use Rattle.cell.specs.Memory.{cell_count};
 ghost use Rattle.pack_layout.specs.Listing.{listed, Checked};
-ghost use Rattle.pack_layout.specs.Packing.{imageCells};
+ghost use Rattle.pack_layout.specs.Packing.{image_cells};
 ghost use Rattle.pack_prepare.specs.Prepared.{Places};
 ghost use Rattle.list_tables.specs.Tables as tables;
 
@@ -25,7 +25,7 @@ fn fill_table(
     requires checked { Checked kinds.now operands.now }
     requires places { Places (length kinds.now) entries.old marks.old ats.old nexts.old lefts.old }
     requires table_len { length table.old ≡ 4 * length kinds.now }
-    ensures value { result ≡ cellCount (imageCells (listed kinds.now operands.now)) }
+    ensures value { result ≡ cell_count (image_cells (listed kinds.now operands.now)) }
     ensures rows { tables.Rows (listed kinds.now operands.now) table.new (length kinds.now) }
 {
     let cells = prepare(kinds, operands, entries, marks, ats, nexts, lefts);
@@ -37,7 +37,7 @@ fn fill_table(
 pub fn settle_table(kinds: &[u8], operands: &[u32], table: &mut [u32]) -> CellCount
     requires checked { Checked kinds.now operands.now }
     requires table_len { length table.old ≡ 4 * length kinds.now }
-    ensures value { result ≡ cellCount (imageCells (listed kinds.now operands.now)) }
+    ensures value { result ≡ cell_count (image_cells (listed kinds.now operands.now)) }
     ensures rows { tables.Rows (listed kinds.now operands.now) table.new (length kinds.now) }
 {
     let n = kinds.len();

@@ -1,10 +1,10 @@
 // The table of a layout, filled once the rounds have settled it.
 ghost use Rattle.std.specs.Prelude.{◌≡◌, ◌+◌, ◌*◌, ◌≤◌, ◌<◌, length};
-ghost use Rattle.cell.specs.Memory.{cellCount};
+ghost use Rattle.cell.specs.Memory.{cell_count};
 ghost use Rattle.pack_layout.specs.Flags.{Flags, flagged, bit};
 ghost use Rattle.pack_layout.specs.Listing.{listed, entry, Checked};
 ghost use Rattle.pack_layout.specs.Layout as placing;
-ghost use Rattle.pack_layout.specs.Packing.{marks as marksOf, layout};
+ghost use Rattle.pack_layout.specs.Packing.{marks as marks_of, layout};
 ghost use Rattle.list_machine.specs.ListMachine as lists;
 ghost use Rattle.list_tables.specs.Tables as tables;
 
@@ -14,7 +14,7 @@ use pack_layout::{ItemForm, ItemNumber};
 use pack_rounds::place::form_of;
 
 fn is_short(form: ItemForm) -> bool
-    ensures { result ≡ lists.isImmediate form }
+    ensures { result ≡ lists.is_immediate form }
 {
     match form {
         ItemForm::Alone => false,
@@ -25,7 +25,7 @@ fn is_short(form: ItemForm) -> bool
 
 // The operand cells of a form.
 fn extra_of(form: ItemForm) -> CellCount
-    ensures { result ≡ cellCount (placing.extra form) }
+    ensures { result ≡ cell_count (placing.extra form) }
 {
     match form {
         ItemForm::Alone => CellCount(0),
@@ -81,7 +81,7 @@ pub fn tabulate(
     requires ats_len { (length ats.now ≡ length kinds.now) × (length nexts.now ≡ length kinds.now) × (length lefts.now ≡ length kinds.now) }
     requires table_len { length table.old ≡ 4 * length kinds.now }
     requires flags { Flags entries.now (entry (listed kinds.now operands.now)) (length kinds.now) }
-    requires marks_value { flagged marks.now ≡ marksOf (listed kinds.now operands.now) }
+    requires marks_value { flagged marks.now ≡ marks_of (listed kinds.now operands.now) }
     requires laid { placing.Laid (layout (listed kinds.now operands.now)) ats.now nexts.now lefts.now (length kinds.now) }
     ensures { tables.Rows (listed kinds.now operands.now) table.new (length kinds.now) }
 {

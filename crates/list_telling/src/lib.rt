@@ -24,7 +24,7 @@ pub fn number_at(lent: &[u32], at: usize) -> u32
 
 // SP, RP and the areas want six places, what is told of a run five.
 pub fn judge_lent(pointers: usize, out: usize) -> Judged
-    ensures { result ≡ telling.judgeLent pointers out }
+    ensures { result ≡ telling.judge_lent pointers out }
 {
     with_room(with_room(Judged::Passed, pointers, 6), out, 5)
 }
@@ -42,7 +42,7 @@ fn write_five(lent: &mut [u32], p: u32, q: u32, r: u32, s: u32, t: u32)
 
 fn note_run(ran: ItemRun, pointers: &mut [u32], out: &mut [u32]) -> u32
     requires { (6 ≤ length pointers.old) × (5 ≤ length out.old) }
-    ensures { machines.told pointers.new out.new result ≡ telling.answerTold pointers.old out.old (followed.Run ran) }
+    ensures { machines.told pointers.new out.new result ≡ telling.answer_told pointers.old out.old (followed.Run ran) }
 {
     let ending = ran.ending;
     let stand = ran.stand;
@@ -58,7 +58,7 @@ fn note_run(ran: ItemRun, pointers: &mut [u32], out: &mut [u32]) -> u32
 
 pub fn note_followed(answer: Followed, pointers: &mut [u32], out: &mut [u32]) -> u32
     requires { telling.Room (length pointers.old) (length out.old) answer }
-    ensures { machines.told pointers.new out.new result ≡ telling.answerTold pointers.old out.old answer }
+    ensures { machines.told pointers.new out.new result ≡ telling.answer_told pointers.old out.old answer }
 {
     match answer {
         Followed::Refused(r) => refusal_number(r),

@@ -18,7 +18,7 @@ use machine::{Machine, MaybeStore, NoStore, OneStore, Registers, Target, Then, T
 // 4Bh (DO) ( x1 x2 -- ) R: ( -- x1 x2 )
 pub fn start_loop(machine: Machine, memory: &[u8], r: Registers) -> TwoReturns
     requires { places.Fits machine (length memory.now) }
-    ensures { effects.twoReturns result ≡ plain.plainAt machine Instruction.Do memory.now r }
+    ensures { effects.two_returns result ≡ plain.plain_at machine Instruction.Do memory.now r }
 {
     let got = fetch_data(machine, memory, Address(r.sp));
     let Fetched::Cell(x2) = got else {
@@ -46,7 +46,7 @@ pub fn start_loop(machine: Machine, memory: &[u8], r: Registers) -> TwoReturns
 // 4Ch (LOOP), 4Dh (LOOP)I R: ( n1 n2 -- | n1 n3 )
 pub fn step_loop(machine: Machine, memory: &[u8], r: Registers, form: OperandForm) -> MaybeStore
     requires { places.Fits machine (length memory.now) }
-    ensures { effects.maybeStore result ≡ taking.takingAt machine form taking.loop memory.now r }
+    ensures { effects.maybe_store result ≡ taking.taking_at machine form taking.loop memory.now r }
 {
     let got = fetch_return(machine, memory, Address(r.rp));
     let Fetched::Cell(index) = got else {
@@ -85,7 +85,7 @@ pub fn step_plus_loop(
     form: OperandForm,
 ) -> MaybeStore
     requires { places.Fits machine (length memory.now) }
-    ensures { effects.maybeStore result ≡ taking.takingAt machine form taking.plusLoop memory.now r }
+    ensures { effects.maybe_store result ≡ taking.taking_at machine form taking.plus_loop memory.now r }
 {
     let got = fetch_data(machine, memory, Address(r.sp));
     let Fetched::Cell(n) = got else {
@@ -123,7 +123,7 @@ pub fn step_plus_loop(
 // 50h UNLOOP R: ( x1 x2 -- )
 pub fn unloop(machine: Machine, memory: &[u8], r: Registers) -> NoStore
     requires { places.Fits machine (length memory.now) }
-    ensures { effects.noStore result ≡ plain.plainAt machine Instruction.Unloop memory.now r }
+    ensures { effects.no_store result ≡ plain.plain_at machine Instruction.Unloop memory.now r }
 {
     let got = fetch_return(machine, memory, Address(r.rp));
     let Fetched::Cell(_) = got else {
@@ -143,7 +143,7 @@ pub fn unloop(machine: Machine, memory: &[u8], r: Registers) -> NoStore
 // 51h J ( -- x1 ) R: ( x1 x2 x3 -- x1 x2 x3 )
 pub fn outer_index(machine: Machine, memory: &[u8], r: Registers) -> OneStore
     requires { places.Fits machine (length memory.now) }
-    ensures { effects.oneStore result ≡ plain.plainAt machine Instruction.J memory.now r }
+    ensures { effects.one_store result ≡ plain.plain_at machine Instruction.J memory.now r }
 {
     let got = fetch_return(machine, memory, Address(r.rp));
     let Fetched::Cell(_) = got else {

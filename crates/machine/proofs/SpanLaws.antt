@@ -11,7 +11,7 @@ use Rattle.cell.specs.declared.Checked.{Checked}
 use Rattle.cell.specs.declared.Checked.TheVariants.{Good, Bad}
 use Rattle.cell.specs.declared.Fault.TheVariants as fault
 use Rattle.cell.proofs.BooleanLaws.{both_true}
-use Rattle.machine.specs.Places.{Width, end_in, spanAt, within, in_table, allowed, tableAllows, alignedAs, faultAt, openTo, place_of}
+use Rattle.machine.specs.Places.{Width, end_in, span_at, within, in_table, allowed, table_allows, aligned_as, fault_at, open_to, place_of}
 use Rattle.machine.specs.declared.Span.{Span}
 use Rattle.machine.specs.declared.Guarded.{Guarded}
 use Rattle.machine.specs.declared.Machine.{Machine}
@@ -21,23 +21,23 @@ use Rattle.machine.specs.declared.Access.{Access}
 abbrev turned : ℕ → ℕ
 turned d = d / 4 + d % 4 * 0x4000000000000000
 
-turned-below : (d cells : ℕ) → d % 4 ≡ 0 → d < 4 * cells → turned d < cells
-turned-below d cells w h = omega (arith, w, h)
+turned_below : (d cells : ℕ) → d % 4 ≡ 0 → d < 4 * cells → turned d < cells
+turned_below d cells w h = omega (arith, w, h)
 
-turned-beyond : (d cells : ℕ) → 4 * cells ≤ d → cells ≤ turned d
-turned-beyond d cells h = omega (arith, h)
+turned_beyond : (d cells : ℕ) → 4 * cells ≤ d → cells ≤ turned d
+turned_beyond d cells h = omega (arith, h)
 
-turned-past : (d cells : ℕ) → (d % 4 ≡ 0 → ⊥) → cells ≤ 2 ^ 32 → cells ≤ turned d
-turned-past d cells n h = omega (arith, n, h)
+turned_past : (d cells : ℕ) → (d % 4 ≡ 0 → ⊥) → cells ≤ 2 ^ 32 → cells ≤ turned d
+turned_past d cells n h = omega (arith, n, h)
 
 -- the distance between two numbers, in 32 bits
-distance-down : (from to : ℕ) → to ≤ from → from < 2 ^ 32 → difference from to ≡ from - to
+distance_down : (from to : ℕ) → to ≤ from → from < 2 ^ 32 → difference from to ≡ from - to
 unfolding difference
-distance-down from to l h = omega (arith, l, h)
+distance_down from to l h = omega (arith, l, h)
 
-distance-round : (from to : ℕ) → from < to → to < 2 ^ 32 → difference from to ≡ from + 2 ^ 32 - to
+distance_round : (from to : ℕ) → from < to → to < 2 ^ 32 → difference from to ≡ from + 2 ^ 32 - to
 unfolding difference
-distance-round from to l h = omega (arith, l, h)
+distance_round from to l h = omega (arith, l, h)
 
 -- the distance from the highest cell, turned, is below the count just for the addresses of the cells
 module _ (last cells a : ℕ) (w : last % 4 ≡ 0) (b : 4 * cells ≤ last + 4) (h : last < 2 ^ 32) (k : a < 2 ^ 32) where
@@ -46,36 +46,36 @@ module _ (last cells a : ℕ) (w : last % 4 ≡ 0) (b : 4 * cells ≤ last + 4) 
 
   -- an address above the highest cell
   above : last < a → cells ≤ turned (difference last a)
-  above g = rw (distance-round last a g k) (go (eqb (a % 4) 0) refl)
+  above g = rw (distance_round last a g k) (go (eqb (a % 4) 0) refl)
     where
       go : (u : Bool) → eqb (a % 4) 0 ≡ u → cells ≤ turned (last + 2 ^ 32 - a)
-      go true r = turned-beyond (last + 2 ^ 32 - a) cells (omega (arith, w, b, g, k, eqb-true (a % 4) 0 r))
+      go true r = turned_beyond (last + 2 ^ 32 - a) cells (omega (arith, w, b, g, k, eqb-true (a % 4) 0 r))
       go false r =
-          turned-past (last + 2 ^ 32 - a) cells (λ z. eqb-false (a % 4) 0 r (omega (arith, w, g, k, z))) (omega (arith, b, h))
+          turned_past (last + 2 ^ 32 - a) cells (λ z. eqb-false (a % 4) 0 r (omega (arith, w, g, k, z))) (omega (arith, b, h))
 
   -- and one below the lowest
   below : a ≤ last → a + 4 * cells < last + 4 → cells ≤ turned (difference last a)
-  below l g = rw (distance-down last a l h) (go (eqb (a % 4) 0) refl)
+  below l g = rw (distance_down last a l h) (go (eqb (a % 4) 0) refl)
     where
       go : (u : Bool) → eqb (a % 4) 0 ≡ u → cells ≤ turned (last - a)
-      go true r = turned-beyond (last - a) cells (omega (arith, w, l, g, eqb-true (a % 4) 0 r))
-      go false r = turned-past (last - a) cells (λ z. eqb-false (a % 4) 0 r (omega (arith, w, l, z))) (omega (arith, b, h))
+      go true r = turned_beyond (last - a) cells (omega (arith, w, l, g, eqb-true (a % 4) 0 r))
+      go false r = turned_past (last - a) cells (λ z. eqb-false (a % 4) 0 r (omega (arith, w, l, z))) (omega (arith, b, h))
 
-  pub rotated-within : ltb (turned (difference last a)) cells ≡ (within (spanAt last cells) a && eqb (a % 4) 0)
-  rotated-within = go (leb (last + 4) (a + 4 * cells)) (ltb a (last + 4)) (eqb (a % 4) 0) (leb a last) refl refl refl refl
+  pub rotated_within : ltb (turned (difference last a)) cells ≡ (within (span_at last cells) a && eqb (a % 4) 0)
+  rotated_within = go (leb (last + 4) (a + 4 * cells)) (ltb a (last + 4)) (eqb (a % 4) 0) (leb a last) refl refl refl refl
     where
       go : (s t u v : Bool) → leb (last + 4) (a + 4 * cells) ≡ s → ltb a (last + 4) ≡ t → eqb (a % 4) 0 ≡ u → leb a last ≡ v
           → ltb (turned (difference last a)) cells ≡ ((s && t) && u)
       go true true true true p q r v =
-          rw (distance-down last a (leb-true a last v) h)
+          rw (distance_down last a (leb-true a last v) h)
           (lt-ltb _ _
-          (turned-below (last - a) cells (omega (arith, w, leb-true a last v, eqb-true (a % 4) 0 r))
+          (turned_below (last - a) cells (omega (arith, w, leb-true a last v, eqb-true (a % 4) 0 r))
           (omega (arith, leb-true a last v, leb-true (last + 4) (a + 4 * cells) p, w, eqb-true (a % 4) 0 r))))
       go true true true false p q r v = absurd (beyond (ltb-true a (last + 4) q) (leb-false a last v) (eqb-true (a % 4) 0 r))
       go true true false true p q r v =
-          rw (distance-down last a (leb-true a last v) h)
+          rw (distance_down last a (leb-true a last v) h)
           (le-ltb _ _
-          (turned-past (last - a) cells (λ z. eqb-false (a % 4) 0 r (omega (arith, w, leb-true a last v, z))) (omega (arith, b, h))))
+          (turned_past (last - a) cells (λ z. eqb-false (a % 4) 0 r (omega (arith, w, leb-true a last v, z))) (omega (arith, b, h))))
       go true true false false p q r v = le-ltb _ _ (above (leb-false a last v))
       go true false u true p q r v = absurd (let l = ltb-false a (last + 4) q in omega (arith, l, leb-true a last v))
       go true false u false p q r v = le-ltb _ _ (above (leb-false a last v))
@@ -83,21 +83,21 @@ module _ (last cells a : ℕ) (w : last % 4 ≡ 0) (b : 4 * cells ≤ last + 4) 
       go false t u false p q r v = le-ltb _ _ (above (leb-false a last v))
 
 -- the distance from a table's first byte is below its number of bytes just for its bytes
-pub guards-byte : (table : Guarded) (a : ℕ) → table.first.0 + table.bytes ≤ 2 ^ 32 → table.first.0 < 2 ^ 32 → a < 2 ^ 32
+pub guards_byte : (table : Guarded) (a : ℕ) → table.first.0 + table.bytes ≤ 2 ^ 32 → table.first.0 < 2 ^ 32 → a < 2 ^ 32
     → ltb (difference a table.first.0) table.bytes ≡ in_table table a
-guards-byte table a g f k = go (leb table.first.0 a) (ltb a (table.first.0 + table.bytes)) refl refl
+guards_byte table a g f k = go (leb table.first.0 a) (ltb a (table.first.0 + table.bytes)) refl refl
   where
     go : (s t : Bool) → leb table.first.0 a ≡ s → ltb a (table.first.0 + table.bytes) ≡ t
         → ltb (difference a table.first.0) table.bytes ≡ (s && t)
     go true true p q =
-        rw (distance-down a table.first.0 (leb-true table.first.0 a p) k)
+        rw (distance_down a table.first.0 (leb-true table.first.0 a p) k)
         (lt-ltb (a - table.first.0) table.bytes (omega (arith, leb-true table.first.0 a p, ltb-true a (table.first.0 + table.bytes) q)))
     go true false p q =
-        rw (distance-down a table.first.0 (leb-true table.first.0 a p) k)
+        rw (distance_down a table.first.0 (leb-true table.first.0 a p) k)
         (le-ltb (a - table.first.0) table.bytes (omega (arith, leb-true table.first.0 a p, ltb-false a (table.first.0 + table.bytes) q)))
     go false t p q =
         let l = leb-false table.first.0 a p in
-        rw (distance-round a table.first.0 l f)
+        rw (distance_round a table.first.0 l f)
         (le-ltb (a + 2 ^ 32 - table.first.0) table.bytes (omega (arith, g, l)))
 
 -- what is known of a cell of a span that lies in memory
@@ -112,26 +112,26 @@ found span len a t e p q =
     record { inside = omega (arith, e, ltb-true a (end_in span) b.1); both = sym p ∙ q }
 
 -- where the table is not asked
-pub open-read : (c : Checked) → openTo c true ≡ c
-open-read Good = refl
-open-read (Bad f) = refl
+pub open_read : (c : Checked) → open_to c true ≡ c
+open_read Good = refl
+open_read (Bad f) = refl
 
 -- what the check of a place tells, by what it has found
 module _ (machine : Machine) (width : Width) (access : Access) (len a : ℕ) where
-  pub place-good : a < len → (allowed machine access a && alignedAs width a) ≡ true → tableAllows machine access a ≡ true
+  pub place_good : a < len → (allowed machine access a && aligned_as width a) ≡ true → table_allows machine access a ≡ true
       → place_of machine width access len a ≡ Good
   unfolding place_of
-  place-good h e t = simp (lt-ltb a len h, e, t)
+  place_good h e t = simp (lt-ltb a len h, e, t)
 
-  pub place-guarded : a < len → (allowed machine access a && alignedAs width a) ≡ true → tableAllows machine access a ≡ false
+  pub place_guarded : a < len → (allowed machine access a && aligned_as width a) ≡ true → table_allows machine access a ≡ false
       → place_of machine width access len a ≡ Bad fault.Table
   unfolding place_of
-  place-guarded h e t = simp (lt-ltb a len h, e, t)
+  place_guarded h e t = simp (lt-ltb a len h, e, t)
 
-  pub place-off : a < len → (allowed machine access a && alignedAs width a) ≡ false → place_of machine width access len a ≡ Bad (faultAt access a)
+  pub place_off : a < len → (allowed machine access a && aligned_as width a) ≡ false → place_of machine width access len a ≡ Bad (fault_at access a)
   unfolding place_of
-  place-off h e = simp (lt-ltb a len h, e)
+  place_off h e = simp (lt-ltb a len h, e)
 
-  pub place-outside : len ≤ a → place_of machine width access len a ≡ Bad (fault.Range (address a))
+  pub place_outside : len ≤ a → place_of machine width access len a ≡ Bad (fault.Range (address a))
   unfolding place_of
-  place-outside h = simp (le-ltb a len h)
+  place_outside h = simp (le-ltb a len h)

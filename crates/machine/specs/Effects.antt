@@ -6,7 +6,7 @@ use Rattle.cell.specs.Memory.{cell_at, byte0}
 use Rattle.cell.specs.declared.Fault.{Fault}
 use Rattle.cell.specs.declared.Fetched.{Fetched}
 use Rattle.cell.specs.declared.Fetched.TheVariants.{Cell, Failed}
-use Rattle.machine.specs.Places.{Width, oneByte, oneCell, accessTo}
+use Rattle.machine.specs.Places.{Width, one_byte, one_cell, access_to}
 use Rattle.machine.specs.declared.Access.{Access}
 use Rattle.machine.specs.declared.Access.TheVariants.{DataWrite, ReturnWrite, NamedWrite}
 use Rattle.machine.specs.declared.Write.{Write}
@@ -30,7 +30,7 @@ pub record Store : Type 0 where
 
 -- what follows the writes: the next instruction, a jump to an address (then NEXT), a stop with a reason, or the throw of THROW
 pub data Control : Type 0 where
-  goOn : Control
+  go_on : Control
   jump : ℕ → Control
   halt : ℕ → Control
   throwing : Control
@@ -53,60 +53,60 @@ fetched (Cell x) k = k x
 fetched (Failed f) k = raise f
 
 -- a cell written
-abbrev pub cellStore : Access → ℕ → ℕ → Store
-cellStore access a x = record { width = oneCell; access = access; at = a; value = x }
+abbrev pub cell_store : Access → ℕ → ℕ → Store
+cell_store access a x = record { width = one_cell; access = access; at = a; value = x }
 
 -- ROLL's stores, deepest first: the item below each goes into its cell, and `last` into the top one
-unfoldable pub rollStores : ℕ → List ℕ → ℕ → ℕ → ℕ → List Store
-rollStores order m top last zero = cellStore DataWrite top last ∷ []
-rollStores order m top last (suc u) =
-    cellStore DataWrite (top + 4 * suc u) (cell_at order m (top + 4 * u)) ∷ rollStores order m top last u
+unfoldable pub roll_stores : ℕ → List ℕ → ℕ → ℕ → ℕ → List Store
+roll_stores order m top last zero = cell_store DataWrite top last ∷ []
+roll_stores order m top last (suc u) =
+    cell_store DataWrite (top + 4 * suc u) (cell_at order m (top + 4 * u)) ∷ roll_stores order m top last u
 
 -- ROLL by 0 moves nothing
 abbrev pub rolled : ℕ → List ℕ → ℕ → ℕ → List Store
 rolled order m top zero = []
-rolled order m top (suc u) = rollStores order m top (cell_at order m (top + 4 * suc u)) (suc u)
+rolled order m top (suc u) = roll_stores order m top (cell_at order m (top + 4 * suc u)) (suc u)
 
 -- the effect that a value of the code stands for
 abbrev pub effect_of : ℕ → ℕ → List Store → Then → Effect
-effect_of sp rp stores GoOn = act (record { sp = sp; rp = rp; stores = stores; control = goOn })
+effect_of sp rp stores GoOn = act (record { sp = sp; rp = rp; stores = stores; control = go_on })
 effect_of sp rp stores (Jump a) = act (record { sp = sp; rp = rp; stores = stores; control = jump a.0 })
 effect_of sp rp stores (Halt x) = act (record { sp = sp; rp = rp; stores = stores; control = halt x })
 effect_of sp rp stores Throw = act (record { sp = sp; rp = rp; stores = stores; control = throwing })
 effect_of sp rp stores (Raise f) = raise f
 
 abbrev pub store_of : Access → Write → Store
-store_of access w = cellStore access w.at.0 w.value
+store_of access w = cell_store access w.at.0 w.value
 
-abbrev pub noStore : NoStore → Effect
-noStore e = effect_of e.sp e.rp [] e.then
+abbrev pub no_store : NoStore → Effect
+no_store e = effect_of e.sp e.rp [] e.then
 
-abbrev pub oneStore : OneStore → Effect
-oneStore e = effect_of e.sp e.rp (store_of (accessTo e.target) e.write ∷ []) e.then
+abbrev pub one_store : OneStore → Effect
+one_store e = effect_of e.sp e.rp (store_of (access_to e.target) e.write ∷ []) e.then
 
-abbrev pub maybeStore : MaybeStore → Effect
-maybeStore e = effect_of e.sp e.rp (if e.writes (store_of (accessTo e.target) e.write ∷ []) []) e.then
+abbrev pub maybe_store : MaybeStore → Effect
+maybe_store e = effect_of e.sp e.rp (if e.writes (store_of (access_to e.target) e.write ∷ []) []) e.then
 
-abbrev pub twoStores : TwoStores → Effect
-twoStores e = effect_of e.sp e.rp (store_of DataWrite e.first ∷ store_of DataWrite e.second ∷ []) e.then
+abbrev pub two_stores : TwoStores → Effect
+two_stores e = effect_of e.sp e.rp (store_of DataWrite e.first ∷ store_of DataWrite e.second ∷ []) e.then
 
-abbrev pub twoReturns : TwoReturns → Effect
-twoReturns e = effect_of e.sp e.rp (store_of ReturnWrite e.first ∷ store_of ReturnWrite e.second ∷ []) e.then
+abbrev pub two_returns : TwoReturns → Effect
+two_returns e = effect_of e.sp e.rp (store_of ReturnWrite e.first ∷ store_of ReturnWrite e.second ∷ []) e.then
 
-abbrev pub threeStores : ThreeStores → Effect
-threeStores e =
+abbrev pub three_stores : ThreeStores → Effect
+three_stores e =
     effect_of e.sp e.rp (store_of DataWrite e.first ∷ store_of DataWrite e.second ∷ store_of DataWrite e.third ∷ [])
     e.then
 
-abbrev pub byteStores : ByteStore → List Store
-byteStores e = record { width = oneByte; access = NamedWrite; at = e.at.0; value = byte0 e.value } ∷ []
+abbrev pub byte_stores : ByteStore → List Store
+byte_stores e = record { width = one_byte; access = NamedWrite; at = e.at.0; value = byte0 e.value } ∷ []
 
-abbrev pub byteStore : ByteStore → Effect
-byteStore e = effect_of e.sp e.rp (byteStores e) e.then
+abbrev pub byte_store : ByteStore → Effect
+byte_store e = effect_of e.sp e.rp (byte_stores e) e.then
 
 -- ROLL's values are those of the memory m, before its stores
-abbrev pub rollEffect : ℕ → List ℕ → RollStores → Effect
-rollEffect order m e = effect_of e.sp e.rp (rolled order m e.top.0 e.depth.0) e.then
+abbrev pub roll_effect : ℕ → List ℕ → RollStores → Effect
+roll_effect order m e = effect_of e.sp e.rp (rolled order m e.top.0 e.depth.0) e.then
 
 -- the deepest place of ROLL is an address: its item was read there
 abbrev pub Reached : RollStores → Type 0

@@ -2,7 +2,7 @@
 -- outside memory is -9, then an unaligned one -23, then one off the stack's area has its own codes, then a write into the table is -20.
 use Rattle.std.specs.Prelude.{◌≡◌, Bool, true, not, ◌&&◌, List, ℕ, ◌+◌, ◌-◌, ◌*◌, ◌/◌, ◌%◌, ◌^◌, ◌≤◌, ltb, leb, eqb, length, get_or}
 use Rattle.cell.specs.Choice.{if}
-use Rattle.cell.specs.Memory.{cell_at, cellCount}
+use Rattle.cell.specs.Memory.{cell_at, cell_count}
 use Rattle.cell.specs.Place.{address, read}
 use Rattle.cell.specs.declared.Fault.{Fault}
 use Rattle.cell.specs.declared.Fault.TheVariants.{Range, Alignment, Data, Return}
@@ -23,8 +23,8 @@ use Rattle.machine.specs.declared.Access.TheVariants.{DataRead, DataWrite, Retur
 abbrev pub end_in : Span → ℕ
 end_in span = span.last.0 + 4
 
-abbrev pub spanAt : ℕ → ℕ → Span
-spanAt last cells = record { last = address last; cells = cellCount cells }
+abbrev pub span_at : ℕ → ℕ → Span
+span_at last cells = record { last = address last; cells = cell_count cells }
 
 -- a span's cells lie in a memory
 pub record Lies (span : Span) (len : ℕ) : Type 0 where
@@ -45,35 +45,35 @@ abbrev pub table_of : ℕ → ℕ → Table
 table_of first end = record { first = address first; end = address end }
 
 -- two zeros
-abbrev pub noTable : Table
-noTable = table_of 0 0
+abbrev pub no_table : Table
+no_table = table_of 0 0
 
 -- a table's bytes
-abbrev pub guardedOf : Table → Guarded
-guardedOf table = record { first = table.first; bytes = table.end.0 - table.first.0 }
+abbrev pub guarded_of : Table → Guarded
+guarded_of table = record { first = table.first; bytes = table.end.0 - table.first.0 }
 
 -- one of a table's bytes
 abbrev pub in_table : Guarded → ℕ → Bool
 in_table table a = leb table.first.0 a && ltb a (table.first.0 + table.bytes)
 
 -- every cell of a memory
-abbrev pub wholeMemory : ℕ → Span
-wholeMemory len = spanAt (len - 4) (len / 4)
+abbrev pub whole_memory : ℕ → Span
+whole_memory len = span_at (len - 4) (len / 4)
 
 -- the machine without areas: each stack may lie in any cell of memory, and none is held
 abbrev pub unbounded : ℕ → Table → ℕ → Machine
 unbounded order table len =
     record {
       order = order;
-      stack = wholeMemory len;
-      writes = (wholeMemory len).cells;
-      returns = wholeMemory len;
-      table = guardedOf table;
+      stack = whole_memory len;
+      writes = (whole_memory len).cells;
+      returns = whole_memory len;
+      table = guarded_of table;
     }
 
 -- what lies at a place: a cell, or a single byte (C@ and C! only)
 pub data Width : Type 0 where
-  oneByte oneCell : Width
+  one_byte one_cell : Width
 
 -- one of the cells of a span, or between two of them
 abbrev pub within : Span → ℕ → Bool
@@ -84,10 +84,10 @@ abbrev pub writable : Machine → Span
 writable machine = record { last = machine.stack.last; cells = machine.writes }
 
 -- what a store is for
-abbrev pub accessTo : Target → Access
-accessTo target.Data = DataWrite
-accessTo target.Return = ReturnWrite
-accessTo target.Named = NamedWrite
+abbrev pub access_to : Target → Access
+access_to target.Data = DataWrite
+access_to target.Return = ReturnWrite
+access_to target.Named = NamedWrite
 
 -- where a stack may have a place. The held cell is read, and a throw pushes there; no other write goes there. Named cells and the instruction stream
 -- are not asked
@@ -102,46 +102,46 @@ allowed machine Stream a = true
 allowed machine Push a = within machine.stack a
 
 -- what the table allows: every read, and a write outside it
-abbrev pub tableAllows : Machine → Access → ℕ → Bool
-tableAllows machine DataRead a = true
-tableAllows machine DataWrite a = not (in_table machine.table a)
-tableAllows machine ReturnRead a = true
-tableAllows machine ReturnWrite a = not (in_table machine.table a)
-tableAllows machine NamedRead a = true
-tableAllows machine NamedWrite a = not (in_table machine.table a)
-tableAllows machine Stream a = true
-tableAllows machine Push a = not (in_table machine.table a)
+abbrev pub table_allows : Machine → Access → ℕ → Bool
+table_allows machine DataRead a = true
+table_allows machine DataWrite a = not (in_table machine.table a)
+table_allows machine ReturnRead a = true
+table_allows machine ReturnWrite a = not (in_table machine.table a)
+table_allows machine NamedRead a = true
+table_allows machine NamedWrite a = not (in_table machine.table a)
+table_allows machine Stream a = true
+table_allows machine Push a = not (in_table machine.table a)
 
 -- a byte lies anywhere, a cell at a multiple of 4
-abbrev pub alignedAs : Width → ℕ → Bool
-alignedAs oneByte a = true
-alignedAs oneCell a = eqb (a % 4) 0
+abbrev pub aligned_as : Width → ℕ → Bool
+aligned_as one_byte a = true
+aligned_as one_cell a = eqb (a % 4) 0
 
 -- the fault of a place in memory that is unaligned or not allowed. Which of the two it is for a stack, the throw tells (crate `throws`, specs/Exceptions.antt)
-abbrev pub faultAt : Access → ℕ → Fault
-faultAt DataRead a = Data (address a)
-faultAt DataWrite a = Data (address a)
-faultAt ReturnRead a = Return (address a)
-faultAt ReturnWrite a = Return (address a)
-faultAt NamedRead a = Alignment (address a)
-faultAt NamedWrite a = Alignment (address a)
-faultAt Stream a = Alignment (address a)
-faultAt Push a = Data (address a)
+abbrev pub fault_at : Access → ℕ → Fault
+fault_at DataRead a = Data (address a)
+fault_at DataWrite a = Data (address a)
+fault_at ReturnRead a = Return (address a)
+fault_at ReturnWrite a = Return (address a)
+fault_at NamedRead a = Alignment (address a)
+fault_at NamedWrite a = Alignment (address a)
+fault_at Stream a = Alignment (address a)
+fault_at Push a = Data (address a)
 
 -- a place that nothing else is wrong with: the table is asked last, here for every write
-abbrev pub openTo : Checked → Bool → Checked
-openTo (Bad f) allows = Bad f
-openTo Good allows = if allows Good (Bad fault.Table)
+abbrev pub open_to : Checked → Bool → Checked
+open_to (Bad f) allows = Bad f
+open_to Good allows = if allows Good (Bad fault.Table)
 
 -- whether a place may be touched
 unfoldable pub place_of : Machine → Width → Access → ℕ → ℕ → Checked
 place_of machine width access len a =
-    openTo (if (ltb a len) (if (allowed machine access a && alignedAs width a) Good (Bad (faultAt access a))) (Bad (Range (address a))))
-    (tableAllows machine access a)
+    open_to (if (ltb a len) (if (allowed machine access a && aligned_as width a) Good (Bad (fault_at access a))) (Bad (Range (address a))))
+    (table_allows machine access a)
 
 -- a cell of memory, or why it cannot be read
-unfoldable pub fetchOf : Machine → Access → List ℕ → ℕ → Fetched
-fetchOf machine access m a = read (place_of machine oneCell access (length m) a) (cell_at machine.order m a)
+unfoldable pub fetch_of : Machine → Access → List ℕ → ℕ → Fetched
+fetch_of machine access m a = read (place_of machine one_cell access (length m) a) (cell_at machine.order m a)
 
-unfoldable pub fetchByteOf : Machine → Access → List ℕ → ℕ → Fetched
-fetchByteOf machine access m a = read (place_of machine oneByte access (length m) a) (get_or m a 0)
+unfoldable pub fetch_byte_of : Machine → Access → List ℕ → ℕ → Fetched
+fetch_byte_of machine access m a = read (place_of machine one_byte access (length m) a) (get_or m a 0)

@@ -12,7 +12,7 @@ use cell::{Address, CellCount, Checked, Fault, Fetched};
 
 // The bytes of a table, as they are asked for.
 pub fn guard(table: Table) -> Guarded
-    ensures { result ≡ places.guardedOf table }
+    ensures { result ≡ places.guarded_of table }
 {
     let first = table.first;
     let end = table.end;
@@ -54,7 +54,7 @@ pub fn unbounded(order: u8, table: Table, length: usize) -> Machine
 // bits, is the number of the cell, or past every number if the address is not aligned. Where a place is read and then written, both share the distance.
 fn is_within(last: Address, cells: CellCount, address: Address) -> bool
     requires { (last.0 % 4 ≡ 0) × (4 * cells.0 ≤ last.0 + 4) }
-    ensures { result ≡ (places.within (places.spanAt last.0 cells.0) address.0 && eqb (address.0 % 4) 0) }
+    ensures { result ≡ (places.within (places.span_at last.0 cells.0) address.0 && eqb (address.0 % 4) 0) }
 {
     let distance = subtract(last.0, address.0) as usize;
     distance / 4 + distance % 4 * 0x4000000000000000 < cells.0 as usize
@@ -72,7 +72,7 @@ fn is_guarded(table: Guarded, address: Address) -> bool
 // A place that the data stack reads.
 pub fn check_data(machine: Machine, length: usize, address: Address) -> Checked
     requires { places.Fits machine length }
-    ensures { result ≡ places.place_of machine places.oneCell Access.DataRead length address.0 }
+    ensures { result ≡ places.place_of machine places.one_cell Access.DataRead length address.0 }
 {
     if is_within(
         Address(machine.stack.last.0),
@@ -90,7 +90,7 @@ pub fn check_data(machine: Machine, length: usize, address: Address) -> Checked
 // A place that the data stack writes: not the held cell, and not in the table.
 pub fn check_data_write(machine: Machine, length: usize, address: Address) -> Checked
     requires { places.Fits machine length }
-    ensures { result ≡ places.place_of machine places.oneCell Access.DataWrite length address.0 }
+    ensures { result ≡ places.place_of machine places.one_cell Access.DataWrite length address.0 }
 {
     if is_within(
         Address(machine.stack.last.0),
@@ -111,7 +111,7 @@ pub fn check_data_write(machine: Machine, length: usize, address: Address) -> Ch
 // The place of a throw's code: the held cell too, but not in the table.
 pub fn check_push(machine: Machine, length: usize, address: Address) -> Checked
     requires { places.Fits machine length }
-    ensures { result ≡ places.place_of machine places.oneCell Access.Push length address.0 }
+    ensures { result ≡ places.place_of machine places.one_cell Access.Push length address.0 }
 {
     if is_within(
         Address(machine.stack.last.0),
@@ -132,7 +132,7 @@ pub fn check_push(machine: Machine, length: usize, address: Address) -> Checked
 // A place that the return stack reads.
 pub fn check_return(machine: Machine, length: usize, address: Address) -> Checked
     requires { places.Fits machine length }
-    ensures { result ≡ places.place_of machine places.oneCell Access.ReturnRead length address.0 }
+    ensures { result ≡ places.place_of machine places.one_cell Access.ReturnRead length address.0 }
 {
     if is_within(
         Address(machine.returns.last.0),
@@ -150,7 +150,7 @@ pub fn check_return(machine: Machine, length: usize, address: Address) -> Checke
 // A place that the return stack writes: not in the table.
 pub fn check_return_write(machine: Machine, length: usize, address: Address) -> Checked
     requires { places.Fits machine length }
-    ensures { result ≡ places.place_of machine places.oneCell Access.ReturnWrite length address.0 }
+    ensures { result ≡ places.place_of machine places.one_cell Access.ReturnWrite length address.0 }
 {
     if is_within(
         Address(machine.returns.last.0),
@@ -170,8 +170,8 @@ pub fn check_return_write(machine: Machine, length: usize, address: Address) -> 
 
 // A cell of the instruction stream, or one that an operand names, to be read.
 pub fn check_named(machine: Machine, length: usize, address: Address) -> Checked
-    ensures value { result ≡ places.place_of machine places.oneCell Access.Stream length address.0 }
-    ensures value_2 { result ≡ places.place_of machine places.oneCell Access.NamedRead length address.0 }
+    ensures value { result ≡ places.place_of machine places.one_cell Access.Stream length address.0 }
+    ensures value_2 { result ≡ places.place_of machine places.one_cell Access.NamedRead length address.0 }
 {
     check_cell(length, address)
 }
@@ -179,7 +179,7 @@ pub fn check_named(machine: Machine, length: usize, address: Address) -> Checked
 // A judged place, to be written: not in the table.
 fn check_open(machine: Machine, address: Address, place: Checked) -> Checked
     requires { machine.table.first.0 + machine.table.bytes ≤ 2 ^ 32 }
-    ensures { result ≡ places.openTo place (places.tableAllows machine Access.NamedWrite address.0) }
+    ensures { result ≡ places.open_to place (places.table_allows machine Access.NamedWrite address.0) }
 {
     let Checked::Good = place else {
         return place;
@@ -193,7 +193,7 @@ fn check_open(machine: Machine, address: Address, place: Checked) -> Checked
 // The place of a store.
 pub fn check_target(machine: Machine, target: Target, length: usize, address: Address) -> Checked
     requires { places.Fits machine length }
-    ensures { result ≡ places.place_of machine places.oneCell (places.accessTo target) length address.0 }
+    ensures { result ≡ places.place_of machine places.one_cell (places.access_to target) length address.0 }
 {
     match target {
         Target::Data => check_data_write(machine, length, address),
@@ -205,7 +205,7 @@ pub fn check_target(machine: Machine, target: Target, length: usize, address: Ad
 // A byte to be written: not in the table.
 pub fn check_byte_write(machine: Machine, length: usize, address: Address) -> Checked
     requires { places.Fits machine length }
-    ensures { result ≡ places.place_of machine places.oneByte Access.NamedWrite length address.0 }
+    ensures { result ≡ places.place_of machine places.one_byte Access.NamedWrite length address.0 }
 {
     check_open(machine, address, check_byte(length, address))
 }
@@ -224,7 +224,7 @@ fn fetch_at(order: u8, memory: &[u8], address: Address, place: Checked) -> Fetch
 // A cell of the data stack.
 pub fn fetch_data(machine: Machine, memory: &[u8], address: Address) -> Fetched
     requires { places.Fits machine (length memory.now) }
-    ensures { result ≡ places.fetchOf machine Access.DataRead memory.now address.0 }
+    ensures { result ≡ places.fetch_of machine Access.DataRead memory.now address.0 }
 {
     let place = check_data(machine, memory.len(), address);
     fetch_at(machine.order, memory, address, place)
@@ -233,7 +233,7 @@ pub fn fetch_data(machine: Machine, memory: &[u8], address: Address) -> Fetched
 // A cell of the return stack.
 pub fn fetch_return(machine: Machine, memory: &[u8], address: Address) -> Fetched
     requires { places.Fits machine (length memory.now) }
-    ensures { result ≡ places.fetchOf machine Access.ReturnRead memory.now address.0 }
+    ensures { result ≡ places.fetch_of machine Access.ReturnRead memory.now address.0 }
 {
     let place = check_return(machine, memory.len(), address);
     fetch_at(machine.order, memory, address, place)
@@ -242,8 +242,8 @@ pub fn fetch_return(machine: Machine, memory: &[u8], address: Address) -> Fetche
 // A cell of the instruction stream, or one that an operand names.
 pub fn fetch(machine: Machine, memory: &[u8], address: Address) -> Fetched
     requires { places.Fits machine (length memory.now) }
-    ensures value { result ≡ places.fetchOf machine Access.Stream memory.now address.0 }
-    ensures value_2 { result ≡ places.fetchOf machine Access.NamedRead memory.now address.0 }
+    ensures value { result ≡ places.fetch_of machine Access.Stream memory.now address.0 }
+    ensures value_2 { result ≡ places.fetch_of machine Access.NamedRead memory.now address.0 }
 {
     let place = check_named(machine, memory.len(), address);
     fetch_at(machine.order, memory, address, place)
@@ -251,7 +251,7 @@ pub fn fetch(machine: Machine, memory: &[u8], address: Address) -> Fetched
 
 // A byte that an operand names.
 pub fn fetch_byte(machine: Machine, memory: &[u8], address: Address) -> Fetched
-    ensures { result ≡ places.fetchByteOf machine Access.NamedRead memory.now address.0 }
+    ensures { result ≡ places.fetch_byte_of machine Access.NamedRead memory.now address.0 }
 {
     let a = address.0 as usize;
     match check_byte(memory.len(), address) {

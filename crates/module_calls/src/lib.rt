@@ -18,7 +18,7 @@ pub fn call_load_first(
     cells: u32,
     out: &mut [u32],
 ) -> u32
-    ensures { modules.moved memory.new out.new result ≡ modules.loadFirstCall order memory.old file.now address cells out.old }
+    ensures { modules.moved memory.new out.new result ≡ modules.load_first_call order memory.old file.now address cells out.old }
 {
     let judged = judge_load(memory.len(), order, file, Address(address));
     match with_room(judged, out.len(), 1) {
@@ -38,7 +38,7 @@ pub fn call_save(
     output: &mut [u8],
     out: &mut [u32],
 ) -> u32
-    ensures { modules.moved output.new out.new result ≡ modules.saveCall order memory.now address cells output.old out.old }
+    ensures { modules.moved output.new out.new result ≡ modules.save_call order memory.now address cells output.old out.old }
 {
     let judged = judge_save(
         memory.len(),

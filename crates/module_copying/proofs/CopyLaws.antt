@@ -7,42 +7,42 @@ use native.Mathlib.Nat.{eq-or-lt_of_le, le_of_suc-le-suc}
 use native.Mathlib.Numerals.{add-one}
 use native.Mathlib.Omega.{arith}
 use lib.ListN.{length}
-use Rattle.cell.specs.Memory.{cell_at, storeCell, Alike, Bytewise}
-use Rattle.cell.proofs.MemoryLaws.{store_length, Apart, alike_refl, alike-trans, cell-frame, cell-alike, cell-back, cell_below}
+use Rattle.cell.specs.Memory.{cell_at, store_cell, Alike, Bytewise}
+use Rattle.cell.proofs.MemoryLaws.{store_length, Apart, alike_refl, alike_trans, cell_frame, cell_alike, cell_back, cell_below}
 use Rattle.module_copying.specs.Copies.{copied}
 
 module _ (theirs ours : ℕ) (code m : List ℕ) (a : ℕ) where
-  pub copied-length : (k : ℕ) → length (copied theirs ours code m a k) ≡ length m
+  pub copied_length : (k : ℕ) → length (copied theirs ours code m a k) ≡ length m
   unfolding copied
-  copied-length zero = refl
-  copied-length (suc k) = store_length ours _ _ _ ∙ copied-length k
+  copied_length zero = refl
+  copied_length (suc k) = store_length ours _ _ _ ∙ copied_length k
 
   -- bytes outside the cells are as they were
-  pub copied-apart : (lo hi k : ℕ) → Apart lo hi a (4 * k) → Alike lo hi m (copied theirs ours code m a k)
+  pub copied_apart : (lo hi k : ℕ) → Apart lo hi a (4 * k) → Alike lo hi m (copied theirs ours code m a k)
   unfolding copied
-  copied-apart lo hi zero h = alike_refl lo hi m
-  copied-apart lo hi (suc k) (inl h) =
-      alike-trans lo hi m (copied theirs ours code m a k) _ (copied-apart lo hi k (inl (omega arith)))
-      (cell-frame lo hi ours (copied theirs ours code m a k) (a + 4 * k) (cell_at theirs code (4 * k)) (inl (omega arith)))
-  copied-apart lo hi (suc k) (inr h) =
-      alike-trans lo hi m (copied theirs ours code m a k) _ (copied-apart lo hi k (inr h))
-      (cell-frame lo hi ours (copied theirs ours code m a k) (a + 4 * k) (cell_at theirs code (4 * k)) (inr (omega arith)))
+  copied_apart lo hi zero h = alike_refl lo hi m
+  copied_apart lo hi (suc k) (inl h) =
+      alike_trans lo hi m (copied theirs ours code m a k) _ (copied_apart lo hi k (inl (omega arith)))
+      (cell_frame lo hi ours (copied theirs ours code m a k) (a + 4 * k) (cell_at theirs code (4 * k)) (inl (omega arith)))
+  copied_apart lo hi (suc k) (inr h) =
+      alike_trans lo hi m (copied theirs ours code m a k) _ (copied_apart lo hi k (inr h))
+      (cell_frame lo hi ours (copied theirs ours code m a k) (a + 4 * k) (cell_at theirs code (4 * k)) (inr (omega arith)))
 
   -- each cell is the one of the code part
-  pub copied-cell : Bytewise code → (k : ℕ) → a + 4 * k ≤ length m → (i : ℕ) → i < k
+  pub copied_cell : Bytewise code → (k : ℕ) → a + 4 * k ≤ length m → (i : ℕ) → i < k
       → cell_at ours (copied theirs ours code m a k) (a + 4 * i) ≡ cell_at theirs code (4 * i)
   unfolding copied
-  copied-cell low zero r i h = absurd (omega arith)
-  copied-cell low (suc k) r i h =
+  copied_cell low zero r i h = absurd (omega arith)
+  copied_cell low (suc k) r i h =
       ⊎_elim
       (λ (e : i ≡ k). rw e
-      (cell-back ours (copied theirs ours code m a k) (a + 4 * k) (cell_at theirs code (4 * k))
-      (omega (arith, copied-length k)) (cell_below theirs code (4 * k) low)))
+      (cell_back ours (copied theirs ours code m a k) (a + 4 * k) (cell_at theirs code (4 * k))
+      (omega (arith, copied_length k)) (cell_below theirs code (4 * k) low)))
       (λ (l : i < k).
-      cell-alike (a + 4 * i) (a + 4 * i + 4) ours (copied theirs ours code m a k) _ (a + 4 * i)
-      (cell-frame (a + 4 * i) (a + 4 * i + 4) ours (copied theirs ours code m a k) (a + 4 * k) (cell_at theirs code (4 * k)) (inr (omega arith)))
+      cell_alike (a + 4 * i) (a + 4 * i + 4) ours (copied theirs ours code m a k) _ (a + 4 * i)
+      (cell_frame (a + 4 * i) (a + 4 * i + 4) ours (copied theirs ours code m a k) (a + 4 * k) (cell_at theirs code (4 * k)) (inr (omega arith)))
       (omega arith) (omega arith)
-      ∙ copied-cell low k (omega arith) i l)
+      ∙ copied_cell low k (omega arith) i l)
       (eq-or-lt_of_le (le_of_suc-le-suc h))
 
 -- where a copy of `count` cells stands after k of them
@@ -52,21 +52,21 @@ pub record Copying (theirs ours : ℕ) (code m : List ℕ) (a count : ℕ) (now 
   pub so : now ≡ copied theirs ours code m a k
 
 module _ (theirs ours : ℕ) (code m : List ℕ) (a count : ℕ) where
-  pub copy-begins : Copying theirs ours code m a count m 0
+  pub copy_begins : Copying theirs ours code m a count m 0
   unfolding copied
-  copy-begins = record { within = omega arith; long = refl; so = refl }
+  copy_begins = record { within = omega arith; long = refl; so = refl }
 
-  pub copy-goes-on : (now : List ℕ) (k x : ℕ) (next : List ℕ) → k < count → x ≡ cell_at theirs code (4 * k)
-      → next ≡ storeCell ours now (a + 4 * k) x → Copying theirs ours code m a count now k
+  pub copy_goes_on : (now : List ℕ) (k x : ℕ) (next : List ℕ) → k < count → x ≡ cell_at theirs code (4 * k)
+      → next ≡ store_cell ours now (a + 4 * k) x → Copying theirs ours code m a count now k
       → Copying theirs ours code m a count next (k + 1)
   unfolding copied
-  copy-goes-on now k x next h e q s =
+  copy_goes_on now k x next h e q s =
       record {
         within = omega arith;
         long = ap length q ∙ store_length ours now (a + 4 * k) x ∙ s.long;
         so = rw (add-one k) (cc s.so);
       }
 
-  pub copy-ends : (now : List ℕ) (k : ℕ) → count ≤ k → Copying theirs ours code m a count now k
+  pub copy_ends : (now : List ℕ) (k : ℕ) → count ≤ k → Copying theirs ours code m a count now k
       → now ≡ copied theirs ours code m a count
-  copy-ends now k h s = let e : count ≡ k = omega (arith, s.within) in rw e s.so
+  copy_ends now k h s = let e : count ≡ k = omega (arith, s.within) in rw e s.so

@@ -5,36 +5,36 @@ use Prim.Native.Nat.{ℕ, zero, suc, ◌+◌, ◌*◌, ◌≤◌}
 use native.Mathlib.Omega.{arith}
 use lib.ListN.{length, get_or, take, drop}
 use lib.Seq.{get_or-drop, drop-cons, take-add, paste}
-use Rattle.cell.specs.Memory.{cellBytes, cell_at, Bytewise}
-use Rattle.cell.proofs.BytesLaws.{bytes-joined}
+use Rattle.cell.specs.Memory.{cell_bytes, cell_at, Bytewise}
+use Rattle.cell.proofs.BytesLaws.{bytes_joined}
 use Rattle.module_copying.specs.Copies.{copied}
 use Rattle.module_copying.proofs.PlaceLaws.{turned, copied_placed}
 
 -- a part of bytes is bytes
-pub drop-bytewise : (n : ℕ) (m : List ℕ) → Bytewise m → Bytewise (drop n m)
+pub drop_bytewise : (n : ℕ) (m : List ℕ) → Bytewise m → Bytewise (drop n m)
 unfolding Bytewise
-drop-bytewise n m low i = rw (get_or-drop n m i 0) (low (n + i))
+drop_bytewise n m low i = rw (get_or-drop n m i 0) (low (n + i))
 
-pub take-bytewise : (n : ℕ) (m : List ℕ) → Bytewise m → Bytewise (take n m)
+pub take_bytewise : (n : ℕ) (m : List ℕ) → Bytewise m → Bytewise (take n m)
 unfolding Bytewise
-take-bytewise zero m low i = omega arith
-take-bytewise (suc n) [] low i = omega arith
-take-bytewise (suc n) (x ∷ m) low zero = low zero
-take-bytewise (suc n) (x ∷ m) low (suc i) = take-bytewise n m (λ k. low (suc k)) i
+take_bytewise zero m low i = omega arith
+take_bytewise (suc n) [] low i = omega arith
+take_bytewise (suc n) (x ∷ m) low zero = low zero
+take_bytewise (suc n) (x ∷ m) low (suc i) = take_bytewise n m (λ k. low (suc k)) i
 
 -- the bytes of a cell that was read are those that stand there
 bytes_back : (order : ℕ) (code : List ℕ) (c : ℕ) → Bytewise code
-    → cellBytes order (cell_at order code c)
+    → cell_bytes order (cell_at order code c)
     ≡ get_or code c 0 ∷ get_or code (c + 1) 0 ∷ get_or code (c + 2) 0 ∷ get_or code (c + 3) 0 ∷ []
 unfolding cell_at Bytewise
 bytes_back zero code c low =
     let s =
-    bytes-joined (get_or code c 0) (get_or code (c + 1) 0) (get_or code (c + 2) 0) (get_or code (c + 3) 0) (low c) (low (c + 1)) (low (c + 2)) (low (c + 3))
+    bytes_joined (get_or code c 0) (get_or code (c + 1) 0) (get_or code (c + 2) 0) (get_or code (c + 3) 0) (low c) (low (c + 1)) (low (c + 2)) (low (c + 3))
     in
     rw (s.zeroth, s.first, s.second, s.third)
 bytes_back (suc order) code c low =
     let s =
-    bytes-joined (get_or code (c + 3) 0) (get_or code (c + 2) 0) (get_or code (c + 1) 0) (get_or code c 0) (low (c + 3)) (low (c + 2)) (low (c + 1)) (low c)
+    bytes_joined (get_or code (c + 3) 0) (get_or code (c + 2) 0) (get_or code (c + 1) 0) (get_or code c 0) (low (c + 3)) (low (c + 2)) (low (c + 1)) (low c)
     in
     rw (s.zeroth, s.first, s.second, s.third)
 
@@ -55,8 +55,8 @@ four_bytes code c h =
     )
 
 module _ (order : ℕ) (code : List ℕ) (low : Bytewise code) where
-  pub cell-bytes : (c : ℕ) → c + 4 ≤ length code → cellBytes order (cell_at order code c) ≡ take 4 (drop c code)
-  cell-bytes c h = bytes_back order code c low ∙ sym (four_bytes code c h)
+  pub cell_bytes_lem : (c : ℕ) → c + 4 ≤ length code → cell_bytes order (cell_at order code c) ≡ take 4 (drop c code)
+  cell_bytes_lem c h = bytes_back order code c low ∙ sym (four_bytes code c h)
 
   -- cells that keep their order keep their bytes
   turned_same : (k : ℕ) → 4 * k ≤ length code → turned order order code k ≡ take (4 * k) code
@@ -67,9 +67,9 @@ module _ (order : ℕ) (code : List ℕ) (low : Bytewise code) where
         e,
         take-add (4 * k) 4 code,
         turned_same k (omega arith),
-        cell-bytes (4 * k) (omega arith),
+        cell_bytes_lem (4 * k) (omega arith),
       )
 
-  pub copied-same : (m : List ℕ) (a k : ℕ) → a + 4 * k ≤ length m → 4 * k ≤ length code
+  pub copied_same : (m : List ℕ) (a k : ℕ) → a + 4 * k ≤ length m → 4 * k ≤ length code
       → copied order order code m a k ≡ paste m a code (4 * k)
-  copied-same m a k h g = copied_placed order order code m a k h ∙ rw (turned_same k g)
+  copied_same m a k h g = copied_placed order order code m a k h ∙ rw (turned_same k g)

@@ -4,40 +4,40 @@ use mathlib.Core.Bool.{Bool, true, false}
 use mathlib.Core.List.{List, [], ◌∷◌, ◌++◌}
 use Prim.Native.Nat.{ℕ}
 use Rattle.cell.specs.Choice.{if}
-use Rattle.cell.specs.Refusals.{Ground, judge, after, judgeMachine, memoryLength, byteOrder, unaligned}
+use Rattle.cell.specs.Refusals.{Ground, judge, after, judge_machine, memory_length, byte_order, unaligned}
 use Rattle.cell.specs.declared.Refusal.{Refusal}
 use Rattle.cell.specs.declared.Judged.{Judged}
 use Rattle.cell.specs.declared.Judged.TheVariants.{Refused}
 use Rattle.module_judging.specs.Format.{count_of}
-use Rattle.module_judging.specs.Grounds.{header, fileLength, outside, shortOutput, judgeFile, judgePlace, judgeLoad, judgeSave}
+use Rattle.module_judging.specs.Grounds.{header, file_length, outside, short_output, judge_file, judge_place, judge_load, judge_save}
 
-if-after : (t : Bool) (r : Refusal) (i j k : Judged) → k ≡ after i j → if t (Refused r) k ≡ after (if t (Refused r) i) j
-if-after true r i j k e = refl
-if-after false r i j k e = e
+if_after : (t : Bool) (r : Refusal) (i j k : Judged) → k ≡ after i j → if t (Refused r) k ≡ after (if t (Refused r) i) j
+if_after true r i j k e = refl
+if_after false r i j k e = e
 
-judge-append : (xs ys : List Ground) → judge (xs ++ ys) ≡ after (judge xs) (judge ys)
-judge-append [] ys = refl
-judge-append (x ∷ xs) ys = if-after x.applies x.refusal (judge xs) (judge ys) (judge (xs ++ ys)) (judge-append xs ys)
+judge_append : (xs ys : List Ground) → judge (xs ++ ys) ≡ after (judge xs) (judge ys)
+judge_append [] ys = refl
+judge_append (x ∷ xs) ys = if_after x.applies x.refusal (judge xs) (judge ys) (judge (xs ++ ys)) (judge_append xs ys)
 
 -- a load is judged by the machine, then the file, then the place
-pub load-parts : (len order : ℕ) (file : List ℕ) (a : ℕ)
-    → judgeLoad len order file a ≡ after (judgeMachine len order) (after (judgeFile file) (judgePlace len a (count_of file)))
-unfolding judgeLoad judgeMachine judgeFile judgePlace
-load-parts len order file a =
-    judge-append
-    (memoryLength len ∷ byteOrder order ∷ [])
-    (header file ∷ fileLength file ∷ unaligned a ∷ outside len a (count_of file) ∷ [])
-    ∙ ap (after (judge (memoryLength len ∷ byteOrder order ∷ [])))
-    (judge-append (header file ∷ fileLength file ∷ []) (unaligned a ∷ outside len a (count_of file) ∷ []))
+pub load_parts : (len order : ℕ) (file : List ℕ) (a : ℕ)
+    → judge_load len order file a ≡ after (judge_machine len order) (after (judge_file file) (judge_place len a (count_of file)))
+unfolding judge_load judge_machine judge_file judge_place
+load_parts len order file a =
+    judge_append
+    (memory_length len ∷ byte_order order ∷ [])
+    (header file ∷ file_length file ∷ unaligned a ∷ outside len a (count_of file) ∷ [])
+    ∙ ap (after (judge (memory_length len ∷ byte_order order ∷ [])))
+    (judge_append (header file ∷ file_length file ∷ []) (unaligned a ∷ outside len a (count_of file) ∷ []))
 
 -- a save is judged by the machine, then the place, then the output
-pub save-parts : (len order a l size : ℕ)
-    → judgeSave len order a l size
-    ≡ after (judgeMachine len order) (after (judgePlace len a l) (judge (shortOutput size l ∷ [])))
-unfolding judgeSave judgeMachine judgePlace
-save-parts len order a l size =
-    judge-append
-    (memoryLength len ∷ byteOrder order ∷ [])
-    (unaligned a ∷ outside len a l ∷ shortOutput size l ∷ [])
-    ∙ ap (after (judge (memoryLength len ∷ byteOrder order ∷ [])))
-    (judge-append (unaligned a ∷ outside len a l ∷ []) (shortOutput size l ∷ []))
+pub save_parts : (len order a l size : ℕ)
+    → judge_save len order a l size
+    ≡ after (judge_machine len order) (after (judge_place len a l) (judge (short_output size l ∷ [])))
+unfolding judge_save judge_machine judge_place
+save_parts len order a l size =
+    judge_append
+    (memory_length len ∷ byte_order order ∷ [])
+    (unaligned a ∷ outside len a l ∷ short_output size l ∷ [])
+    ∙ ap (after (judge (memory_length len ∷ byte_order order ∷ [])))
+    (judge_append (unaligned a ∷ outside len a l ∷ []) (short_output size l ∷ []))

@@ -1,6 +1,6 @@
 // What refuses a load or a save, in document 01's order. Sums are taken in 64 bits, where none can wrap.
 ghost use Rattle.std.specs.Prelude.{◌≡◌, ◌≤◌, length};
-ghost use Rattle.cell.specs.Memory.{cellCount};
+ghost use Rattle.cell.specs.Memory.{cell_count};
 ghost use Rattle.module_judging.specs.Format as format;
 ghost use Rattle.module_judging.specs.Grounds as grounds;
 
@@ -37,14 +37,14 @@ fn is_titled(file: &[u8]) -> bool
 // The count in the header, in the order that the header names.
 pub fn count_of(file: &[u8]) -> CellCount
     requires { 12 ≤ length file.now }
-    ensures { result ≡ cellCount (format.count_of file.now) }
+    ensures { result ≡ cell_count (format.count_of file.now) }
 {
     CellCount(load_at(file[7], file, 8))
 }
 
 // The header, and the file's length against its count.
 pub fn judge_file(file: &[u8]) -> Judged
-    ensures { result ≡ grounds.judgeFile file.now }
+    ensures { result ≡ grounds.judge_file file.now }
 {
     if file.len() < 8 {
         return Judged::Refused(Refusal::Header);
@@ -68,7 +68,7 @@ pub fn judge_file(file: &[u8]) -> Judged
 
 // The place of a number of cells in a memory.
 pub fn judge_place(length: usize, address: Address, cells: CellCount) -> Judged
-    ensures { result ≡ grounds.judgePlace length address.0 cells.0 }
+    ensures { result ≡ grounds.judge_place length address.0 cells.0 }
 {
     if address.0 % 4 != 0 {
         return Judged::Refused(Refusal::Unaligned);
@@ -83,7 +83,7 @@ pub fn judge_place(length: usize, address: Address, cells: CellCount) -> Judged
 }
 
 pub fn judge_load(length: usize, order: u8, file: &[u8], address: Address) -> Judged
-    ensures { result ≡ grounds.judgeLoad length order file.now address.0 }
+    ensures { result ≡ grounds.judge_load length order file.now address.0 }
 {
     match judge_machine(length, order) {
         Judged::Refused(r) => Judged::Refused(r),
@@ -101,7 +101,7 @@ pub fn judge_save(
     cells: CellCount,
     size: usize,
 ) -> Judged
-    ensures { result ≡ grounds.judgeSave length order address.0 cells.0 size }
+    ensures { result ≡ grounds.judge_save length order address.0 cells.0 size }
 {
     match judge_machine(length, order) {
         Judged::Refused(r) => Judged::Refused(r),

@@ -6,41 +6,41 @@ use native.Mathlib.Omega.{arith}
 use lib.ListN.{length, get_or, take, drop, length-append, length-drop}
 use lib.Seq.{drop_at, drop-cons, take-add, length-take-le, get_or-take, get_or-drop}
 use Rattle.cell.specs.Memory.{cell_at, Bytewise}
-use Rattle.cell.proofs.BytesLaws.{join-bytes}
-use Rattle.module_judging.specs.Format.{title, order_of, count_of, code_of, headerOf, module_of}
+use Rattle.cell.proofs.BytesLaws.{join_bytes}
+use Rattle.module_judging.specs.Format.{title, order_of, count_of, code_of, header_of, module_of}
 use Rattle.module_judging.specs.Conditions.{GoodFile}
-use Rattle.module_saving.proofs.AnswerLaws.{header-length}
-use Rattle.module_copying.proofs.SameLaws.{cell-bytes}
+use Rattle.module_saving.proofs.AnswerLaws.{header_length}
+use Rattle.module_copying.proofs.SameLaws.{cell_bytes_lem}
 
 module _ (order : ℕ) (m : List ℕ) (b l : ℕ) where
-  pub module-length : b + 4 * l ≤ length m → length (module_of order m b l) ≡ 12 + 4 * l
+  pub module_length : b + 4 * l ≤ length m → length (module_of order m b l) ≡ 12 + 4 * l
   unfolding module_of
-  module-length h =
-      length-append (headerOf order l) (take (4 * l) (drop b m))
-      ∙ rw (header-length order l, length-take-le (4 * l) (drop b m) (simp length-drop (omega arith)))
+  module_length h =
+      length-append (header_of order l) (take (4 * l) (drop b m))
+      ∙ rw (header_length order l, length-take-le (4 * l) (drop b m) (simp length-drop (omega arith)))
 
-  pub module-code : code_of (module_of order m b l) ≡ take (4 * l) (drop b m)
+  pub module_code : code_of (module_of order m b l) ≡ take (4 * l) (drop b m)
   unfolding module_of
-  module-code = drop_at (headerOf order l) (take (4 * l) (drop b m)) 12 (header-length order l)
+  module_code = drop_at (header_of order l) (take (4 * l) (drop b m)) 12 (header_length order l)
 
-  pub module-order : order_of (module_of order m b l) ≡ order
-  unfolding module_of headerOf
-  module-order = refl
+  pub module_order : order_of (module_of order m b l) ≡ order
+  unfolding module_of header_of
+  module_order = refl
 
 -- the count is read as it was written
 pub module-count : (order : ℕ) (m : List ℕ) (b l : ℕ) → l < 2 ^ 32 → count_of (module_of order m b l) ≡ l
-unfolding module_of headerOf count_of cell_at
-module-count zero m b l h = join-bytes l h
-module-count (suc order) m b l h = join-bytes l h
+unfolding module_of header_of count_of cell_at
+module-count zero m b l h = join_bytes l h
+module-count (suc order) m b l h = join_bytes l h
 
 pub module-good : (order : ℕ) (m : List ℕ) (b l : ℕ) → order ≤ 1 → l < 2 ^ 32 → b + 4 * l ≤ length m
     → GoodFile (module_of order m b l)
-unfolding module_of headerOf
+unfolding module_of header_of
 module-good order m b l o h r =
     record {
       titled = refl;
       known = o;
-      whole = module-length order m b l r ∙ ap (λ (n : ℕ). 12 + 4 * n) (sym (module-count order m b l h));
+      whole = module_length order m b l r ∙ ap (λ (n : ℕ). 12 + 4 * n) (sym (module-count order m b l h));
     }
 
 -- the cells of the code part are those of the memory that was saved
@@ -57,11 +57,11 @@ module-cell order m b l i h =
     shift n = omega arith
 
 -- the header of a good file is the one that a save would write
-pub header-back : (file : List ℕ) → GoodFile file → Bytewise file → headerOf (order_of file) (count_of file) ≡ take 12 file
-unfolding headerOf count_of
-header-back file g low =
+pub header_back : (file : List ℕ) → GoodFile file → Bytewise file → header_of (order_of file) (count_of file) ≡ take 12 file
+unfolding header_of count_of
+header_back file g low =
     let h : 12 ≤ length file = omega (arith, g.whole) in
-    ap (λ (r : List ℕ). title ++ (order_of file ∷ r)) (cell-bytes (order_of file) file low 8 h)
+    ap (λ (r : List ℕ). title ++ (order_of file ∷ r)) (cell_bytes_lem (order_of file) file low 8 h)
     ∙ ap (λ (r : List ℕ). title ++ take 5 r) (sym (drop-cons file 7 0 (omega (arith, h))))
     ∙ ap (λ (r : List ℕ). r ++ take 5 (drop 7 file)) (sym g.titled)
     ∙ sym (take-add 7 5 file)

@@ -1,7 +1,7 @@
 -- Document 01, Worked on paper, the row on modules: a cell of 55h in a file of order 0, and its bytes on a machine of order 1. Then, for document 02,
 -- (c), a file of two cells that a load is told to halt in.
 use Rattle.std.specs.Prelude.{List, [], ◌∷◌, ◌++◌, ℕ, take, drop, replicate}
-use Rattle.module_loading.specs.Answers.{LoadResult, load_of, loadFirstOf}
+use Rattle.module_loading.specs.Answers.{LoadResult, load_of, load_first_of}
 
 -- the file: "BEETLE", 00h, order 0, one cell, 55h
 abbrev pub module55 : List ℕ
@@ -20,13 +20,13 @@ abbrev pub paper55 : List ℕ
 paper55 = 0x00 ∷ 0x00 ∷ 0x00 ∷ 0x55 ∷ []
 
 -- the header of a module of order 0 with two cells, and the cells 55h and 01020304h
-abbrev pub twoCells : List ℕ
-twoCells = take 8 module55 ++ (0x02 ∷ 0x00 ∷ 0x00 ∷ 0x00 ∷ 0x55 ∷ 0x00 ∷ 0x00 ∷ 0x00 ∷ 0x04 ∷ 0x03 ∷ 0x02 ∷ 0x01 ∷ [])
+abbrev pub two_cells : List ℕ
+two_cells = take 8 module55 ++ (0x02 ∷ 0x00 ∷ 0x00 ∷ 0x00 ∷ 0x55 ∷ 0x00 ∷ 0x00 ∷ 0x00 ∷ 0x04 ∷ 0x03 ∷ 0x02 ∷ 0x01 ∷ [])
 
 -- on a machine of a byte order, with 400h bytes of 5Ah, at address 10h, told to halt after k cells
-abbrev pub haltedAfter : ℕ → ℕ → LoadResult
-haltedAfter order k = loadFirstOf order (replicate 1024 0x5A) twoCells 0x10 k
+abbrev pub halted_after : ℕ → ℕ → LoadResult
+halted_after order k = load_first_of order (replicate 1024 0x5A) two_cells 0x10 k
 
 -- the eight bytes from the address on
-abbrev pub haltedBytes : ℕ → ℕ → List ℕ
-haltedBytes order k = take 8 (drop 0x10 (haltedAfter order k).memory)
+abbrev pub halted_bytes : ℕ → ℕ → List ℕ
+halted_bytes order k = take 8 (drop 0x10 (halted_after order k).memory)

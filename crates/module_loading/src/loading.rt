@@ -1,6 +1,6 @@
 // load_object and load_first.
 ghost use Rattle.std.specs.Prelude.{◌≡◌, ◌≤◌, min, length};
-ghost use Rattle.cell.specs.Memory.{cellCount};
+ghost use Rattle.cell.specs.Memory.{cell_count};
 ghost use Rattle.module_judging.specs.Format as format;
 ghost use Rattle.module_loading.specs.Answers as answers;
 
@@ -19,7 +19,7 @@ pub fn code_of(file: &[u8]) -> &[u8]
 
 // The smaller of two counts.
 fn fewer(a: CellCount, b: CellCount) -> CellCount
-    ensures { result ≡ cellCount (min a.0 b.0) }
+    ensures { result ≡ cell_count (min a.0 b.0) }
 {
     if a.0 < b.0 { a } else { b }
 }
@@ -32,7 +32,7 @@ pub fn load_first(
     address: Address,
     cells: CellCount,
 ) -> Loaded
-    ensures { answers.loadedTo memory.new result ≡ answers.loadFirstOf order memory.old file.now address.0 cells.0 }
+    ensures { answers.loaded_to memory.new result ≡ answers.load_first_of order memory.old file.now address.0 cells.0 }
 {
     match judge_load(memory.len(), order, file, address) {
         Judged::Refused(r) => Loaded::Refused(r),
@@ -46,7 +46,7 @@ pub fn load_first(
 
 // A load with no halt: no file has more cells than a cell can count.
 pub fn load_object(order: u8, memory: &mut [u8], file: &[u8], address: Address) -> Loaded
-    ensures { answers.loadedTo memory.new result ≡ answers.load_of order memory.old file.now address.0 }
+    ensures { answers.loaded_to memory.new result ≡ answers.load_of order memory.old file.now address.0 }
 {
     load_first(order, memory, file, address, CellCount(0xFFFFFFFF))
 }

@@ -7,7 +7,7 @@ use cell::judgement::refusal_number;
 
 // 0, or the refusal's number.
 pub fn save_number(answer: Saved) -> u32
-    ensures { result ≡ answers.saveNumber answer }
+    ensures { result ≡ answers.save_number answer }
 {
     match answer {
         Saved::Refused(r) => refusal_number(r),
@@ -17,7 +17,7 @@ pub fn save_number(answer: Saved) -> u32
 
 // The number of bytes written, 0 on a refusal.
 pub fn save_count(answer: Saved) -> u32
-    ensures { result ≡ answers.saveCount answer }
+    ensures { result ≡ answers.save_count answer }
 {
     match answer {
         Saved::Refused(_) => 0,

@@ -12,7 +12,7 @@ use module_judging::judgement::judge_save;
 // The first twelve bytes of a module.
 fn write_header(order: u8, cells: CellCount, output: &mut [u8])
     requires { 12 ≤ length output.old }
-    ensures { output.new ≡ format.headerOf order cells.0 ++ drop 12 output.old }
+    ensures { output.new ≡ format.header_of order cells.0 ++ drop 12 output.old }
 {
     output[0] = b'B';
     output[1] = b'E';
@@ -32,7 +32,7 @@ pub fn save_object(
     cells: CellCount,
     output: &mut [u8],
 ) -> Saved
-    ensures { answers.savedTo output.new result ≡ answers.saveOf order memory.now address.0 cells.0 output.old }
+    ensures { answers.saved_to output.new result ≡ answers.save_of order memory.now address.0 cells.0 output.old }
 {
     match judge_save(memory.len(), order, address, cells, output.len()) {
         Judged::Refused(r) => Saved::Refused(r),

@@ -15,7 +15,7 @@ use machine::{Machine, OneStore, Registers, TwoStores};
 // 1Eh + ( n1 n2 -- n3 )
 pub fn plus(machine: Machine, memory: &[u8], r: Registers) -> OneStore
     requires { places.Fits machine (length memory.now) }
-    ensures { effects.oneStore result ≡ plain.plainAt machine Instruction.Plus memory.now r }
+    ensures { effects.one_store result ≡ plain.plain_at machine Instruction.Plus memory.now r }
 {
     let got = fetch_data(machine, memory, Address(r.sp));
     let Fetched::Cell(x2) = got else {
@@ -31,7 +31,7 @@ pub fn plus(machine: Machine, memory: &[u8], r: Registers) -> OneStore
 // 1Fh - ( n1 n2 -- n3 )
 pub fn minus(machine: Machine, memory: &[u8], r: Registers) -> OneStore
     requires { places.Fits machine (length memory.now) }
-    ensures { effects.oneStore result ≡ plain.plainAt machine Instruction.Minus memory.now r }
+    ensures { effects.one_store result ≡ plain.plain_at machine Instruction.Minus memory.now r }
 {
     let got = fetch_data(machine, memory, Address(r.sp));
     let Fetched::Cell(x2) = got else {
@@ -47,7 +47,7 @@ pub fn minus(machine: Machine, memory: &[u8], r: Registers) -> OneStore
 // 20h >-< ( n1 n2 -- n3 )
 pub fn swap_minus(machine: Machine, memory: &[u8], r: Registers) -> OneStore
     requires { places.Fits machine (length memory.now) }
-    ensures { effects.oneStore result ≡ plain.plainAt machine Instruction.SwapMinus memory.now r }
+    ensures { effects.one_store result ≡ plain.plain_at machine Instruction.SwapMinus memory.now r }
 {
     let got = fetch_data(machine, memory, Address(r.sp));
     let Fetched::Cell(x2) = got else {
@@ -63,7 +63,7 @@ pub fn swap_minus(machine: Machine, memory: &[u8], r: Registers) -> OneStore
 // 21h 1+ ( n1 -- n2 )
 pub fn one_plus(machine: Machine, memory: &[u8], r: Registers) -> OneStore
     requires { places.Fits machine (length memory.now) }
-    ensures { effects.oneStore result ≡ plain.plainAt machine Instruction.OnePlus memory.now r }
+    ensures { effects.one_store result ≡ plain.plain_at machine Instruction.OnePlus memory.now r }
 {
     let got = fetch_data(machine, memory, Address(r.sp));
     let Fetched::Cell(x) = got else {
@@ -75,7 +75,7 @@ pub fn one_plus(machine: Machine, memory: &[u8], r: Registers) -> OneStore
 // 22h 1- ( n1 -- n2 )
 pub fn one_minus(machine: Machine, memory: &[u8], r: Registers) -> OneStore
     requires { places.Fits machine (length memory.now) }
-    ensures { effects.oneStore result ≡ plain.plainAt machine Instruction.OneMinus memory.now r }
+    ensures { effects.one_store result ≡ plain.plain_at machine Instruction.OneMinus memory.now r }
 {
     let got = fetch_data(machine, memory, Address(r.sp));
     let Fetched::Cell(x) = got else {
@@ -87,7 +87,7 @@ pub fn one_minus(machine: Machine, memory: &[u8], r: Registers) -> OneStore
 // 23h CELL+ ( n1 -- n2 )
 pub fn cell_plus(machine: Machine, memory: &[u8], r: Registers) -> OneStore
     requires { places.Fits machine (length memory.now) }
-    ensures { effects.oneStore result ≡ plain.plainAt machine Instruction.CellPlus memory.now r }
+    ensures { effects.one_store result ≡ plain.plain_at machine Instruction.CellPlus memory.now r }
 {
     let got = fetch_data(machine, memory, Address(r.sp));
     let Fetched::Cell(x) = got else {
@@ -99,7 +99,7 @@ pub fn cell_plus(machine: Machine, memory: &[u8], r: Registers) -> OneStore
 // 24h CELL- ( n1 -- n2 )
 pub fn cell_minus(machine: Machine, memory: &[u8], r: Registers) -> OneStore
     requires { places.Fits machine (length memory.now) }
-    ensures { effects.oneStore result ≡ plain.plainAt machine Instruction.CellMinus memory.now r }
+    ensures { effects.one_store result ≡ plain.plain_at machine Instruction.CellMinus memory.now r }
 {
     let got = fetch_data(machine, memory, Address(r.sp));
     let Fetched::Cell(x) = got else {
@@ -111,7 +111,7 @@ pub fn cell_minus(machine: Machine, memory: &[u8], r: Registers) -> OneStore
 // 25h * ( n1 n2 -- n3 )
 pub fn star(machine: Machine, memory: &[u8], r: Registers) -> OneStore
     requires { places.Fits machine (length memory.now) }
-    ensures { effects.oneStore result ≡ plain.plainAt machine Instruction.Star memory.now r }
+    ensures { effects.one_store result ≡ plain.plain_at machine Instruction.Star memory.now r }
 {
     let got = fetch_data(machine, memory, Address(r.sp));
     let Fetched::Cell(x2) = got else {
@@ -127,7 +127,7 @@ pub fn star(machine: Machine, memory: &[u8], r: Registers) -> OneStore
 // 26h / ( n1 n2 -- n3 )
 pub fn slash(machine: Machine, memory: &[u8], r: Registers) -> OneStore
     requires { places.Fits machine (length memory.now) }
-    ensures { effects.oneStore result ≡ plain.plainAt machine Instruction.Slash memory.now r }
+    ensures { effects.one_store result ≡ plain.plain_at machine Instruction.Slash memory.now r }
 {
     let got = fetch_data(machine, memory, Address(r.sp));
     let Fetched::Cell(n2) = got else {
@@ -147,7 +147,7 @@ pub fn slash(machine: Machine, memory: &[u8], r: Registers) -> OneStore
 // 27h MOD ( n1 n2 -- n3 )
 pub fn modulo(machine: Machine, memory: &[u8], r: Registers) -> OneStore
     requires { places.Fits machine (length memory.now) }
-    ensures { effects.oneStore result ≡ plain.plainAt machine Instruction.Mod memory.now r }
+    ensures { effects.one_store result ≡ plain.plain_at machine Instruction.Mod memory.now r }
 {
     let got = fetch_data(machine, memory, Address(r.sp));
     let Fetched::Cell(n2) = got else {
@@ -167,7 +167,7 @@ pub fn modulo(machine: Machine, memory: &[u8], r: Registers) -> OneStore
 // 28h /MOD ( n1 n2 -- n3 n4 )
 pub fn slash_mod(machine: Machine, memory: &[u8], r: Registers) -> TwoStores
     requires { places.Fits machine (length memory.now) }
-    ensures { effects.twoStores result ≡ plain.plainAt machine Instruction.SlashMod memory.now r }
+    ensures { effects.two_stores result ≡ plain.plain_at machine Instruction.SlashMod memory.now r }
 {
     let got = fetch_data(machine, memory, Address(r.sp));
     let Fetched::Cell(n2) = got else {
@@ -186,7 +186,7 @@ pub fn slash_mod(machine: Machine, memory: &[u8], r: Registers) -> TwoStores
 // 29h U/MOD ( u1 u2 -- u3 u4 )
 pub fn u_slash_mod(machine: Machine, memory: &[u8], r: Registers) -> TwoStores
     requires { places.Fits machine (length memory.now) }
-    ensures { effects.twoStores result ≡ plain.plainAt machine Instruction.USlashMod memory.now r }
+    ensures { effects.two_stores result ≡ plain.plain_at machine Instruction.USlashMod memory.now r }
 {
     let got = fetch_data(machine, memory, Address(r.sp));
     let Fetched::Cell(n2) = got else {
@@ -205,7 +205,7 @@ pub fn u_slash_mod(machine: Machine, memory: &[u8], r: Registers) -> TwoStores
 // 2Ah S/REM ( n1 n2 -- n3 n4 )
 pub fn s_slash_rem(machine: Machine, memory: &[u8], r: Registers) -> TwoStores
     requires { places.Fits machine (length memory.now) }
-    ensures { effects.twoStores result ≡ plain.plainAt machine Instruction.SSlashRem memory.now r }
+    ensures { effects.two_stores result ≡ plain.plain_at machine Instruction.SSlashRem memory.now r }
 {
     let got = fetch_data(machine, memory, Address(r.sp));
     let Fetched::Cell(n2) = got else {
@@ -224,7 +224,7 @@ pub fn s_slash_rem(machine: Machine, memory: &[u8], r: Registers) -> TwoStores
 // 2Bh 2/ ( x1 -- x2 )
 pub fn two_slash(machine: Machine, memory: &[u8], r: Registers) -> OneStore
     requires { places.Fits machine (length memory.now) }
-    ensures { effects.oneStore result ≡ plain.plainAt machine Instruction.TwoSlash memory.now r }
+    ensures { effects.one_store result ≡ plain.plain_at machine Instruction.TwoSlash memory.now r }
 {
     let got = fetch_data(machine, memory, Address(r.sp));
     let Fetched::Cell(x) = got else {
@@ -236,7 +236,7 @@ pub fn two_slash(machine: Machine, memory: &[u8], r: Registers) -> OneStore
 // 2Ch CELLS ( n1 -- n2 )
 pub fn cells(machine: Machine, memory: &[u8], r: Registers) -> OneStore
     requires { places.Fits machine (length memory.now) }
-    ensures { effects.oneStore result ≡ plain.plainAt machine Instruction.Cells memory.now r }
+    ensures { effects.one_store result ≡ plain.plain_at machine Instruction.Cells memory.now r }
 {
     let got = fetch_data(machine, memory, Address(r.sp));
     let Fetched::Cell(x) = got else {
@@ -248,7 +248,7 @@ pub fn cells(machine: Machine, memory: &[u8], r: Registers) -> OneStore
 // 2Dh ABS ( n -- u )
 pub fn abs(machine: Machine, memory: &[u8], r: Registers) -> OneStore
     requires { places.Fits machine (length memory.now) }
-    ensures { effects.oneStore result ≡ plain.plainAt machine Instruction.Abs memory.now r }
+    ensures { effects.one_store result ≡ plain.plain_at machine Instruction.Abs memory.now r }
 {
     let got = fetch_data(machine, memory, Address(r.sp));
     let Fetched::Cell(x) = got else {
@@ -260,7 +260,7 @@ pub fn abs(machine: Machine, memory: &[u8], r: Registers) -> OneStore
 // 2Eh NEGATE ( n1 -- n2 )
 pub fn negate(machine: Machine, memory: &[u8], r: Registers) -> OneStore
     requires { places.Fits machine (length memory.now) }
-    ensures { effects.oneStore result ≡ plain.plainAt machine Instruction.Negate memory.now r }
+    ensures { effects.one_store result ≡ plain.plain_at machine Instruction.Negate memory.now r }
 {
     let got = fetch_data(machine, memory, Address(r.sp));
     let Fetched::Cell(x) = got else {
@@ -272,7 +272,7 @@ pub fn negate(machine: Machine, memory: &[u8], r: Registers) -> OneStore
 // 2Fh MAX ( n1 n2 -- n3 )
 pub fn max(machine: Machine, memory: &[u8], r: Registers) -> OneStore
     requires { places.Fits machine (length memory.now) }
-    ensures { effects.oneStore result ≡ plain.plainAt machine Instruction.Max memory.now r }
+    ensures { effects.one_store result ≡ plain.plain_at machine Instruction.Max memory.now r }
 {
     let got = fetch_data(machine, memory, Address(r.sp));
     let Fetched::Cell(x2) = got else {
@@ -288,7 +288,7 @@ pub fn max(machine: Machine, memory: &[u8], r: Registers) -> OneStore
 // 30h MIN ( n1 n2 -- n3 )
 pub fn min(machine: Machine, memory: &[u8], r: Registers) -> OneStore
     requires { places.Fits machine (length memory.now) }
-    ensures { effects.oneStore result ≡ plain.plainAt machine Instruction.Min memory.now r }
+    ensures { effects.one_store result ≡ plain.plain_at machine Instruction.Min memory.now r }
 {
     let got = fetch_data(machine, memory, Address(r.sp));
     let Fetched::Cell(x2) = got else {

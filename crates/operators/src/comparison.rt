@@ -14,7 +14,7 @@ use machine::{Machine, OneStore, Registers};
 // 0Fh < ( n1 n2 -- flag )
 pub fn less(machine: Machine, memory: &[u8], r: Registers) -> OneStore
     requires { places.Fits machine (length memory.now) }
-    ensures { effects.oneStore result ≡ plain.plainAt machine Instruction.Less memory.now r }
+    ensures { effects.one_store result ≡ plain.plain_at machine Instruction.Less memory.now r }
 {
     let got = fetch_data(machine, memory, Address(r.sp));
     let Fetched::Cell(x2) = got else {
@@ -30,7 +30,7 @@ pub fn less(machine: Machine, memory: &[u8], r: Registers) -> OneStore
 // 10h > ( n1 n2 -- flag )
 pub fn greater(machine: Machine, memory: &[u8], r: Registers) -> OneStore
     requires { places.Fits machine (length memory.now) }
-    ensures { effects.oneStore result ≡ plain.plainAt machine Instruction.Greater memory.now r }
+    ensures { effects.one_store result ≡ plain.plain_at machine Instruction.Greater memory.now r }
 {
     let got = fetch_data(machine, memory, Address(r.sp));
     let Fetched::Cell(x2) = got else {
@@ -46,7 +46,7 @@ pub fn greater(machine: Machine, memory: &[u8], r: Registers) -> OneStore
 // 11h = ( x1 x2 -- flag )
 pub fn equal(machine: Machine, memory: &[u8], r: Registers) -> OneStore
     requires { places.Fits machine (length memory.now) }
-    ensures { effects.oneStore result ≡ plain.plainAt machine Instruction.Equal memory.now r }
+    ensures { effects.one_store result ≡ plain.plain_at machine Instruction.Equal memory.now r }
 {
     let got = fetch_data(machine, memory, Address(r.sp));
     let Fetched::Cell(x2) = got else {
@@ -62,7 +62,7 @@ pub fn equal(machine: Machine, memory: &[u8], r: Registers) -> OneStore
 // 12h <> ( x1 x2 -- flag )
 pub fn not_equal(machine: Machine, memory: &[u8], r: Registers) -> OneStore
     requires { places.Fits machine (length memory.now) }
-    ensures { effects.oneStore result ≡ plain.plainAt machine Instruction.NotEqual memory.now r }
+    ensures { effects.one_store result ≡ plain.plain_at machine Instruction.NotEqual memory.now r }
 {
     let got = fetch_data(machine, memory, Address(r.sp));
     let Fetched::Cell(x2) = got else {
@@ -78,7 +78,7 @@ pub fn not_equal(machine: Machine, memory: &[u8], r: Registers) -> OneStore
 // 13h 0< ( n -- flag )
 pub fn zero_less(machine: Machine, memory: &[u8], r: Registers) -> OneStore
     requires { places.Fits machine (length memory.now) }
-    ensures { effects.oneStore result ≡ plain.plainAt machine Instruction.ZeroLess memory.now r }
+    ensures { effects.one_store result ≡ plain.plain_at machine Instruction.ZeroLess memory.now r }
 {
     let got = fetch_data(machine, memory, Address(r.sp));
     let Fetched::Cell(x) = got else {
@@ -90,7 +90,7 @@ pub fn zero_less(machine: Machine, memory: &[u8], r: Registers) -> OneStore
 // 14h 0> ( n -- flag )
 pub fn zero_greater(machine: Machine, memory: &[u8], r: Registers) -> OneStore
     requires { places.Fits machine (length memory.now) }
-    ensures { effects.oneStore result ≡ plain.plainAt machine Instruction.ZeroGreater memory.now r }
+    ensures { effects.one_store result ≡ plain.plain_at machine Instruction.ZeroGreater memory.now r }
 {
     let got = fetch_data(machine, memory, Address(r.sp));
     let Fetched::Cell(x) = got else {
@@ -102,7 +102,7 @@ pub fn zero_greater(machine: Machine, memory: &[u8], r: Registers) -> OneStore
 // 15h 0= ( x -- flag )
 pub fn zero_equal(machine: Machine, memory: &[u8], r: Registers) -> OneStore
     requires { places.Fits machine (length memory.now) }
-    ensures { effects.oneStore result ≡ plain.plainAt machine Instruction.ZeroEqual memory.now r }
+    ensures { effects.one_store result ≡ plain.plain_at machine Instruction.ZeroEqual memory.now r }
 {
     let got = fetch_data(machine, memory, Address(r.sp));
     let Fetched::Cell(x) = got else {
@@ -114,7 +114,7 @@ pub fn zero_equal(machine: Machine, memory: &[u8], r: Registers) -> OneStore
 // 16h 0<> ( x -- flag )
 pub fn zero_not_equal(machine: Machine, memory: &[u8], r: Registers) -> OneStore
     requires { places.Fits machine (length memory.now) }
-    ensures { effects.oneStore result ≡ plain.plainAt machine Instruction.ZeroNotEqual memory.now r }
+    ensures { effects.one_store result ≡ plain.plain_at machine Instruction.ZeroNotEqual memory.now r }
 {
     let got = fetch_data(machine, memory, Address(r.sp));
     let Fetched::Cell(x) = got else {
@@ -126,7 +126,7 @@ pub fn zero_not_equal(machine: Machine, memory: &[u8], r: Registers) -> OneStore
 // 17h U< ( u1 u2 -- flag )
 pub fn u_less(machine: Machine, memory: &[u8], r: Registers) -> OneStore
     requires { places.Fits machine (length memory.now) }
-    ensures { effects.oneStore result ≡ plain.plainAt machine Instruction.ULess memory.now r }
+    ensures { effects.one_store result ≡ plain.plain_at machine Instruction.ULess memory.now r }
 {
     let got = fetch_data(machine, memory, Address(r.sp));
     let Fetched::Cell(x2) = got else {
@@ -142,7 +142,7 @@ pub fn u_less(machine: Machine, memory: &[u8], r: Registers) -> OneStore
 // 18h U> ( u1 u2 -- flag )
 pub fn u_greater(machine: Machine, memory: &[u8], r: Registers) -> OneStore
     requires { places.Fits machine (length memory.now) }
-    ensures { effects.oneStore result ≡ plain.plainAt machine Instruction.UGreater memory.now r }
+    ensures { effects.one_store result ≡ plain.plain_at machine Instruction.UGreater memory.now r }
 {
     let got = fetch_data(machine, memory, Address(r.sp));
     let Fetched::Cell(x2) = got else {

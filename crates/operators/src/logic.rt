@@ -14,7 +14,7 @@ use machine::{Machine, OneStore, Registers};
 // 31h INVERT ( x1 -- x2 )
 pub fn invert(machine: Machine, memory: &[u8], r: Registers) -> OneStore
     requires { places.Fits machine (length memory.now) }
-    ensures { effects.oneStore result ≡ plain.plainAt machine Instruction.Invert memory.now r }
+    ensures { effects.one_store result ≡ plain.plain_at machine Instruction.Invert memory.now r }
 {
     let got = fetch_data(machine, memory, Address(r.sp));
     let Fetched::Cell(x) = got else {
@@ -26,7 +26,7 @@ pub fn invert(machine: Machine, memory: &[u8], r: Registers) -> OneStore
 // 32h AND ( x1 x2 -- x3 )
 pub fn and(machine: Machine, memory: &[u8], r: Registers) -> OneStore
     requires { places.Fits machine (length memory.now) }
-    ensures { effects.oneStore result ≡ plain.plainAt machine Instruction.And memory.now r }
+    ensures { effects.one_store result ≡ plain.plain_at machine Instruction.And memory.now r }
 {
     let got = fetch_data(machine, memory, Address(r.sp));
     let Fetched::Cell(x2) = got else {
@@ -42,7 +42,7 @@ pub fn and(machine: Machine, memory: &[u8], r: Registers) -> OneStore
 // 33h OR ( x1 x2 -- x3 )
 pub fn or(machine: Machine, memory: &[u8], r: Registers) -> OneStore
     requires { places.Fits machine (length memory.now) }
-    ensures { effects.oneStore result ≡ plain.plainAt machine Instruction.Or memory.now r }
+    ensures { effects.one_store result ≡ plain.plain_at machine Instruction.Or memory.now r }
 {
     let got = fetch_data(machine, memory, Address(r.sp));
     let Fetched::Cell(x2) = got else {
@@ -58,7 +58,7 @@ pub fn or(machine: Machine, memory: &[u8], r: Registers) -> OneStore
 // 34h XOR ( x1 x2 -- x3 )
 pub fn xor(machine: Machine, memory: &[u8], r: Registers) -> OneStore
     requires { places.Fits machine (length memory.now) }
-    ensures { effects.oneStore result ≡ plain.plainAt machine Instruction.Xor memory.now r }
+    ensures { effects.one_store result ≡ plain.plain_at machine Instruction.Xor memory.now r }
 {
     let got = fetch_data(machine, memory, Address(r.sp));
     let Fetched::Cell(x2) = got else {
@@ -74,7 +74,7 @@ pub fn xor(machine: Machine, memory: &[u8], r: Registers) -> OneStore
 // 35h LSHIFT ( x1 u -- x2 )
 pub fn l_shift(machine: Machine, memory: &[u8], r: Registers) -> OneStore
     requires { places.Fits machine (length memory.now) }
-    ensures { effects.oneStore result ≡ plain.plainAt machine Instruction.LShift memory.now r }
+    ensures { effects.one_store result ≡ plain.plain_at machine Instruction.LShift memory.now r }
 {
     let got = fetch_data(machine, memory, Address(r.sp));
     let Fetched::Cell(x2) = got else {
@@ -90,7 +90,7 @@ pub fn l_shift(machine: Machine, memory: &[u8], r: Registers) -> OneStore
 // 36h RSHIFT ( x1 u -- x2 )
 pub fn r_shift(machine: Machine, memory: &[u8], r: Registers) -> OneStore
     requires { places.Fits machine (length memory.now) }
-    ensures { effects.oneStore result ≡ plain.plainAt machine Instruction.RShift memory.now r }
+    ensures { effects.one_store result ≡ plain.plain_at machine Instruction.RShift memory.now r }
 {
     let got = fetch_data(machine, memory, Address(r.sp));
     let Fetched::Cell(x2) = got else {
@@ -106,7 +106,7 @@ pub fn r_shift(machine: Machine, memory: &[u8], r: Registers) -> OneStore
 // 37h 1LSHIFT ( x1 -- x2 )
 pub fn one_l_shift(machine: Machine, memory: &[u8], r: Registers) -> OneStore
     requires { places.Fits machine (length memory.now) }
-    ensures { effects.oneStore result ≡ plain.plainAt machine Instruction.OneLShift memory.now r }
+    ensures { effects.one_store result ≡ plain.plain_at machine Instruction.OneLShift memory.now r }
 {
     let got = fetch_data(machine, memory, Address(r.sp));
     let Fetched::Cell(x) = got else {
@@ -118,7 +118,7 @@ pub fn one_l_shift(machine: Machine, memory: &[u8], r: Registers) -> OneStore
 // 38h 1RSHIFT ( x1 -- x2 )
 pub fn one_r_shift(machine: Machine, memory: &[u8], r: Registers) -> OneStore
     requires { places.Fits machine (length memory.now) }
-    ensures { effects.oneStore result ≡ plain.plainAt machine Instruction.OneRShift memory.now r }
+    ensures { effects.one_store result ≡ plain.plain_at machine Instruction.OneRShift memory.now r }
 {
     let got = fetch_data(machine, memory, Address(r.sp));
     let Fetched::Cell(x) = got else {

@@ -19,7 +19,7 @@ pub fn call_pack(
     output: &mut [u8],
     out: &mut [u32],
 ) -> u32
-    ensures { modules.moved output.new out.new result ≡ listings.packCall order kinds.now operands.now base output.old out.old }
+    ensures { modules.moved output.new out.new result ≡ listings.pack_call order kinds.now operands.now base output.old out.old }
 {
     let judged = judge_pack(order, kinds, operands, Address(base), output.len());
     match with_room(judged, out.len(), 1) {
@@ -29,7 +29,7 @@ pub fn call_pack(
 }
 
 pub fn call_pack_file(order: u8, file: &[u8], output: &mut [u8], out: &mut [u32]) -> u32
-    ensures { modules.moved output.new out.new result ≡ listings.packFileCall order file.now output.old out.old }
+    ensures { modules.moved output.new out.new result ≡ listings.pack_file_call order file.now output.old out.old }
 {
     let judged = judge_pack_file(order, file, output.len());
     match with_room(judged, out.len(), 1) {

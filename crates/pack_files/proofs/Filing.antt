@@ -10,121 +10,121 @@ use lib.Dec.{eqb, ltb}
 use lib.ListN.{length, take, drop, length-append, length-take, length-drop}
 use lib.Seq.{take_at}
 use Rattle.cell.specs.Choice.{if}
-use Rattle.cell.specs.Refusals.{judge, after, inOrder}
+use Rattle.cell.specs.Refusals.{judge, after, in_order}
 use Rattle.cell.specs.declared.Refusal.{Refusal}
 use Rattle.cell.specs.declared.Refusal.TheVariants.{ItemCount}
 use Rattle.cell.specs.declared.Judged.{Judged}
 use Rattle.cell.specs.declared.Judged.TheVariants.{Passed, Refused}
-use Rattle.cell.proofs.JudgementLaws.{both-pass, one-clear}
-use Rattle.pack_layout.specs.Listing.{listed, judgedArrays, judgedListing}
-use Rattle.pack_layout.specs.File.{cellsFrom, fileCount, fileBase, fileKinds, fileOperands, filed, judgedLength, judgedFile}
-use Rattle.pack_layout.specs.Packing.{imageCells, judgedPlace}
-use Rattle.pack_judging.proofs.Reading.{length-of}
+use Rattle.cell.proofs.JudgementLaws.{both_pass, one_clear}
+use Rattle.pack_layout.specs.Listing.{listed, judged_arrays, judged_listing}
+use Rattle.pack_layout.specs.File.{cells_from, file_count, file_base, file_kinds, file_operands, filed, judged_length, judged_file}
+use Rattle.pack_layout.specs.Packing.{image_cells, judged_place}
+use Rattle.pack_judging.proofs.Reading.{length_of}
 use Rattle.packer.specs.declared.Packed.{Packed}
 use Rattle.packer.specs.declared.Packed.TheVariants as packed
-use Rattle.pack_refusals.specs.Judgement.{judgeOrder, judgeRoom, judgePack}
-use Rattle.packer.specs.Pack.{packCount, PackResult, packedTo, packOf}
+use Rattle.pack_refusals.specs.Judgement.{judge_order, judge_room, judge_pack}
+use Rattle.packer.specs.Pack.{pack_count, PackResult, packed_to, pack_of}
 use Rattle.pack_refusals.proofs.Judging.{all_room}
-use Rattle.packer.proofs.Answering.{if-room, handed-judged, handed-packed}
-use Rattle.pack_files.specs.Files.{Header, manyItems, judgeHeader, judgePackFile, packFileOf}
+use Rattle.packer.proofs.Answering.{if_room, handed_judged, handed_packed}
+use Rattle.pack_files.specs.Files.{Header, many_items, judge_header, judge_pack_file, pack_file_of}
 
 -- more than 4,096 items
-many : (kinds operands : List ℕ) → 4096 < length kinds → judgedArrays kinds operands ≡ Refused ItemCount
-unfolding judgedArrays judgedListing
+many : (kinds operands : List ℕ) → 4096 < length kinds → judged_arrays kinds operands ≡ Refused ItemCount
+unfolding judged_arrays judged_listing
 many kinds operands h = go (eqb (length kinds) (length operands))
   where
-    go : (b : Bool) → after (if (not b) (Refused ItemCount) Passed) (judgedListing (listed kinds operands)) ≡ Refused ItemCount
+    go : (b : Bool) → after (if (not b) (Refused ItemCount) Passed) (judged_listing (listed kinds operands)) ≡ Refused ItemCount
     go false = refl
     go true =
         let z : length kinds ≡ 0 → ⊥ = λ q. omega arith in
         simp (ne_eqb (length kinds) 0 z, lt-ltb 4096 (length kinds) h)
 
-many-file : (s : List ℕ) → judgedLength s ≡ Passed → 4096 < fileCount s
-    → judgedArrays (fileKinds s) (fileOperands s) ≡ Refused ItemCount
-many-file s e h =
-    let k : 4096 < length (fileKinds s) = simp (length-take, length-drop) (omega (arith, length-of s e)) in
-    many (fileKinds s) (fileOperands s) k
+many_file : (s : List ℕ) → judged_length s ≡ Passed → 4096 < file_count s
+    → judged_arrays (file_kinds s) (file_operands s) ≡ Refused ItemCount
+many_file s e h =
+    let k : 4096 < length (file_kinds s) = simp (length-take, length-drop) (omega (arith, length_of s e)) in
+    many (file_kinds s) (file_operands s) k
 
 -- the operands, read into the first n elements of an array of 4,096
-pub operands-back : (s x y : List ℕ) (n k : ℕ) → Header s → n ≡ fileCount s → k ≡ n → length x ≡ 4096 → length y ≡ length (take k x)
-    → y ≡ cellsFrom s (8 + n) (length (take k x)) → (4096 ≡ length (y ++ drop k x)) × (take (fileCount s) (y ++ drop k x) ≡ fileOperands s)
-operands-back s x y n k h e g l f q =
-    let m : length (take k x) ≡ fileCount s = length-take k x ∙ omega (arith, h.most) in (
+pub operands_back : (s x y : List ℕ) (n k : ℕ) → Header s → n ≡ file_count s → k ≡ n → length x ≡ 4096 → length y ≡ length (take k x)
+    → y ≡ cells_from s (8 + n) (length (take k x)) → (4096 ≡ length (y ++ drop k x)) × (take (file_count s) (y ++ drop k x) ≡ file_operands s)
+operands_back s x y n k h e g l f q =
+    let m : length (take k x) ≡ file_count s = length-take k x ∙ omega (arith, h.most) in (
       simp (length-append, length-drop) (omega (arith, h.most)),
-      take_at y (drop k x) (fileCount s) (f ∙ m) ∙ q ∙ rw (m, e),
+      take_at y (drop k x) (file_count s) (f ∙ m) ∙ q ∙ rw (m, e),
     )
 
 module _ (order : ℕ) (s : List ℕ) where
-  pub header-good : judgeHeader order s ≡ Passed → Header s
-  unfolding judgeHeader
-  header-good e =
-      let p = both-pass (judgeOrder order) (inOrder (judgedLength s ∷ judge (manyItems (fileCount s) ∷ []) ∷ [])) e in
-      let q = both-pass (judgedLength s) (inOrder (judge (manyItems (fileCount s) ∷ []) ∷ [])) p.1 in
-      let t = both-pass (judge (manyItems (fileCount s) ∷ [])) Passed q.1 in
+  pub header_good : judge_header order s ≡ Passed → Header s
+  unfolding judge_header
+  header_good e =
+      let p = both_pass (judge_order order) (in_order (judged_length s ∷ judge (many_items (file_count s) ∷ []) ∷ [])) e in
+      let q = both_pass (judged_length s) (in_order (judge (many_items (file_count s) ∷ []) ∷ [])) p.1 in
+      let t = both_pass (judge (many_items (file_count s) ∷ [])) Passed q.1 in
       record {
-        whole = length-of s q.0;
-        most = ltb-false 4096 (fileCount s) (one-clear (ltb 4096 (fileCount s)) ItemCount Passed t.0).0;
+        whole = length_of s q.0;
+        most = ltb-false 4096 (file_count s) (one_clear (ltb 4096 (file_count s)) ItemCount Passed t.0).0;
       }
 
   -- a bad header refuses the packing, whatever follows
-  pub header_refused : (r : Refusal) → judgeHeader order s ≡ Refused r → (size : ℕ) → judgePackFile order s size ≡ Refused r
-  unfolding judgeHeader judgePackFile judgedFile
-  header_refused r e size = go (judgeOrder order) (judgedLength s) refl (ltb 4096 (fileCount s)) refl e
-      (inOrder (judgedPlace (fileBase s) (imageCells (filed s)) ∷ judgeRoom (imageCells (filed s)) size ∷ []))
+  pub header_refused : (r : Refusal) → judge_header order s ≡ Refused r → (size : ℕ) → judge_pack_file order s size ≡ Refused r
+  unfolding judge_header judge_pack_file judged_file
+  header_refused r e size = go (judge_order order) (judged_length s) refl (ltb 4096 (file_count s)) refl e
+      (in_order (judged_place (file_base s) (image_cells (filed s)) ∷ judge_room (image_cells (filed s)) size ∷ []))
     where
       arrays : Judged → Judged
-      arrays j = after j (judgedArrays (fileKinds s) (fileOperands s))
+      arrays j = after j (judged_arrays (file_kinds s) (file_operands s))
 
-      go : (a b : Judged) → judgedLength s ≡ b → (t : Bool) → ltb 4096 (fileCount s) ≡ t
-          → inOrder (a ∷ b ∷ if t (Refused ItemCount) Passed ∷ []) ≡ Refused r → (j : Judged) → after a (after (judgedFile s) j) ≡ Refused r
+      go : (a b : Judged) → judged_length s ≡ b → (t : Bool) → ltb 4096 (file_count s) ≡ t
+          → in_order (a ∷ b ∷ if t (Refused ItemCount) Passed ∷ []) ≡ Refused r → (j : Judged) → after a (after (judged_file s) j) ≡ Refused r
       go (Refused x) b p t q e j = e
       go Passed (Refused x) p t q e j = ap (λ (i : Judged). after i j) (ap arrays p) ∙ e
       go Passed Passed p true q e j =
           ap (λ (i : Judged). after i j)
-          (ap arrays p ∙ many-file s p (ltb-true 4096 (fileCount s) q))
+          (ap arrays p ∙ many_file s p (ltb-true 4096 (file_count s) q))
           ∙ e
       go Passed Passed p false q e j = absurd (let z : ◌≡◌ {A = ℕ} 0 1 = cc in omega arith)
 
   -- with a good header a file is packed as its two arrays are
-  length-judged : Header s → judgedLength s ≡ Passed
-  length-judged h = simp (le-ltb (length s) 8 (omega (arith, h.whole)), eq-eqb (length s) (8 + 5 * fileCount s) h.whole)
+  length_judged : Header s → judged_length s ≡ Passed
+  length_judged h = simp (le-ltb (length s) 8 (omega (arith, h.whole)), eq-eqb (length s) (8 + 5 * file_count s) h.whole)
 
-  file-arrays : Header s → judgedFile s ≡ judgedArrays (fileKinds s) (fileOperands s)
-  unfolding judgedFile
-  file-arrays h = rw (length-judged h)
+  file_arrays : Header s → judged_file s ≡ judged_arrays (file_kinds s) (file_operands s)
+  unfolding judged_file
+  file_arrays h = rw (length_judged h)
 
-  header-passed : Header s → (size : ℕ) → judgePackFile order s size ≡ judgePack order (fileKinds s) (fileOperands s) (fileBase s) size
-  unfolding judgePackFile judgePack
-  header-passed h size = rw (file-arrays h)
+  header_passed : Header s → (size : ℕ) → judge_pack_file order s size ≡ judge_pack order (file_kinds s) (file_operands s) (file_base s) size
+  unfolding judge_pack_file judge_pack
+  header_passed h size = rw (file_arrays h)
 
-  pub pack-file-refused : (out : List ℕ) (r : Refusal) → judgeHeader order s ≡ Refused r
-      → packedTo out (packed.Refused r) ≡ packFileOf order s out
-  unfolding packFileOf
-  pack-file-refused out r e = rw (header_refused r e (length out))
+  pub pack_file_refused : (out : List ℕ) (r : Refusal) → judge_header order s ≡ Refused r
+      → packed_to out (packed.Refused r) ≡ pack_file_of order s out
+  unfolding pack_file_of
+  pack_file_refused out r e = rw (header_refused r e (length out))
 
-  pack-file-passed : (out : List ℕ) → Header s
-      → packFileOf order s out ≡ packOf order (fileKinds s) (fileOperands s) (fileBase s) out
-  unfolding packFileOf packOf
-  pack-file-passed out h = rw (header-passed h (length out))
+  pack_file_passed : (out : List ℕ) → Header s
+      → pack_file_of order s out ≡ pack_of order (file_kinds s) (file_operands s) (file_base s) out
+  unfolding pack_file_of pack_of
+  pack_file_passed out h = rw (header_passed h (length out))
 
   -- the parts of the file that are handed on: n is its count
-  module _ (h : Header s) (n base : ℕ) (operands : List ℕ) (e : n ≡ fileCount s) (b : base ≡ fileBase s)
-      (o : take (fileCount s) operands ≡ fileOperands s) where
-    pub parts-judged : (size : ℕ) (j : Judged) → j ≡ judgePack order (take (8 + n - 8) (drop 8 s)) (take (n - 0) operands) base size
-        → j ≡ judgePackFile order s size
-    parts-judged size j q =
-        q ∙ handed-judged order s 8 n (fileCount s) base (fileBase s) operands (fileOperands s) e b o size ∙ sym (header-passed h size)
+  module _ (h : Header s) (n base : ℕ) (operands : List ℕ) (e : n ≡ file_count s) (b : base ≡ file_base s)
+      (o : take (file_count s) operands ≡ file_operands s) where
+    pub parts_judged : (size : ℕ) (j : Judged) → j ≡ judge_pack order (take (8 + n - 8) (drop 8 s)) (take (n - 0) operands) base size
+        → j ≡ judge_pack_file order s size
+    parts_judged size j q =
+        q ∙ handed_judged order s 8 n (file_count s) base (file_base s) operands (file_operands s) e b o size ∙ sym (header_passed h size)
 
-    pub parts-packed : (out : List ℕ) (p : PackResult)
-        → p ≡ packOf order (take (8 + n - 8) (drop 8 s)) (take (n - 0) operands) base out → p ≡ packFileOf order s out
-    parts-packed out p q =
-        q ∙ handed-packed order s 8 n (fileCount s) base (fileBase s) operands (fileOperands s) e b o out ∙ sym (pack-file-passed out h)
+    pub parts_packed : (out : List ℕ) (p : PackResult)
+        → p ≡ pack_of order (take (8 + n - 8) (drop 8 s)) (take (n - 0) operands) base out → p ≡ pack_file_of order s out
+    parts_packed out p q =
+        q ∙ handed_packed order s 8 n (file_count s) base (file_base s) operands (file_operands s) e b o out ∙ sym (pack_file_passed out h)
 
 -- the cells that an answer counts are inside the output
-pub pack-file-room : (order : ℕ) (out next : List ℕ) (a : Packed) (file : List ℕ) → packedTo next a ≡ packFileOf order file out
-    → 4 * packCount a ≤ length out
-unfolding packFileOf judgePackFile
-pack-file-room order out next a file e =
+pub pack_file_room : (order : ℕ) (out next : List ℕ) (a : Packed) (file : List ℕ) → packed_to next a ≡ pack_file_of order file out
+    → 4 * pack_count a ≤ length out
+unfolding pack_file_of judge_pack_file
+pack_file_room order out next a file e =
     rw (ap (λ (p : PackResult). p.count) e)
-    (if-room _ order (fileBase file) (filed file) out
-    (all_room order (judgedFile file) (fileBase file) (filed file) (length out)))
+    (if_room _ order (file_base file) (filed file) out
+    (all_room order (judged_file file) (file_base file) (filed file) (length out)))

@@ -1,6 +1,6 @@
 // pack_file: a listing file.
 ghost use Rattle.std.specs.Prelude.{◌≡◌, length, take};
-ghost use Rattle.pack_layout.specs.File.{fileCount, fileOperands};
+ghost use Rattle.pack_layout.specs.File.{file_count, file_operands};
 ghost use Rattle.packer.specs.Pack as answers;
 ghost use Rattle.pack_files.specs.Files as files;
 
@@ -13,7 +13,7 @@ use packer::pack::pack;
 
 // The byte order, the file's length and its count of items, with which the packing of a file begins.
 fn judge_header(order: u8, file: &[u8]) -> Judged
-    ensures { result ≡ files.judgeHeader order file.now }
+    ensures { result ≡ files.judge_header order file.now }
 {
     match judge_order(order) {
         Judged::Refused(r) => Judged::Refused(r),
@@ -32,7 +32,7 @@ fn judge_header(order: u8, file: &[u8]) -> Judged
 // The operands, in front of an array of as many as a file may have.
 fn operands_of(file: &[u8]) -> [u32; MOST_ITEMS]
     requires { files.Header file.now }
-    ensures { (4096 ≡ length result) × (take (fileCount file.now) result ≡ fileOperands file.now) }
+    ensures { (4096 ≡ length result) × (take (file_count file.now) result ≡ file_operands file.now) }
 {
     let n = cell_at(file, 0) as usize;
     let mut operands = [0u32; MOST_ITEMS];
@@ -41,7 +41,7 @@ fn operands_of(file: &[u8]) -> [u32; MOST_ITEMS]
 }
 
 pub fn pack_file(order: u8, file: &[u8], output: &mut [u8]) -> Packed
-    ensures { answers.packedTo output.new result ≡ files.packFileOf order file.now output.old }
+    ensures { answers.packed_to output.new result ≡ files.pack_file_of order file.now output.old }
 {
     match judge_header(order, file) {
         Judged::Refused(r) => Packed::Refused(r),
@@ -57,7 +57,7 @@ pub fn pack_file(order: u8, file: &[u8], output: &mut [u8]) -> Packed
 
 // A packing of a file into an output of some size.
 pub fn judge_pack_file(order: u8, file: &[u8], size: usize) -> Judged
-    ensures { result ≡ files.judgePackFile order file.now size }
+    ensures { result ≡ files.judge_pack_file order file.now size }
 {
     match judge_header(order, file) {
         Judged::Refused(r) => Judged::Refused(r),

@@ -1,7 +1,7 @@
 -- Stores of cells, and one step of the image pass.
 -- Assumes nothing.
-use Rattle.cell.specs.Memory.{cellBytes}
-use Rattle.cell.proofs.StoreLaws.{cell-length}
+use Rattle.cell.specs.Memory.{cell_bytes}
+use Rattle.cell.proofs.StoreLaws.{cell_length}
 use mathlib.Core.Path.{◌≡◌, refl, sym, ap, ap₂, ◌∙◌}
 use mathlib.Core.Bool.{Bool, true, false}
 use mathlib.Core.List.{List, ◌∷◌, ◌++◌, append_assoc}
@@ -16,19 +16,19 @@ use Rattle.cell.specs.declared.Judged.TheVariants.{Passed}
 use Rattle.pack_layout.specs.declared.Class.{Class}
 use Rattle.pack_layout.specs.declared.ItemForm.{ItemForm}
 use Rattle.pack_layout.specs.Bytes.{pack}
-use Rattle.pack_layout.specs.declared.Class.TheVariants.{Plain as plain, Literal as literal, Branch as branch, NoKind as noKind}
-use Rattle.pack_layout.specs.Kinds.{classOf, is_branch}
+use Rattle.pack_layout.specs.declared.Class.TheVariants.{Plain as plain, Literal as literal, Branch as branch, NoKind as no_kind}
+use Rattle.pack_layout.specs.Kinds.{class_of, is_branch}
 use Rattle.pack_layout.specs.Flags.{bit, flagged}
-use Rattle.pack_layout.specs.Listing.{Listing, judgedListing}
-use Rattle.pack_layout.specs.declared.ItemForm.TheVariants.{Alone as alone, Immediate as immediate, InCell as inCell}
-use Rattle.pack_layout.specs.Layout.{Spot, begin, extra, Plan, cur, opens, mid, left, formAt, Laid}
+use Rattle.pack_layout.specs.Listing.{Listing, judged_listing}
+use Rattle.pack_layout.specs.declared.ItemForm.TheVariants.{Alone as alone, Immediate as immediate, InCell as in_cell}
+use Rattle.pack_layout.specs.Layout.{Spot, begin, extra, Plan, cur, opens, mid, left, form_at, Laid}
 use Rattle.pack_layout.specs.Image.{byte_of, above, opened, joined, word, cells}
-use Rattle.pack_layout.specs.Packing.{formOf, branchValue, value_of, marks, layout, value, image, imageCells}
-use Rattle.pack_layout.specs.Output.{bytes_of, written, joinedAt, openedAt}
-use Rattle.pack_layout.proofs.Placing.{next-after, reach, at_most, at_before, opens-is}
-use Rattle.pack_layout.proofs.Image.{image-size}
-use Rattle.pack_layout.proofs.Listing.{is-branch, target_below}
-use Rattle.pack_layout.proofs.Rounds.{bit-most}
+use Rattle.pack_layout.specs.Packing.{form_of, branch_value, value_of, marks, layout, value, image, image_cells}
+use Rattle.pack_layout.specs.Output.{bytes_of, written, joined_at, opened_at}
+use Rattle.pack_layout.proofs.Placing.{next_after, reach, at_most, at_before, opens_is}
+use Rattle.pack_layout.proofs.Image.{image_size}
+use Rattle.pack_layout.proofs.Listing.{is_branch_lem, target_below}
+use Rattle.pack_layout.proofs.Rounds.{bit_most}
 
 -- a store just below what stands already
 module _ (o rest : List ℕ) (a : ℕ) (room : 4 * (a + 1) ≤ length o) where
@@ -38,45 +38,45 @@ module _ (o rest : List ℕ) (a : ℕ) (room : 4 * (a + 1) ≤ length o) where
   below_length : length below ≡ 4 * (a + 1)
   below_length = length-take-le (4 * (a + 1)) o room
 
-  below-take : take (4 * a) (below ++ rest) ≡ take (4 * a) o
-  below-take = take-append-le (4 * a) below rest (omega (arith, below_length)) ∙ take-take (4 * a) (4 * (a + 1)) o (omega arith)
+  below_take : take (4 * a) (below ++ rest) ≡ take (4 * a) o
+  below_take = take-append-le (4 * a) below rest (omega (arith, below_length)) ∙ take-take (4 * a) (4 * (a + 1)) o (omega arith)
 
-  below-drop : drop (4 * a + 4) (below ++ rest) ≡ rest
-  below-drop = drop_at below rest (4 * a + 4) (omega (arith, below_length))
+  below_drop : drop (4 * a + 4) (below ++ rest) ≡ rest
+  below_drop = drop_at below rest (4 * a + 4) (omega (arith, below_length))
 
-  pub prepend : (order x : ℕ) → sets (below ++ rest) (4 * a) (cellBytes order x) ≡ take (4 * a) o ++ (cellBytes order x ++ rest)
+  pub prepend : (order x : ℕ) → sets (below ++ rest) (4 * a) (cell_bytes order x) ≡ take (4 * a) o ++ (cell_bytes order x ++ rest)
   prepend order x =
-      sets-eq (cellBytes order x) (below ++ rest) (4 * a) (omega (arith, cell-length order x, length-append below rest, below_length))
-      ∙ append_assoc (take (4 * a) (below ++ rest)) (cellBytes order x) _
-      ∙ ap₂ (λ (s t : List ℕ). s ++ (cellBytes order x ++ t)) below-take
-      (ap (λ (k : ℕ). drop (4 * a + k) (below ++ rest)) (cell-length order x) ∙ below-drop)
+      sets-eq (cell_bytes order x) (below ++ rest) (4 * a) (omega (arith, cell_length order x, length-append below rest, below_length))
+      ∙ append_assoc (take (4 * a) (below ++ rest)) (cell_bytes order x) _
+      ∙ ap₂ (λ (s t : List ℕ). s ++ (cell_bytes order x ++ t)) below_take
+      (ap (λ (k : ℕ). drop (4 * a + k) (below ++ rest)) (cell_length order x) ∙ below_drop)
 
 -- the bytes of an image's cells from index a on, in front of the rest of the output
 abbrev pub from : ℕ → ℕ → List ℕ → List ℕ → List ℕ → List ℕ
 from order a cells o end = take (4 * a) o ++ (bytes_of order cells ++ end)
 
-store-front : (order : ℕ) (o cells end : List ℕ) (a x : ℕ) → 4 * (a + 1) ≤ length o
-    → sets (from order (a + 1) cells o end) (4 * a) (cellBytes order x) ≡ from order a (x ∷ cells) o end
+store_front : (order : ℕ) (o cells end : List ℕ) (a x : ℕ) → 4 * (a + 1) ≤ length o
+    → sets (from order (a + 1) cells o end) (4 * a) (cell_bytes order x) ≡ from order a (x ∷ cells) o end
 unfolding bytes_of
-store-front order o cells end a x h =
+store_front order o cells end a x h =
     prepend o (bytes_of order cells ++ end) a h order x
-    ∙ ap (λ (s : List ℕ). take (4 * a) o ++ s) (sym (append_assoc (cellBytes order x) (bytes_of order cells) end))
+    ∙ ap (λ (s : List ℕ). take (4 * a) o ++ s) (sym (append_assoc (cell_bytes order x) (bytes_of order cells) end))
 
-pub operand-front : (g : ItemForm) (order : ℕ) (o cells end : List ℕ) (a x : ℕ) → 4 * (a + extra g) ≤ length o
-    → joinedAt g order (from order (a + extra g) cells o end) a x ≡ from order a (joined g x cells) o end
-operand-front alone order o cells end a x h = rw add-zero
-operand-front immediate order o cells end a x h = rw add-zero
-operand-front inCell order o cells end a x h = store-front order o cells end a x h
+pub operand_front : (g : ItemForm) (order : ℕ) (o cells end : List ℕ) (a x : ℕ) → 4 * (a + extra g) ≤ length o
+    → joined_at g order (from order (a + extra g) cells o end) a x ≡ from order a (joined g x cells) o end
+operand_front alone order o cells end a x h = rw add-zero
+operand_front immediate order o cells end a x h = rw add-zero
+operand_front in_cell order o cells end a x h = store_front order o cells end a x h
 
-pub open-front : (b : Bool) (order : ℕ) (o cells end : List ℕ) (c : Spot) (w : ℕ) → 4 * (begin b c).next ≤ length o
-    → openedAt b order (from order (begin b c).next cells o end) (begin b c).at w ≡ from order c.next (opened b w cells) o end
-open-front true order o cells end c w h = store-front order o cells end c.next w h
-open-front false order o cells end c w h = refl
+pub open_front : (b : Bool) (order : ℕ) (o cells end : List ℕ) (c : Spot) (w : ℕ) → 4 * (begin b c).next ≤ length o
+    → opened_at b order (from order (begin b c).next cells o end) (begin b c).at w ≡ from order c.next (opened b w cells) o end
+open_front true order o cells end c w h = store_front order o cells end c.next w h
+open_front false order o cells end c w h = refl
 
-above-rest : (g : ItemForm) (o : Bool) (v w : ℕ) → above g false v (if o 0 w) ≡ above g o v w
-above-rest alone o v w = refl
-above-rest immediate o v w = refl
-above-rest inCell o v w = refl
+above_rest : (g : ItemForm) (o : Bool) (v w : ℕ) → above g false v (if o 0 w) ≡ above g o v w
+above_rest alone o v w = refl
+above_rest immediate o v w = refl
+above_rest in_cell o v w = refl
 
 nothing_above : (o : Bool) → ◌≡◌ {A = ℕ} 0 (if o 0 0)
 nothing_above true = refl
@@ -86,20 +86,20 @@ nothing_above false = refl
 pub record WriteStep (order base : ℕ) (l : Listing) (o out : List ℕ) (rest i : ℕ) : Type 0 where
   pub inside : i ≤ l.count
   pub size : length out ≡ length o
-  pub above-is : rest ≡ if (opens (layout l) i) 0 (word (layout l) l.kind (value base l) (l.count - i) i)
-  pub out-is : out
-      ≡ from order (cur (layout l) i).next (cells (layout l) l.kind (value base l) (l.count - i) i) o (drop (4 * imageCells l) o)
+  pub above_is : rest ≡ if (opens (layout l) i) 0 (word (layout l) l.kind (value base l) (l.count - i) i)
+  pub out_is : out
+      ≡ from order (cur (layout l) i).next (cells (layout l) l.kind (value base l) (l.count - i) i) o (drop (4 * image_cells l) o)
 
-module _ (order base : ℕ) (l : Listing) (o : List ℕ) (room : 4 * imageCells l ≤ length o) where
-  pub write-start : WriteStep order base l o o 0 l.count
+module _ (order base : ℕ) (l : Listing) (o : List ℕ) (room : 4 * image_cells l ≤ length o) where
+  pub write_start : WriteStep order base l o o 0 l.count
   unfolding word cells bytes_of
-  write-start =
+  write_start =
       let e : l.count - l.count ≡ 0 = omega arith in
       record {
         inside = omega arith;
         size = refl;
-        above-is = rw e (nothing_above (opens (layout l) l.count));
-        out-is = rw e (sym (take-append-drop (4 * imageCells l) o));
+        above_is = rw e (nothing_above (opens (layout l) l.count));
+        out_is = rw e (sym (take-append-drop (4 * image_cells l) o));
       }
 
   module _ (out : List ℕ) (rest j : ℕ) (h : j < l.count) (t : WriteStep order base l o out rest (suc j)) where
@@ -109,105 +109,105 @@ module _ (order base : ℕ) (l : Listing) (o : List ℕ) (room : 4 * imageCells 
     abbrev word_at : ℕ
     word_at = word p l.kind (value base l) (l.count - j) j
 
-    word-is : pack (byte_of (formAt p j) (l.kind j)) (above (formAt p j) false (value base l j) rest) ≡ word_at
+    word_is : pack (byte_of (form_at p j) (l.kind j)) (above (form_at p j) false (value base l j) rest) ≡ word_at
     unfolding word
-    word-is =
-        rw (let e : l.count - j ≡ suc (l.count - suc j) = omega arith in e, t.above-is)
-        (ap (pack (byte_of (formAt p j) (l.kind j))) (above-rest (formAt p j) (opens p (suc j)) (value base l j) _))
+    word_is =
+        rw (let e : l.count - j ≡ suc (l.count - suc j) = omega arith in e, t.above_is)
+        (ap (pack (byte_of (form_at p j) (l.kind j))) (above_rest (form_at p j) (opens p (suc j)) (value base l j) _))
 
-    ends-inside : (mid p j).next + extra (formAt p j) ≤ imageCells l
-    ends-inside = reach p j l.count h
+    ends_inside : (mid p j).next + extra (form_at p j) ≤ image_cells l
+    ends_inside = reach p j l.count h
 
-    pub step-out : openedAt (opens p j) order (joinedAt (formAt p j) order out (mid p j).next (value base l j)) (mid p j).at word_at
-        ≡ from order (cur p j).next (cells p l.kind (value base l) (l.count - j) j) o (drop (4 * imageCells l) o)
+    pub step_out : opened_at (opens p j) order (joined_at (form_at p j) order out (mid p j).next (value base l j)) (mid p j).at word_at
+        ≡ from order (cur p j).next (cells p l.kind (value base l) (l.count - j) j) o (drop (4 * image_cells l) o)
     unfolding cells
-    step-out =
+    step_out =
         let e : l.count - j ≡ suc (l.count - suc j) = omega arith in
-        ap (λ (s : List ℕ). openedAt (opens p j) order s (mid p j).at word_at)
-        (ap (λ (s : List ℕ). joinedAt (formAt p j) order s (mid p j).next (value base l j)) (t.out-is ∙ front)
-        ∙ operand-front (formAt p j) order o _ _ (mid p j).next (value base l j) (omega (arith, ends-inside)))
-        ∙ open-front (opens p j) order o _ _ (cur p j) word_at (omega (arith, ends-inside))
+        ap (λ (s : List ℕ). opened_at (opens p j) order s (mid p j).at word_at)
+        (ap (λ (s : List ℕ). joined_at (form_at p j) order s (mid p j).next (value base l j)) (t.out_is ∙ front)
+        ∙ operand_front (form_at p j) order o _ _ (mid p j).next (value base l j) (omega (arith, ends_inside)))
+        ∙ open_front (opens p j) order o _ _ (cur p j) word_at (omega (arith, ends_inside))
         ∙ rw e
       where
-        front : from order (cur p (suc j)).next (cells p l.kind (value base l) (l.count - suc j) (suc j)) o (drop (4 * imageCells l) o)
-            ≡ from order ((mid p j).next + extra (formAt p j)) (cells p l.kind (value base l) (l.count - suc j) (suc j)) o (drop (4 * imageCells l) o)
+        front : from order (cur p (suc j)).next (cells p l.kind (value base l) (l.count - suc j) (suc j)) o (drop (4 * image_cells l) o)
+            ≡ from order ((mid p j).next + extra (form_at p j)) (cells p l.kind (value base l) (l.count - suc j) (suc j)) o (drop (4 * image_cells l) o)
         front =
-            ap (λ (a : ℕ). from order a (cells p l.kind (value base l) (l.count - suc j) (suc j)) o (drop (4 * imageCells l) o)) (next-after p j)
+            ap (λ (a : ℕ). from order a (cells p l.kind (value base l) (l.count - suc j) (suc j)) o (drop (4 * image_cells l) o)) (next_after p j)
 
     -- the step, over what the code has
-    pub write_step : (g : ItemForm) (v f at next w r : ℕ) (out1 out2 : List ℕ) → g ≡ formAt p j → v ≡ value base l j → f ≡ left p j
+    pub write_step : (g : ItemForm) (v f at next w r : ℕ) (out1 out2 : List ℕ) → g ≡ form_at p j → v ≡ value base l j → f ≡ left p j
         → at ≡ (mid p j).at → next ≡ (mid p j).next → w ≡ pack (byte_of g (l.kind j)) (above g false v rest)
-        → r ≡ if (eqb f 3) 0 w → out1 ≡ joinedAt g order out next v → out2 ≡ openedAt (eqb f 3) order out1 at w
+        → r ≡ if (eqb f 3) 0 w → out1 ≡ joined_at g order out next v → out2 ≡ opened_at (eqb f 3) order out1 at w
         → length out2 ≡ length out → WriteStep order base l o out2 r j
     write_step g v f at next w r out1 out2 qg qv qf qa qe qw qr q1 q2 z =
-        let b : eqb f 3 ≡ opens p j = ap (λ (k : ℕ). eqb k 3) qf ∙ sym (opens-is p j) in
-        let y : w ≡ word_at = qw ∙ rw (qg, qv) word-is in
+        let b : eqb f 3 ≡ opens p j = ap (λ (k : ℕ). eqb k 3) qf ∙ sym (opens_is p j) in
+        let y : w ≡ word_at = qw ∙ rw (qg, qv) word_is in
         record {
           inside = omega arith;
           size = z ∙ t.size;
-          above-is = qr ∙ ap₂ (λ (b : Bool) (k : ℕ). if b 0 k) b y;
-          out-is =
+          above_is = qr ∙ ap₂ (λ (b : Bool) (k : ℕ). if b 0 k) b y;
+          out_is =
               q2
-              ∙ ap₂ (λ (b : Bool) (k : ℕ). openedAt b order out1 at k) b y
-              ∙ ap₂ (λ (s : List ℕ) (a : ℕ). openedAt (opens p j) order s a word_at) (q1 ∙ rw (qg, qe, qv)) qa
-              ∙ step-out;
+              ∙ ap₂ (λ (b : Bool) (k : ℕ). opened_at b order out1 at k) b y
+              ∙ ap₂ (λ (s : List ℕ) (a : ℕ). opened_at (opens p j) order s a word_at) (q1 ∙ rw (qg, qe, qv)) qa
+              ∙ step_out;
         }
 
     -- there is room for the cells of the item
-    pub operand-room : (g : ItemForm) (next : ℕ) → l.count ≤ 4096 → g ≡ formAt p j → next ≡ (mid p j).next
+    pub operand_room : (g : ItemForm) (next : ℕ) → l.count ≤ 4096 → g ≡ form_at p j → next ≡ (mid p j).next
         → (next ≤ 8192) × (4 * (next + extra g) ≤ length out)
-    operand-room g next m qg qe =
-        rw (qg, qe) (omega (arith, ends-inside, at_most p l.count), omega (arith, ends-inside, t.size))
+    operand_room g next m qg qe =
+        rw (qg, qe) (omega (arith, ends_inside, at_most p l.count), omega (arith, ends_inside, t.size))
 
-    pub open-room : (f at : ℕ) → l.count ≤ 4096 → at ≡ (mid p j).at → (at ≤ 8192) × (4 * (at + bit (eqb f 3)) ≤ length out)
-    open-room f at m qa = (
-      omega (arith, at_before p j, ends-inside, at_most p l.count),
-      omega (arith, at_before p j, ends-inside, t.size, bit-most (eqb f 3)),
+    pub open_room : (f at : ℕ) → l.count ≤ 4096 → at ≡ (mid p j).at → (at ≤ 8192) × (4 * (at + bit (eqb f 3)) ≤ length out)
+    open_room f at m qa = (
+      omega (arith, at_before p j, ends_inside, at_most p l.count),
+      omega (arith, at_before p j, ends_inside, t.size, bit_most (eqb f 3)),
     )
 
-  pub write-end : (out : List ℕ) (rest i : ℕ) → i ≡ 0 → WriteStep order base l o out rest i → out ≡ written order (image base l) o
+  pub write_end : (out : List ℕ) (rest i : ℕ) → i ≡ 0 → WriteStep order base l o out rest i → out ≡ written order (image base l) o
   unfolding cur image
-  write-end out rest i e t =
-      (rw e at t.out-is)
-      ∙ rw (let z : l.count - 0 ≡ l.count = omega arith in z, image-size (layout l) l.kind (value base l) l.count)
+  write_end out rest i e t =
+      (rw e at t.out_is)
+      ∙ rw (let z : l.count - 0 ≡ l.count = omega arith in z, image_size (layout l) l.kind (value base l) l.count)
 
 value_same : (c : Class) (g : ItemForm) (x next to goal base : ℕ) → (c ≡ branch → to ≡ goal) → value_of c g x next to base ≡ value_of c g x next goal base
 value_same plain g x next to goal base h = refl
 value_same literal g x next to goal base h = refl
-value_same branch g x next to goal base h = ap (λ (k : ℕ). branchValue g next k base) (h refl)
-value_same noKind g x next to goal base h = refl
+value_same branch g x next to goal base h = ap (λ (k : ℕ). branch_value g next k base) (h refl)
+value_same no_kind g x next to goal base h = refl
 
 -- what the code reads at item j of the settled layout
-module _ (base : ℕ) (l : Listing) (ok : judgedListing l ≡ Passed) (flags ats nexts lefts : List ℕ)
+module _ (base : ℕ) (l : Listing) (ok : judged_listing l ≡ Passed) (flags ats nexts lefts : List ℕ)
     (laid : Laid (layout l) ats nexts lefts l.count) (marked : flagged flags ≡ marks l) (j : ℕ) (h : j < l.count) where
-  pub form-is : formOf (classOf (l.kind j)) (flagged flags j) (l.operand j) (get_or lefts j 0) ≡ formAt (layout l) j
-  form-is = rw (laid.left j h) (ap (λ (m : ℕ → Bool). formOf (classOf (l.kind j)) (m j) (l.operand j) (left (layout l) j)) marked)
+  pub form_is : form_of (class_of (l.kind j)) (flagged flags j) (l.operand j) (get_or lefts j 0) ≡ form_at (layout l) j
+  form_is = rw (laid.left j h) (ap (λ (m : ℕ → Bool). form_of (class_of (l.kind j)) (m j) (l.operand j) (left (layout l) j)) marked)
 
-  pub value-is : (g : ItemForm) → g ≡ formAt (layout l) j
-      → value_of (classOf (l.kind j)) g (l.operand j) (get_or nexts j 0)
-      (if (is_branch (classOf (l.kind j))) (get_or ats (l.operand j) 0) 0) base
+  pub value_is : (g : ItemForm) → g ≡ form_at (layout l) j
+      → value_of (class_of (l.kind j)) g (l.operand j) (get_or nexts j 0)
+      (if (is_branch (class_of (l.kind j))) (get_or ats (l.operand j) 0) 0) base
       ≡ value base l j
-  value-is g q =
+  value_is g q =
       rw (q, laid.next j h)
-      (value_same (classOf (l.kind j)) (formAt (layout l) j) (l.operand j) (mid (layout l) j).next _ _ base
+      (value_same (class_of (l.kind j)) (form_at (layout l) j) (l.operand j) (mid (layout l) j).next _ _ base
       (λ b. rw b (laid.at (l.operand j) (target_below l ok j h b))))
 
-  pub target-inside : l.count ≤ 4096 → is_branch (classOf (l.kind j)) ≡ true → (l.operand j < l.count) × (get_or ats (l.operand j) 0 ≤ 8192)
-  target-inside m q =
-      let k = target_below l ok j h (is-branch (classOf (l.kind j)) q) in (
+  pub target_inside : l.count ≤ 4096 → is_branch (class_of (l.kind j)) ≡ true → (l.operand j < l.count) × (get_or ats (l.operand j) 0 ≤ 8192)
+  target_inside m q =
+      let k = target_below l ok j h (is_branch_lem (class_of (l.kind j)) q) in (
         k,
         rw (laid.at (l.operand j) k)
             (omega (arith, at_before (layout l) (l.operand j), reach (layout l) (l.operand j) l.count k, at_most (layout l) l.count)),
       )
 
-pub if-most : (b : Bool) (a m : ℕ) → (b ≡ true → a ≤ m) → if b a 0 ≤ m
-if-most true a m h = h refl
-if-most false a m h = omega arith
+pub if_most : (b : Bool) (a m : ℕ) → (b ≡ true → a ≤ m) → if b a 0 ≤ m
+if_most true a m h = h refl
+if_most false a m h = omega arith
 
 pub byte_small : (g : ItemForm) (k : ℕ) → k < 255 → byte_of g k < 256
 byte_small alone k h = omega arith
 byte_small immediate k h = omega arith
-byte_small inCell k h = omega arith
+byte_small in_cell k h = omega arith
 
 -- the loop counts down
 pub step_down : (order base : ℕ) (l : Listing) (o out : List ℕ) (rest i : ℕ) → 0 < i → WriteStep order base l o out rest i

@@ -1,16 +1,16 @@
 // Cells of an image, and their bytes in a lent output.
 ghost use Rattle.std.specs.Prelude.{true, false, ◌≡◌, ◌+◌, ◌*◌, ◌≤◌, ◌<◌, length, get_or};
 ghost use Rattle.std.proofs.lemmas.List.Edits.{sets};
-ghost use Rattle.cell.specs.Memory.{cellBytes, cellCount};
+ghost use Rattle.cell.specs.Memory.{cell_bytes, cell_count};
 ghost use Rattle.cell.specs.Choice.{if};
-ghost use Rattle.pack_layout.specs.Kinds.{classOf, is_branch};
+ghost use Rattle.pack_layout.specs.Kinds.{class_of, is_branch};
 ghost use Rattle.pack_layout.specs.Bytes.{pack};
 ghost use Rattle.pack_layout.specs.Flags.{bit, flagged};
 ghost use Rattle.pack_layout.specs.Listing.{listed, Checked};
 ghost use Rattle.pack_layout.specs.Layout.{extra, Laid};
 ghost use Rattle.pack_layout.specs.Image.{byte_of, above};
-ghost use Rattle.pack_layout.specs.Packing.{formOf, value_of, marks as marksOf, layout, image, imageCells};
-ghost use Rattle.pack_layout.specs.Output.{written, joinedAt, openedAt};
+ghost use Rattle.pack_layout.specs.Packing.{form_of, value_of, marks as marks_of, layout, image, image_cells};
+ghost use Rattle.pack_layout.specs.Output.{written, joined_at, opened_at};
 
 use cell::memory::store_at;
 use cell::{Address, CellCount};
@@ -24,7 +24,7 @@ use pack_rounds::place::form_of;
 // Stores a cell at its index.
 fn put_cell(order: u8, out: &mut [u8], index: CellCount, x: u32)
     requires { (index.0 ≤ 8192) × (4 * index.0 + 4 ≤ length out.old) }
-    ensures { out.new ≡ sets out.old (4 * index.0) (cellBytes order x) }
+    ensures { out.new ≡ sets out.old (4 * index.0) (cell_bytes order x) }
 {
     let at = 4 * (index.0 as usize);
     store_at(order, out, at, x)
@@ -63,8 +63,8 @@ fn pack_of(b: u32, x: u32) -> u32
 
 // The index of a branch's target.
 fn target_of(kind: u8, x: u32, ats: &[u32]) -> CellCount
-    requires { is_branch (classOf kind) ≡ true → x < length ats.now }
-    ensures { result ≡ cellCount (if (is_branch (classOf kind)) (get_or ats.now x 0) 0) }
+    requires { is_branch (class_of kind) ≡ true → x < length ats.now }
+    ensures { result ≡ cell_count (if (is_branch (class_of kind)) (get_or ats.now x 0) 0) }
 {
     if is_branch(kind) {
         return place_of(ats, ItemNumber(x));
@@ -75,7 +75,7 @@ fn target_of(kind: u8, x: u32, ats: &[u32]) -> CellCount
 // Stores the operand cell of an item that has one.
 fn put_operand(order: u8, out: &mut [u8], g: ItemForm, next: CellCount, v: u32)
     requires { (next.0 ≤ 8192) × (4 * (next.0 + extra g) ≤ length out.old) }
-    ensures { out.new ≡ joinedAt g order out.old next.0 v }
+    ensures { out.new ≡ joined_at g order out.old next.0 v }
 {
     match g {
         ItemForm::Alone => {}
@@ -87,7 +87,7 @@ fn put_operand(order: u8, out: &mut [u8], g: ItemForm, next: CellCount, v: u32)
 // Stores the cell of an item that opens one. The answer stands above the item before it.
 fn put_opened(order: u8, out: &mut [u8], opens: bool, at: CellCount, w: u32) -> u32
     requires { (at.0 ≤ 8192) × (4 * (at.0 + bit opens) ≤ length out.old) }
-    ensures { (result ≡ if opens 0 w) × (out.new ≡ openedAt opens order out.old at.0 w) }
+    ensures { (result ≡ if opens 0 w) × (out.new ≡ opened_at opens order out.old at.0 w) }
 {
     if opens {
         put_cell(order, out, at, w);
@@ -113,8 +113,8 @@ fn pack_item(
     ats: &[u32],
     base: Address,
 ) -> PackedItem
-    requires { (f ≤ 3) × (base.0 ≤ 16777216) × (is_branch (classOf kind) ≡ true → (x < length ats.now) × (get_or ats.now x 0 ≤ 8192)) }
-    ensures { (result.form ≡ formOf (classOf kind) marked x f) × (result.value ≡ value_of (classOf kind) result.form x next.0 (if (is_branch (classOf kind)) (get_or ats.now x 0) 0) base.0) }
+    requires { (f ≤ 3) × (base.0 ≤ 16777216) × (is_branch (class_of kind) ≡ true → (x < length ats.now) × (get_or ats.now x 0 ≤ 8192)) }
+    ensures { (result.form ≡ form_of (class_of kind) marked x f) × (result.value ≡ value_of (class_of kind) result.form x next.0 (if (is_branch (class_of kind)) (get_or ats.now x 0) 0) base.0) }
 {
     let c = class_of(kind);
     let g = form_of(c, marked, x, f);
@@ -146,9 +146,9 @@ pub fn write_image(
 )
     requires checked { Checked kinds.now operands.now }
     requires marks_len { (length marks.now ≡ length kinds.now) × (length ats.now ≡ length kinds.now) × (length nexts.now ≡ length kinds.now) × (length lefts.now ≡ length kinds.now) }
-    requires marks_value { flagged marks.now ≡ marksOf (listed kinds.now operands.now) }
+    requires marks_value { flagged marks.now ≡ marks_of (listed kinds.now operands.now) }
     requires laid { Laid (layout (listed kinds.now operands.now)) ats.now nexts.now lefts.now (length kinds.now) }
-    requires base_bound { (base.0 ≤ 16777216) × (4 * imageCells (listed kinds.now operands.now) ≤ length out.old) }
+    requires base_bound { (base.0 ≤ 16777216) × (4 * image_cells (listed kinds.now operands.now) ≤ length out.old) }
     ensures { out.new ≡ written order (image base.0 (listed kinds.now operands.now)) out.old }
 {
     let mut i = kinds.len();

@@ -13,14 +13,14 @@ use borrow.Author.Tests.{eq-eqb, ne_eqb, lt-leb}
 use lib.Dec.{leb}
 use lib.ListN.{length, get_or, set, get_or-eq_default}
 use lib.Seq.{get_or-set_same, get_or-set_other}
-use Rattle.pack_layout.specs.Kinds.{is_branch, classOf}
+use Rattle.pack_layout.specs.Kinds.{is_branch, class_of}
 use Rattle.pack_layout.specs.Flags.{bit, Flags, flagged}
 use Rattle.pack_layout.specs.Listing.{Listing, any, targets, calls, after_call}
 
-pub flagged-bit : (s : List ℕ) (i : ℕ) (b : Bool) → get_or s i 0 ≡ bit b → flagged s i ≡ b
+pub flagged_bit : (s : List ℕ) (i : ℕ) (b : Bool) → get_or s i 0 ≡ bit b → flagged s i ≡ b
 unfolding flagged
-flagged-bit s i true e = eq-eqb _ _ e
-flagged-bit s i false e = ne_eqb _ _ (λ (z : get_or s i 0 ≡ 1). omega arith)
+flagged_bit s i true e = eq-eqb _ _ e
+flagged_bit s i false e = ne_eqb _ _ (λ (z : get_or s i 0 ≡ 1). omega arith)
 
 -- a store at index i: what the other indexes hold stays
 pub stored_more : (P : ℕ → ℕ → Type 0) (s : List ℕ) (i v : ℕ) → i < length s → P i v
@@ -30,15 +30,15 @@ stored_more P s i v h here before j l =
     (λ (e : j < i). rw (get_or-set_other s i j v 0 (λ (z : j ≡ i). omega arith)) (before j e))
     (eq-or-lt_of_le (le_of_suc-le-suc (let k : suc j ≤ suc i = omega arith in k)))
 
-pub flags-more : (s : List ℕ) (p : ℕ → Bool) (i v : ℕ) → i < length s → v ≡ bit (p i) → Flags s p i → Flags (set s i v) p (i + 1)
-flags-more s p i v h e f = stored_more (λ j x. x ≡ bit (p j)) s i v h e f
+pub flags_more : (s : List ℕ) (p : ℕ → Bool) (i v : ℕ) → i < length s → v ≡ bit (p i) → Flags s p i → Flags (set s i v) p (i + 1)
+flags_more s p i v h e f = stored_more (λ j x. x ≡ bit (p j)) s i v h e f
 
-pub flags-first : (s : List ℕ) (kind : ℕ → ℕ) → 0 < length s → Flags (set s 0 1) (after_call kind) 1
-flags-first s kind h = flags-more s (after_call kind) 0 1 h refl (λ j l. absurd (omega arith))
+pub flags_first : (s : List ℕ) (kind : ℕ → ℕ) → 0 < length s → Flags (set s 0 1) (after_call kind) 1
+flags_first s kind h = flags_more s (after_call kind) 0 1 h refl (λ j l. absurd (omega arith))
 
-pub call-before : (kind : ℕ → ℕ) (i : ℕ) → 1 ≤ i → calls (kind (i - 1)) ≡ after_call kind i
-call-before kind zero h = absurd (omega arith)
-call-before kind (suc i) h = ap (λ (k : ℕ). calls (kind k)) (let e : suc i - 1 ≡ i = omega arith in e)
+pub call_before : (kind : ℕ → ℕ) (i : ℕ) → 1 ≤ i → calls (kind (i - 1)) ≡ after_call kind i
+call_before kind zero h = absurd (omega arith)
+call_before kind (suc i) h = ap (λ (k : ℕ). calls (kind k)) (let e : suc i - 1 ≡ i = omega arith in e)
 
 pub call_below : (k : ℕ) → k < 0x46 → false ≡ calls k
 call_below k h =
@@ -67,43 +67,43 @@ call_from k h = go (dec_lt k 0x47) (dec_lt k 0x48) (dec_lt k 0x49)
         )
 
 -- the entries with the targets of the first j items
-abbrev pub entryWith : Listing → ℕ → ℕ → Bool
-entryWith l j i = after_call l.kind i || any (λ j. targets (classOf (l.kind j)) (l.operand j) i) j
+abbrev pub entry_with : Listing → ℕ → ℕ → Bool
+entry_with l j i = after_call l.kind i || any (λ j. targets (class_of (l.kind j)) (l.operand j) i) j
 
 module _ (l : Listing) (j : ℕ) where
-  entry_more : (i : ℕ) → entryWith l (j + 1) i
-      ≡ (after_call l.kind i || (targets (classOf (l.kind j)) (l.operand j) i || any (λ j. targets (classOf (l.kind j)) (l.operand j) i) j))
+  entry_more : (i : ℕ) → entry_with l (j + 1) i
+      ≡ (after_call l.kind i || (targets (class_of (l.kind j)) (l.operand j) i || any (λ j. targets (class_of (l.kind j)) (l.operand j) i) j))
   unfolding any
   entry_more i = rw add-one
 
   -- an item that is no branch adds no entry
-  pub entry-same : is_branch (classOf (l.kind j)) ≡ false → (i : ℕ) → entryWith l (j + 1) i ≡ entryWith l j i
-  entry-same q i = entry_more i ∙ rw q
+  pub entry_same : is_branch (class_of (l.kind j)) ≡ false → (i : ℕ) → entry_with l (j + 1) i ≡ entry_with l j i
+  entry_same q i = entry_more i ∙ rw q
 
   -- a branch adds its target
-  pub entry-target : is_branch (classOf (l.kind j)) ≡ true → entryWith l (j + 1) (l.operand j) ≡ true
-  entry-target q = entry_more (l.operand j) ∙ rw (q, eq-eqb (l.operand j) (l.operand j) refl) (or-true (after_call l.kind (l.operand j)))
+  pub entry_target : is_branch (class_of (l.kind j)) ≡ true → entry_with l (j + 1) (l.operand j) ≡ true
+  entry_target q = entry_more (l.operand j) ∙ rw (q, eq-eqb (l.operand j) (l.operand j) refl) (or-true (after_call l.kind (l.operand j)))
 
-  pub entry_other : is_branch (classOf (l.kind j)) ≡ true → (i : ℕ) → (i ≡ l.operand j → ⊥) → entryWith l (j + 1) i ≡ entryWith l j i
+  pub entry_other : is_branch (class_of (l.kind j)) ≡ true → (i : ℕ) → (i ≡ l.operand j → ⊥) → entry_with l (j + 1) i ≡ entry_with l j i
   entry_other q i h = entry_more i ∙ rw (q, ne_eqb (l.operand j) i (λ (e : l.operand j ≡ i). h (sym e)))
 
-  pub targets-same : (s : List ℕ) (n : ℕ) → is_branch (classOf (l.kind j)) ≡ false → Flags s (entryWith l j) n → Flags s (entryWith l (j + 1)) n
-  targets-same s n q f i h = f i h ∙ ap bit (sym (entry-same q i))
+  pub targets_same : (s : List ℕ) (n : ℕ) → is_branch (class_of (l.kind j)) ≡ false → Flags s (entry_with l j) n → Flags s (entry_with l (j + 1)) n
+  targets_same s n q f i h = f i h ∙ ap bit (sym (entry_same q i))
 
-  pub targets-more : (s : List ℕ) (n : ℕ) → is_branch (classOf (l.kind j)) ≡ true → l.operand j < length s
-      → Flags s (entryWith l j) n → Flags (set s (l.operand j) 1) (entryWith l (j + 1)) n
-  targets-more s n q b f i h = go (ℕ_discrete i (l.operand j))
+  pub targets_more : (s : List ℕ) (n : ℕ) → is_branch (class_of (l.kind j)) ≡ true → l.operand j < length s
+      → Flags s (entry_with l j) n → Flags (set s (l.operand j) 1) (entry_with l (j + 1)) n
+  targets_more s n q b f i h = go (ℕ_discrete i (l.operand j))
     where
-      go : Dec (i ≡ l.operand j) → get_or (set s (l.operand j) 1) i 0 ≡ bit (entryWith l (j + 1) i)
-      go (yes e) = rw e (get_or-set_same s (l.operand j) 1 0 b ∙ ap bit (sym (entry-target q)))
+      go : Dec (i ≡ l.operand j) → get_or (set s (l.operand j) 1) i 0 ≡ bit (entry_with l (j + 1) i)
+      go (yes e) = rw e (get_or-set_same s (l.operand j) 1 0 b ∙ ap bit (sym (entry_target q)))
       go (no e) = get_or-set_other s (l.operand j) i 1 0 e ∙ f i h ∙ ap bit (sym (entry_other q i e))
 
-pub targets-none : (l : Listing) (s : List ℕ) (n : ℕ) → Flags s (after_call l.kind) n → Flags s (entryWith l 0) n
+pub targets_none : (l : Listing) (s : List ℕ) (n : ℕ) → Flags s (after_call l.kind) n → Flags s (entry_with l 0) n
 unfolding any
-targets-none l s n f i h = f i h ∙ ap bit (sym (or-false (after_call l.kind i)))
+targets_none l s n f i h = f i h ∙ ap bit (sym (or-false (after_call l.kind i)))
 
-pub all-zero : (s : List ℕ) → ((j : ℕ) → j < length s → get_or s j 0 ≡ 0) → (j : ℕ) → get_or s j 0 ≡ 0
-all-zero s h j = go (dec_lt j (length s))
+pub all_zero : (s : List ℕ) → ((j : ℕ) → j < length s → get_or s j 0 ≡ 0) → (j : ℕ) → get_or s j 0 ≡ 0
+all_zero s h j = go (dec_lt j (length s))
   where
     go : Dec (j < length s) → get_or s j 0 ≡ 0
     go (yes k) = h j k

@@ -1,7 +1,7 @@
 // The input list, and the base of an image: what refuses a listing.
 ghost use Rattle.std.specs.Prelude.{◌≡◌, ◌≤◌, length};
-ghost use Rattle.pack_layout.specs.Listing.{listed, judged, judgedFrom, judgedArrays};
-ghost use Rattle.pack_layout.specs.Packing.{judgedPlace};
+ghost use Rattle.pack_layout.specs.Listing.{listed, judged, judged_from, judged_arrays};
+ghost use Rattle.pack_layout.specs.Packing.{judged_place};
 
 use crate::kinds::class_of;
 use cell::{Address, CellCount, Judged, Refusal};
@@ -32,7 +32,7 @@ pub fn judge_item(c: Class, n: u32, x: u32) -> Judged
 // Every item, lowest first.
 pub fn judge_items(kinds: &[u8], operands: &[u32]) -> Judged
     requires { (length kinds.now ≡ length operands.now) × (length kinds.now ≤ 4096) }
-    ensures { result ≡ judgedFrom (listed kinds.now operands.now) (length kinds.now) 0 }
+    ensures { result ≡ judged_from (listed kinds.now operands.now) (length kinds.now) 0 }
 {
     let n = kinds.len();
     let mut i: usize = 0;
@@ -48,7 +48,7 @@ pub fn judge_items(kinds: &[u8], operands: &[u32]) -> Judged
 
 // A listing in two arrays.
 pub fn judge_arrays(kinds: &[u8], operands: &[u32]) -> Judged
-    ensures { result ≡ judgedArrays kinds.now operands.now }
+    ensures { result ≡ judged_arrays kinds.now operands.now }
 {
     let n = kinds.len();
     if n != operands.len() {
@@ -66,7 +66,7 @@ pub fn judge_arrays(kinds: &[u8], operands: &[u32]) -> Judged
 // The base of an image.
 pub fn judge_place(base: Address, cells: CellCount) -> Judged
     requires { cells.0 ≤ 8192 }
-    ensures { result ≡ judgedPlace base.0 cells.0 }
+    ensures { result ≡ judged_place base.0 cells.0 }
 {
     if base.0 % 4 != 0 {
         return Judged::Refused(Refusal::Unaligned);

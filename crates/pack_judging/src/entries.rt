@@ -1,6 +1,6 @@
 // The entries of a listing, as flags.
 ghost use Rattle.std.specs.Prelude.{◌≡◌, ◌<◌, length, get_or};
-ghost use Rattle.pack_layout.specs.Kinds.{classOf, is_branch};
+ghost use Rattle.pack_layout.specs.Kinds.{class_of, is_branch};
 ghost use Rattle.pack_layout.specs.Flags.{bit, Flags};
 ghost use Rattle.pack_layout.specs.Listing.{listed, calls, after_call, entry, Checked};
 
@@ -24,7 +24,7 @@ pub fn is_call(kind: u8) -> bool
 }
 
 pub fn is_branch(kind: u8) -> bool
-    ensures { result ≡ is_branch (classOf kind) }
+    ensures { result ≡ is_branch (class_of kind) }
 {
     let c = class_of(kind);
     match c {

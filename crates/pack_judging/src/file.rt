@@ -1,6 +1,6 @@
 // Listings as files.
 ghost use Rattle.std.specs.Prelude.{◌≡◌, ◌+◌, ◌*◌, ◌≤◌, length};
-ghost use Rattle.pack_layout.specs.File.{leastFirst, cellsFrom, judgedLength};
+ghost use Rattle.pack_layout.specs.File.{least_first, cells_from, judged_length};
 
 use cell::memory::load_at;
 use cell::{Judged, Refusal};
@@ -8,14 +8,14 @@ use cell::{Judged, Refusal};
 // The cell in the four bytes from a on, least first.
 pub fn cell_at(file: &[u8], a: usize) -> u32
     requires { a + 4 ≤ length file.now }
-    ensures { result ≡ leastFirst file.now a }
+    ensures { result ≡ least_first file.now a }
 {
     load_at(0, file, a)
 }
 
 // The length of a file against its count of items.
 pub fn judge_length(file: &[u8]) -> Judged
-    ensures { result ≡ judgedLength file.now }
+    ensures { result ≡ judged_length file.now }
 {
     let n = file.len();
     if n < 8 {
@@ -31,7 +31,7 @@ pub fn judge_length(file: &[u8]) -> Judged
 // Reads the operands from the byte a on.
 pub fn read_operands(file: &[u8], a: usize, operands: &mut [u32])
     requires { (length operands.old ≤ 4096) × (a + 4 * length operands.old ≤ length file.now) }
-    ensures { operands.new ≡ cellsFrom file.now a (length operands.old) }
+    ensures { operands.new ≡ cells_from file.now a (length operands.old) }
 {
     let n = operands.len();
     let mut i: usize = 0;

@@ -1,12 +1,12 @@
 // Kind bytes.
 ghost use Rattle.std.specs.Prelude.{◌≡◌};
-ghost use Rattle.pack_layout.specs.Kinds.{classOf};
+ghost use Rattle.pack_layout.specs.Kinds.{class_of};
 
 use pack_layout::Class;
 
 // The class of a kind byte.
 pub fn class_of(kind: u8) -> Class
-    ensures { result ≡ classOf kind }
+    ensures { result ≡ class_of kind }
 {
     if 0x57 < kind {
         return Class::NoKind;

@@ -9,7 +9,7 @@ use native.Mathlib.Decide.{dec_lt}
 use native.Mathlib.Omega.{arith}
 use borrow.Author.Tests.{ne_eqb, le-leb, lt-leb}
 use Rattle.pack_layout.specs.declared.Class.{Class}
-use Rattle.pack_layout.specs.Kinds.{classOf, among, branches, immediates, plain, noKind}
+use Rattle.pack_layout.specs.Kinds.{class_of, among, branches, immediates, plain, no_kind}
 
 -- x is the number k or one of ks
 abbrev pub OneOf : ℕ → ℕ → List ℕ → Type 0
@@ -17,21 +17,21 @@ OneOf x k [] = x ≡ k
 OneOf x k (j ∷ js) = (x ≡ k) ⊎ OneOf x j js
 
 abbrev pub Each : Class → ℕ → List ℕ → Type 0
-Each c k [] = c ≡ classOf k
-Each c k (j ∷ js) = (c ≡ classOf k) × Each c j js
+Each c k [] = c ≡ class_of k
+Each c k (j ∷ js) = (c ≡ class_of k) × Each c j js
 
-pub one_of : (c : Class) (x k : ℕ) (ks : List ℕ) → Each c k ks → OneOf x k ks → c ≡ classOf x
-one_of c x k [] h e = h ∙ ap classOf (sym e)
-one_of c x k (j ∷ js) h (inl e) = h.0 ∙ ap classOf (sym e)
+pub one_of : (c : Class) (x k : ℕ) (ks : List ℕ) → Each c k ks → OneOf x k ks → c ≡ class_of x
+one_of c x k [] h e = h ∙ ap class_of (sym e)
+one_of c x k (j ∷ js) h (inl e) = h.0 ∙ ap class_of (sym e)
 one_of c x k (j ∷ js) h (inr e) = one_of c x j js h.1 e
 
 pub none_of : (x k : ℕ) (ks : List ℕ) → (OneOf x k ks → ⊥) → among x (k ∷ ks) ≡ false
 none_of x k [] h = rw (ne_eqb x k h)
 none_of x k (j ∷ js) h = rw (ne_eqb x k (λ e. h (inl e))) (none_of x j js (λ e. h (inr e)))
 
-past-table : (k : ℕ) → 0x5C ≤ k → classOf k ≡ noKind
-unfolding classOf
-past-table k h =
+past_table : (k : ℕ) → 0x5C ≤ k → class_of k ≡ no_kind
+unfolding class_of
+past_table k h =
     simp (
       ne_eqb k 0x52 (λ (e : k ≡ 0x52). omega arith),
       ne_eqb k 0x42 (λ (e : k ≡ 0x42). omega arith),
@@ -44,22 +44,22 @@ past-table k h =
     )
 
 -- 58h and above are no kinds
-pub high-is-none : (k : ℕ) → 0x58 ≤ k → noKind ≡ classOf k
-unfolding classOf
-high-is-none k h = go (dec_lt k 0x59) (dec_lt k 0x5A) (dec_lt k 0x5B) (dec_lt k 0x5C)
+pub high_is_none : (k : ℕ) → 0x58 ≤ k → no_kind ≡ class_of k
+unfolding class_of
+high_is_none k h = go (dec_lt k 0x59) (dec_lt k 0x5A) (dec_lt k 0x5B) (dec_lt k 0x5C)
   where
-    go : Dec (k < 0x59) → Dec (k < 0x5A) → Dec (k < 0x5B) → Dec (k < 0x5C) → noKind ≡ classOf k
-    go (yes a) b c d = ap classOf (let e : 0x58 ≡ k = omega arith in e)
-    go (no a) (yes b) c d = ap classOf (let e : 0x59 ≡ k = omega arith in e)
-    go (no a) (no b) (yes c) d = ap classOf (let e : 0x5A ≡ k = omega arith in e)
-    go (no a) (no b) (no c) (yes d) = ap classOf (let e : 0x5B ≡ k = omega arith in e)
-    go (no a) (no b) (no c) (no d) = sym (past-table k (omega arith))
+    go : Dec (k < 0x59) → Dec (k < 0x5A) → Dec (k < 0x5B) → Dec (k < 0x5C) → no_kind ≡ class_of k
+    go (yes a) b c d = ap class_of (let e : 0x58 ≡ k = omega arith in e)
+    go (no a) (yes b) c d = ap class_of (let e : 0x59 ≡ k = omega arith in e)
+    go (no a) (no b) (yes c) d = ap class_of (let e : 0x5A ≡ k = omega arith in e)
+    go (no a) (no b) (no c) (yes d) = ap class_of (let e : 0x5B ≡ k = omega arith in e)
+    go (no a) (no b) (no c) (no d) = sym (past_table k (omega arith))
 
 -- every other number is a plain kind
-pub else-plain : (k : ℕ) → k < 0x58 → (k ≡ 0x52 → ⊥) → among k branches ≡ false → among k immediates ≡ false
-    → ((k ≡ 0) ⊎ (k ≡ 0x56) → ⊥) → plain ≡ classOf k
-unfolding classOf
-else-plain k h a b c d =
+pub else_plain : (k : ℕ) → k < 0x58 → (k ≡ 0x52 → ⊥) → among k branches ≡ false → among k immediates ≡ false
+    → ((k ≡ 0) ⊎ (k ≡ 0x56) → ⊥) → plain ≡ class_of k
+unfolding class_of
+else_plain k h a b c d =
     simp (
       ne_eqb k 0x52 a,
       b,

@@ -12,21 +12,21 @@ use Rattle.cell.proofs.BooleanLaws.{both_true}
 use Rattle.pack_layout.specs.declared.Entry.TheVariants.{Item, Nothing}
 use Rattle.pack_layout.specs.declared.ItemNumber.{ItemNumber}
 use Rattle.pack_layout.specs.Listing.{Listing, entry}
-use Rattle.pack_layout.specs.Packing.{layout, address_of, entryBelow, entry_at}
-use Rattle.pack_layout.proofs.Placing.{entry-opens, one_entry}
+use Rattle.pack_layout.specs.Packing.{layout, address_of, entry_below, entry_at}
+use Rattle.pack_layout.proofs.Placing.{entry_opens, one_entry}
 
 pub record Found (base : ℕ) (l : Listing) (k a j : ℕ) : Type 0 where
   pub item : j < k
   pub entered : entry l j ≡ true
   pub there : address_of base l j ≡ a
 
-and-true : (a b : Bool) → a ≡ true → b ≡ true → (a && b) ≡ true
-and-true true b p q = q
-and-true false b p q = p
+and_true : (a b : Bool) → a ≡ true → b ≡ true → (a && b) ≡ true
+and_true true b p q = q
+and_true false b p q = p
 
 module _ (base : ℕ) (l : Listing) where
-  found_below : (k a j : ℕ) → entryBelow base l k a ≡ Item (record { 0 = j }) → Found base l k a j
-  unfolding entryBelow
+  found_below : (k a j : ℕ) → entry_below base l k a ≡ Item (record { 0 = j }) → Found base l k a j
+  unfolding entry_below
   found_below zero a j e = absurd (let z : ◌≡◌ {A = ℕ} 0 1 = cc in omega arith)
   found_below (suc k) a j e = go (entry l k && eqb (address_of base l k) a) refl e (λ q. found_below k a j q)
     where
@@ -38,29 +38,29 @@ module _ (base : ℕ) (l : Listing) where
             there = rw (← i) (eqb-true _ _ q.1);
           }
 
-      go : (b : Bool) → (entry l k && eqb (address_of base l k) a) ≡ b → if b (Item (record { 0 = k })) (entryBelow base l k a) ≡ Item (record { 0 = j })
-          → (entryBelow base l k a ≡ Item (record { 0 = j }) → Found base l k a j) → Found base l (suc k) a j
+      go : (b : Bool) → (entry l k && eqb (address_of base l k) a) ≡ b → if b (Item (record { 0 = k })) (entry_below base l k a) ≡ Item (record { 0 = j })
+          → (entry_below base l k a ≡ Item (record { 0 = j }) → Found base l k a j) → Found base l (suc k) a j
       go true q e f =
           let r : ◌≡◌ {A = ItemNumber} (record { 0 = k }) (record { 0 = j }) = cc in
           here (both_true (entry l k) (eqb (address_of base l k) a) q) (ap (λ (x : ItemNumber). x.0) r)
       go false q e f = let r = f e in record { item = omega (arith, r.item); entered = r.entered; there = r.there }
 
-  finds-below : (k j : ℕ) → j < k → entry l j ≡ true → entryBelow base l k (address_of base l j) ≡ Item (record { 0 = j })
-  unfolding entryBelow
-  finds-below zero j h e = absurd (omega arith)
-  finds-below (suc k) j h e = go (entry l k && eqb (address_of base l k) (address_of base l j)) refl (dec_lt j k) (λ c. finds-below k j c e)
+  finds_below : (k j : ℕ) → j < k → entry l j ≡ true → entry_below base l k (address_of base l j) ≡ Item (record { 0 = j })
+  unfolding entry_below
+  finds_below zero j h e = absurd (omega arith)
+  finds_below (suc k) j h e = go (entry l k && eqb (address_of base l k) (address_of base l j)) refl (dec_lt j k) (λ c. finds_below k j c e)
     where
       only : (entry l k ≡ true) × (eqb (address_of base l k) (address_of base l j) ≡ true) → k ≡ j
       only q =
-          one_entry (layout l) k j (entry-opens (layout l) k q.0) (entry-opens (layout l) j e)
+          one_entry (layout l) k j (entry_opens (layout l) k q.0) (entry_opens (layout l) j e)
           (omega (arith, eqb-true (address_of base l k) (address_of base l j) q.1))
 
       last : k ≡ j → (entry l k && eqb (address_of base l k) (address_of base l j)) ≡ true
-      last q = rw q (and-true (entry l j) (eqb (address_of base l j) (address_of base l j)) e (eq-eqb (address_of base l j) (address_of base l j) refl))
+      last q = rw q (and_true (entry l j) (eqb (address_of base l j) (address_of base l j)) e (eq-eqb (address_of base l j) (address_of base l j) refl))
 
       go : (b : Bool) → (entry l k && eqb (address_of base l k) (address_of base l j)) ≡ b → Dec (j < k)
-          → (j < k → entryBelow base l k (address_of base l j) ≡ Item (record { 0 = j }))
-          → if b (Item (record { 0 = k })) (entryBelow base l k (address_of base l j)) ≡ Item (record { 0 = j })
+          → (j < k → entry_below base l k (address_of base l j) ≡ Item (record { 0 = j }))
+          → if b (Item (record { 0 = k })) (entry_below base l k (address_of base l j)) ≡ Item (record { 0 = j })
       go true q d f = ap (λ (x : ℕ). Item (record { 0 = x })) (only (both_true (entry l k) (eqb (address_of base l k) (address_of base l j)) q))
       go false q (yes c) f = f c
       go false q (no c) f = absurd (true≢false (sym (last (omega arith)) ∙ q))
@@ -73,11 +73,11 @@ module _ (base : ℕ) (l : Listing) where
   -- and every entry's address leads to it
   pub finds : (j : ℕ) → j < l.count → entry l j ≡ true → entry_at base l (address_of base l j) ≡ Item (record { 0 = j })
   unfolding entry_at
-  finds j h e = finds-below l.count j h e
+  finds j h e = finds_below l.count j h e
 
   -- an address that leads nowhere is no entry's
-  pub finds-none : (a : ℕ) → entry_at base l a ≡ Nothing → (j : ℕ) → j < l.count → entry l j ≡ true → address_of base l j ≡ a → ⊥
-  finds-none a e j h q s =
+  pub finds_none : (a : ℕ) → entry_at base l a ≡ Nothing → (j : ℕ) → j < l.count → entry l j ≡ true → address_of base l j ≡ a → ⊥
+  finds_none a e j h q s =
       let f : entry_at base l a ≡ Item (record { 0 = j }) = rw (← s) (finds j h q) in
       let z : ◌≡◌ {A = ℕ} 0 1 = cc in
       omega arith

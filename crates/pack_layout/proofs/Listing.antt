@@ -12,39 +12,39 @@ use Rattle.cell.specs.Refusals.{judge}
 use Rattle.cell.specs.declared.Refusal.TheVariants as refusal
 use Rattle.cell.specs.declared.Judged.TheVariants.{Passed}
 use Rattle.cell.proofs.BooleanLaws.{neither}
-use Rattle.cell.proofs.JudgementLaws.{both-pass, one-clear}
+use Rattle.cell.proofs.JudgementLaws.{both_pass, one_clear}
 use Rattle.pack_layout.specs.declared.Class.{Class}
-use Rattle.pack_layout.specs.Kinds.{classOf, is_branch, plain, literal, branch, noKind}
-use Rattle.pack_layout.specs.Grounds.{itemCount}
-use Rattle.pack_layout.specs.Listing.{Listing, any, targets, calls, after_call, entry, judged, judgedFrom, judgedListing}
-use Rattle.pack_layout.proofs.Classes.{high-is-none}
+use Rattle.pack_layout.specs.Kinds.{class_of, is_branch, plain, literal, branch, no_kind}
+use Rattle.pack_layout.specs.Grounds.{item_count}
+use Rattle.pack_layout.specs.Listing.{Listing, any, targets, calls, after_call, entry, judged, judged_from, judged_listing}
+use Rattle.pack_layout.proofs.Classes.{high_is_none}
 
 -- every kind is below 5Ch
-pub kind-low : (k : ℕ) → (classOf k ≡ noKind → ⊥) → k < 0x5C
-kind-low k h = go (dec_lt k 0x5C)
+pub kind_low : (k : ℕ) → (class_of k ≡ no_kind → ⊥) → k < 0x5C
+kind_low k h = go (dec_lt k 0x5C)
   where
     go : Dec (k < 0x5C) → k < 0x5C
     go (yes l) = l
-    go (no l) = absurd (h (sym (high-is-none k (omega arith))))
+    go (no l) = absurd (h (sym (high_is_none k (omega arith))))
 
 -- an item that is not refused
-judged-kind : (c : Class) (n x : ℕ) → judged c n x ≡ Passed → c ≡ noKind → ⊥
-judged-kind plain n x e q = let z : ◌≡◌ {A = ℕ} 0 1 = cc in omega arith
-judged-kind literal n x e q = let z : ◌≡◌ {A = ℕ} 0 1 = cc in omega arith
-judged-kind branch n x e q = let z : ◌≡◌ {A = ℕ} 0 1 = cc in omega arith
-judged-kind noKind n x e q = let z : ◌≡◌ {A = ℕ} 0 1 = cc in omega arith
+judged_kind : (c : Class) (n x : ℕ) → judged c n x ≡ Passed → c ≡ no_kind → ⊥
+judged_kind plain n x e q = let z : ◌≡◌ {A = ℕ} 0 1 = cc in omega arith
+judged_kind literal n x e q = let z : ◌≡◌ {A = ℕ} 0 1 = cc in omega arith
+judged_kind branch n x e q = let z : ◌≡◌ {A = ℕ} 0 1 = cc in omega arith
+judged_kind no_kind n x e q = let z : ◌≡◌ {A = ℕ} 0 1 = cc in omega arith
 
-judged-target : (c : Class) (n x : ℕ) → judged c n x ≡ Passed → c ≡ branch → x < n
-judged-target plain n x e q = absurd (let z : ◌≡◌ {A = ℕ} 0 1 = cc in omega arith)
-judged-target literal n x e q = absurd (let z : ◌≡◌ {A = ℕ} 0 1 = cc in omega arith)
-judged-target branch n x e q = leb-false n x (one-clear (leb n x) refusal.Target Passed e).0
-judged-target noKind n x e q = absurd (let z : ◌≡◌ {A = ℕ} 0 1 = cc in omega arith)
+judged_target : (c : Class) (n x : ℕ) → judged c n x ≡ Passed → c ≡ branch → x < n
+judged_target plain n x e q = absurd (let z : ◌≡◌ {A = ℕ} 0 1 = cc in omega arith)
+judged_target literal n x e q = absurd (let z : ◌≡◌ {A = ℕ} 0 1 = cc in omega arith)
+judged_target branch n x e q = leb-false n x (one_clear (leb n x) refusal.Target Passed e).0
+judged_target no_kind n x e q = absurd (let z : ◌≡◌ {A = ℕ} 0 1 = cc in omega arith)
 
-judged-plain : (c : Class) (n x : ℕ) → judged c n x ≡ Passed → c ≡ plain → x ≡ 0
-judged-plain plain n x e q = eqb-true x 0 (not-false (eqb x 0) (one-clear (not (eqb x 0)) refusal.PlainOperand Passed e).0)
-judged-plain literal n x e q = absurd (let z : ◌≡◌ {A = ℕ} 0 1 = cc in omega arith)
-judged-plain branch n x e q = absurd (let z : ◌≡◌ {A = ℕ} 0 1 = cc in omega arith)
-judged-plain noKind n x e q = absurd (let z : ◌≡◌ {A = ℕ} 0 1 = cc in omega arith)
+judged_plain : (c : Class) (n x : ℕ) → judged c n x ≡ Passed → c ≡ plain → x ≡ 0
+judged_plain plain n x e q = eqb-true x 0 (not-false (eqb x 0) (one_clear (not (eqb x 0)) refusal.PlainOperand Passed e).0)
+judged_plain literal n x e q = absurd (let z : ◌≡◌ {A = ℕ} 0 1 = cc in omega arith)
+judged_plain branch n x e q = absurd (let z : ◌≡◌ {A = ℕ} 0 1 = cc in omega arith)
+judged_plain no_kind n x e q = absurd (let z : ◌≡◌ {A = ℕ} 0 1 = cc in omega arith)
 
 any_some : (p : ℕ → Bool) (n i : ℕ) → i < n → p i ≡ true → any p n ≡ true
 unfolding any
@@ -60,64 +60,64 @@ or_right : (a b : Bool) → b ≡ true → (a || b) ≡ true
 or_right true b e = refl
 or_right false b e = e
 
-targets-own : (c : Class) (x : ℕ) → c ≡ branch → targets c x x ≡ true
-targets-own c x q = rw q (eq-eqb x x refl)
+targets_own : (c : Class) (x : ℕ) → c ≡ branch → targets c x x ≡ true
+targets_own c x q = rw q (eq-eqb x x refl)
 
 -- item 0, a branch's target and the item after a call are entries
 pub first_entry : (l : Listing) → entry l 0 ≡ true
 unfolding entry
 first_entry l = refl
 
-pub target-entry : (l : Listing) (i : ℕ) → i < l.count → classOf (l.kind i) ≡ branch → entry l (l.operand i) ≡ true
+pub target_entry : (l : Listing) (i : ℕ) → i < l.count → class_of (l.kind i) ≡ branch → entry l (l.operand i) ≡ true
 unfolding entry
-target-entry l i h q =
+target_entry l i h q =
     or_right (after_call l.kind (l.operand i)) _
-    (any_some (λ j. targets (classOf (l.kind j)) (l.operand j) (l.operand i)) l.count i h
-    (targets-own (classOf (l.kind i)) (l.operand i) q))
+    (any_some (λ j. targets (class_of (l.kind j)) (l.operand j) (l.operand i)) l.count i h
+    (targets_own (class_of (l.kind i)) (l.operand i) q))
 
-pub call-entry : (l : Listing) (i : ℕ) → calls (l.kind i) ≡ true → entry l (suc i) ≡ true
+pub call_entry : (l : Listing) (i : ℕ) → calls (l.kind i) ≡ true → entry l (suc i) ≡ true
 unfolding entry
-call-entry l i q = rw q
+call_entry l i q = rw q
 
-pub is-branch : (c : Class) → is_branch c ≡ true → c ≡ branch
-is-branch plain q = cc
-is-branch literal q = cc
-is-branch branch q = refl
-is-branch noKind q = cc
+pub is_branch_lem : (c : Class) → is_branch c ≡ true → c ≡ branch
+is_branch_lem plain q = cc
+is_branch_lem literal q = cc
+is_branch_lem branch q = refl
+is_branch_lem no_kind q = cc
 
-module _ (l : Listing) (ok : judgedListing l ≡ Passed) where
-  items-from : (k i : ℕ) → judgedFrom l k i ≡ Passed → (j : ℕ) → i ≤ j → j < i + k
-      → judged (classOf (l.kind j)) l.count (l.operand j) ≡ Passed
-  unfolding judgedFrom
-  items-from zero i e j a b = absurd (omega arith)
-  items-from (suc k) i e j a b = go (dec_lt i j) (both-pass _ _ e) (λ q c. items-from k (suc i) q j c (omega arith))
+module _ (l : Listing) (ok : judged_listing l ≡ Passed) where
+  items_from_lem : (k i : ℕ) → judged_from l k i ≡ Passed → (j : ℕ) → i ≤ j → j < i + k
+      → judged (class_of (l.kind j)) l.count (l.operand j) ≡ Passed
+  unfolding judged_from
+  items_from_lem zero i e j a b = absurd (omega arith)
+  items_from_lem (suc k) i e j a b = go (dec_lt i j) (both_pass _ _ e) (λ q c. items_from_lem k (suc i) q j c (omega arith))
     where
-      go : Dec (i < j) → (judged (classOf (l.kind i)) l.count (l.operand i) ≡ Passed) × (judgedFrom l k (suc i) ≡ Passed)
-          → (judgedFrom l k (suc i) ≡ Passed → suc i ≤ j → judged (classOf (l.kind j)) l.count (l.operand j) ≡ Passed)
-          → judged (classOf (l.kind j)) l.count (l.operand j) ≡ Passed
+      go : Dec (i < j) → (judged (class_of (l.kind i)) l.count (l.operand i) ≡ Passed) × (judged_from l k (suc i) ≡ Passed)
+          → (judged_from l k (suc i) ≡ Passed → suc i ≤ j → judged (class_of (l.kind j)) l.count (l.operand j) ≡ Passed)
+          → judged (class_of (l.kind j)) l.count (l.operand j) ≡ Passed
       go (yes c) q f = f q.1 c
       go (no c) q f = rw (let t : j ≡ i = omega arith in t) q.0
 
-  item-judged : (i : ℕ) → i < l.count → judged (classOf (l.kind i)) l.count (l.operand i) ≡ Passed
-  unfolding judgedListing
-  item-judged i h = items-from l.count 0 (both-pass (judge (itemCount l.count ∷ [])) (judgedFrom l l.count 0) ok).1 i (omega arith) (omega arith)
+  item_judged : (i : ℕ) → i < l.count → judged (class_of (l.kind i)) l.count (l.operand i) ≡ Passed
+  unfolding judged_listing
+  item_judged i h = items_from_lem l.count 0 (both_pass (judge (item_count l.count ∷ [])) (judged_from l l.count 0) ok).1 i (omega arith) (omega arith)
 
-  pub kind-below : (i : ℕ) → i < l.count → l.kind i < 0x5C
-  kind-below i h = kind-low (l.kind i) (judged-kind _ _ _ (item-judged i h))
+  pub kind_below : (i : ℕ) → i < l.count → l.kind i < 0x5C
+  kind_below i h = kind_low (l.kind i) (judged_kind _ _ _ (item_judged i h))
 
-  pub target_below : (i : ℕ) → i < l.count → classOf (l.kind i) ≡ branch → l.operand i < l.count
-  target_below i h q = judged-target _ _ _ (item-judged i h) q
+  pub target_below : (i : ℕ) → i < l.count → class_of (l.kind i) ≡ branch → l.operand i < l.count
+  target_below i h q = judged_target _ _ _ (item_judged i h) q
 
-  pub plain-operand : (i : ℕ) → i < l.count → classOf (l.kind i) ≡ plain → l.operand i ≡ 0
-  plain-operand i h q = judged-plain _ _ _ (item-judged i h) q
+  pub plain_operand_lem : (i : ℕ) → i < l.count → class_of (l.kind i) ≡ plain → l.operand i ≡ 0
+  plain_operand_lem i h q = judged_plain _ _ _ (item_judged i h) q
 
-  pub is-kind : (i : ℕ) → i < l.count → classOf (l.kind i) ≡ noKind → ⊥
-  is-kind i h = judged-kind _ _ _ (item-judged i h)
+  pub is_kind_lem : (i : ℕ) → i < l.count → class_of (l.kind i) ≡ no_kind → ⊥
+  is_kind_lem i h = judged_kind _ _ _ (item_judged i h)
 
   pub some_item : (0 < l.count) × (l.count ≤ 4096)
-  unfolding judgedListing
+  unfolding judged_listing
   some_item =
-      let e = one-clear (eqb l.count 0 || ltb 4096 l.count) refusal.ItemCount Passed (both-pass _ (judgedFrom l l.count 0) ok).0 in
+      let e = one_clear (eqb l.count 0 || ltb 4096 l.count) refusal.ItemCount Passed (both_pass _ (judged_from l l.count 0) ok).0 in
       let t = neither (eqb l.count 0) (ltb 4096 l.count) e.0 in
       (nonzero l.count (eqb-false l.count 0 t.0), ltb-false 4096 l.count t.1)
     where

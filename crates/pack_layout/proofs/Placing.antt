@@ -10,17 +10,17 @@ use native.Mathlib.Decide.{dec_lt}
 use borrow.Author.Tests.{eqb-true, ne_eqb}
 use lib.Dec.{eqb}
 use Rattle.pack_layout.specs.declared.ItemForm.{ItemForm}
-use Rattle.pack_layout.specs.Layout.{Spot, fresh, begin, finish, extra, Plan, cur, opens, mid, left, formAt, alone, immediate, inCell}
+use Rattle.pack_layout.specs.Layout.{Spot, fresh, begin, finish, extra, Plan, cur, opens, mid, left, form_at, alone, immediate, in_cell}
 use Rattle.pack_layout.specs.Image.{above}
 
-begin-le : (o : Bool) (c : Spot) → c.free ≤ 3 → (begin o c).free ≤ 4
-begin-le true c h = omega arith
-begin-le false c h = omega arith
+begin_le : (o : Bool) (c : Spot) → c.free ≤ 3 → (begin o c).free ≤ 4
+begin_le true c h = omega arith
+begin_le false c h = omega arith
 
-finish-le : (g : ItemForm) (f : ℕ) (d : Spot) → f ≤ 3 → (finish g f d).free ≤ 3
-finish-le alone f d h = h
-finish-le immediate f d h = omega arith
-finish-le inCell f d h = h
+finish_le : (g : ItemForm) (f : ℕ) (d : Spot) → f ≤ 3 → (finish g f d).free ≤ 3
+finish_le alone f d h = h
+finish_le immediate f d h = omega arith
+finish_le in_cell f d h = h
 
 -- an item that opens no cell stands in the cell of the item before it, one byte further, and that item is not immediate
 pub record Same (g : ItemForm) (f : ℕ) (d c : Spot) (o : Bool) : Type 0 where
@@ -35,37 +35,37 @@ same_of alone zero d b e = absurd (true≢false e)
 same_of alone (suc f) d true e = absurd (true≢false e)
 same_of alone (suc f) d false e = record { at = refl; next = omega arith; left = omega arith; above = λ v w. refl }
 same_of immediate f d b e = absurd (true≢false e)
-same_of inCell zero d b e = absurd (true≢false e)
-same_of inCell (suc f) d true e = absurd (true≢false e)
-same_of inCell (suc f) d false e = record { at = refl; next = refl; left = omega arith; above = λ v w. refl }
+same_of in_cell zero d b e = absurd (true≢false e)
+same_of in_cell (suc f) d true e = absurd (true≢false e)
+same_of in_cell (suc f) d false e = record { at = refl; next = refl; left = omega arith; above = λ v w. refl }
 
 -- the immediate form closes the cell
 close_of : (g : ItemForm) (f : ℕ) (d : Spot) (b : Bool) → g ≡ immediate → fresh (finish g f d).free b ≡ true
 close_of alone f d b q = cc
 close_of immediate f d b q = refl
-close_of inCell f d b q = cc
+close_of in_cell f d b q = cc
 
-finish-next : (g : ItemForm) (f : ℕ) (d : Spot) → (finish g f d).next ≡ d.next + extra g
-finish-next alone f d = omega arith
-finish-next immediate f d = omega arith
-finish-next inCell f d = refl
+finish_next : (g : ItemForm) (f : ℕ) (d : Spot) → (finish g f d).next ≡ d.next + extra g
+finish_next alone f d = omega arith
+finish_next immediate f d = omega arith
+finish_next in_cell f d = refl
 
-begin-at : (o : Bool) (c : Spot) → o ≡ true → (begin o c).at ≡ c.next
-begin-at true c e = refl
-begin-at false c e = absurd (false≢true e)
+begin_at : (o : Bool) (c : Spot) → o ≡ true → (begin o c).at ≡ c.next
+begin_at true c e = refl
+begin_at false c e = absurd (false≢true e)
 
-begin-next : (o : Bool) (c : Spot) → c.next ≤ (begin o c).next
-begin-next true c = omega arith
-begin-next false c = omega arith
+begin_next : (o : Bool) (c : Spot) → c.next ≤ (begin o c).next
+begin_next true c = omega arith
+begin_next false c = omega arith
 
-pub begin-most : (o : Bool) (c : Spot) → (begin o c).next ≤ c.next + 1
-begin-most true c = omega arith
-begin-most false c = omega arith
+pub begin_most : (o : Bool) (c : Spot) → (begin o c).next ≤ c.next + 1
+begin_most true c = omega arith
+begin_most false c = omega arith
 
-pub extra-most : (g : ItemForm) → extra g ≤ 1
-extra-most alone = omega arith
-extra-most immediate = omega arith
-extra-most inCell = omega arith
+pub extra_most : (g : ItemForm) → extra g ≤ 1
+extra_most alone = omega arith
+extra_most immediate = omega arith
+extra_most in_cell = omega arith
 
 -- the open cell is one of those placed, once any is
 placed_of : (e : Bool) (c : Spot) → (0 < c.free → c.at < c.next) → (begin (fresh c.free e) c).at < (begin (fresh c.free e) c).next
@@ -76,10 +76,10 @@ placed_of e c h = go c.free refl e
     go (suc f) q true = omega arith
     go (suc f) q false = h (omega arith)
 
-finish-at : (g : ItemForm) (f : ℕ) (d : Spot) → d.at < d.next → (finish g f d).at < (finish g f d).next
-finish-at alone f d h = h
-finish-at immediate f d h = h
-finish-at inCell f d h = omega arith
+finish_at : (g : ItemForm) (f : ℕ) (d : Spot) → d.at < d.next → (finish g f d).at < (finish g f d).next
+finish_at alone f d h = h
+finish_at immediate f d h = h
+finish_at in_cell f d h = omega arith
 
 opens_of : (e : Bool) (c : Spot) → c.free ≤ 3 → fresh c.free e ≡ eqb ((begin (fresh c.free e) c).free - 1) 3
 opens_of e c h = go c.free refl e
@@ -89,71 +89,71 @@ opens_of e c h = go c.free refl e
     go (suc f) q true = refl
     go (suc f) q false = sym (ne_eqb _ _ (λ (z : c.free - 1 ≡ 3). omega arith))
 
-pub fresh-entry : (f : ℕ) (e : Bool) → e ≡ true → fresh f e ≡ true
-fresh-entry zero e q = refl
-fresh-entry (suc f) e q = q
+pub fresh_entry : (f : ℕ) (e : Bool) → e ≡ true → fresh f e ≡ true
+fresh_entry zero e q = refl
+fresh_entry (suc f) e q = q
 
 module _ (p : Plan) where
-  pub entry-opens : (i : ℕ) → p.entry i ≡ true → opens p i ≡ true
-  entry-opens i q = fresh-entry (cur p i).free (p.entry i) q
+  pub entry_opens : (i : ℕ) → p.entry i ≡ true → opens p i ≡ true
+  entry_opens i q = fresh_entry (cur p i).free (p.entry i) q
 
   three : (i : ℕ) → (cur p i).free ≤ 3
   unfolding cur
   three zero = omega arith
   three (suc i) =
-      finish-le (formAt p i) (left p i) (mid p i) (omega (arith, begin-le (opens p i) (cur p i) (three i)))
+      finish_le (form_at p i) (left p i) (mid p i) (omega (arith, begin_le (opens p i) (cur p i) (three i)))
 
   pub left_le : (i : ℕ) → left p i ≤ 3
-  left_le i = omega (arith, begin-le (opens p i) (cur p i) (three i))
+  left_le i = omega (arith, begin_le (opens p i) (cur p i) (three i))
 
   -- three bytes are left exactly behind an item that opens a cell
-  pub opens-is : (i : ℕ) → opens p i ≡ eqb (left p i) 3
-  opens-is i = opens_of (p.entry i) (cur p i) (three i)
+  pub opens_is : (i : ℕ) → opens p i ≡ eqb (left p i) 3
+  opens_is i = opens_of (p.entry i) (cur p i) (three i)
 
-  pub opens-left : (i : ℕ) → opens p i ≡ true → left p i ≡ 3
-  opens-left i q = eqb-true (left p i) 3 (sym (opens-is i) ∙ q)
+  pub opens_left : (i : ℕ) → opens p i ≡ true → left p i ≡ 3
+  opens_left i q = eqb-true (left p i) 3 (sym (opens_is i) ∙ q)
 
-  pub same : (i : ℕ) → opens p (suc i) ≡ false → Same (formAt p i) (left p i) (mid p i) (cur p (suc i)) (opens p (suc i))
+  pub same : (i : ℕ) → opens p (suc i) ≡ false → Same (form_at p i) (left p i) (mid p i) (cur p (suc i)) (opens p (suc i))
   unfolding cur
-  same i e = same_of (formAt p i) (left p i) (mid p i) (p.entry (suc i)) e
+  same i e = same_of (form_at p i) (left p i) (mid p i) (p.entry (suc i)) e
 
-  pub closes : (i : ℕ) → formAt p i ≡ immediate → opens p (suc i) ≡ true
+  pub closes : (i : ℕ) → form_at p i ≡ immediate → opens p (suc i) ≡ true
   unfolding cur
-  closes i q = close_of (formAt p i) (left p i) (mid p i) (p.entry (suc i)) q
+  closes i q = close_of (form_at p i) (left p i) (mid p i) (p.entry (suc i)) q
 
   -- the next cell after an item is the one after its EP value's and its operand cell
-  pub next-after : (i : ℕ) → (cur p (suc i)).next ≡ (mid p i).next + extra (formAt p i)
+  pub next_after : (i : ℕ) → (cur p (suc i)).next ≡ (mid p i).next + extra (form_at p i)
   unfolding cur
-  next-after i = finish-next (formAt p i) (left p i) (mid p i)
+  next_after i = finish_next (form_at p i) (left p i) (mid p i)
 
-  pub run_on : (i : ℕ) → opens p (suc i) ≡ true → (mid p (suc i)).at ≡ (mid p i).next + extra (formAt p i)
-  run_on i q = begin-at (opens p (suc i)) (cur p (suc i)) q ∙ next-after i
+  pub run_on : (i : ℕ) → opens p (suc i) ≡ true → (mid p (suc i)).at ≡ (mid p i).next + extra (form_at p i)
+  run_on i q = begin_at (opens p (suc i)) (cur p (suc i)) q ∙ next_after i
 
-  pub reach : (i j : ℕ) → i < j → (mid p i).next + extra (formAt p i) ≤ (cur p j).next
+  pub reach : (i j : ℕ) → i < j → (mid p i).next + extra (form_at p i) ≤ (cur p j).next
   reach i zero h = absurd (omega arith)
   reach i (suc j) h =
-      ⊎_elim (λ (e : i ≡ j). rw e (omega (arith, next-after j)))
-      (λ (e : i < j). omega (arith, reach i j e, next-after j, begin-next (opens p j) (cur p j)))
+      ⊎_elim (λ (e : i ≡ j). rw e (omega (arith, next_after j)))
+      (λ (e : i < j). omega (arith, reach i j e, next_after j, begin_next (opens p j) (cur p j)))
       (eq-or-lt_of_le (le_of_suc-le-suc h))
 
   pub at_most : (i : ℕ) → (cur p i).next ≤ 2 * i
   unfolding cur
   at_most zero = omega arith
   at_most (suc i) =
-      omega (arith, at_most i, finish-next (formAt p i) (left p i) (mid p i), begin-most (opens p i) (cur p i), extra-most (formAt p i))
+      omega (arith, at_most i, finish_next (form_at p i) (left p i) (mid p i), begin_most (opens p i) (cur p i), extra_most (form_at p i))
 
-  open-placed : (i : ℕ) → 0 < (cur p i).free → (cur p i).at < (cur p i).next
+  open_placed : (i : ℕ) → 0 < (cur p i).free → (cur p i).at < (cur p i).next
   unfolding cur
-  open-placed zero h = absurd (omega arith)
-  open-placed (suc i) h =
-      finish-at (formAt p i) (left p i) (mid p i) (placed_of (p.entry i) (cur p i) (open-placed i))
+  open_placed zero h = absurd (omega arith)
+  open_placed (suc i) h =
+      finish_at (form_at p i) (left p i) (mid p i) (placed_of (p.entry i) (cur p i) (open_placed i))
 
   -- an item's cell comes before the index of its EP value
   pub at_before : (i : ℕ) → (mid p i).at < (mid p i).next
-  at_before i = placed_of (p.entry i) (cur p i) (open-placed i)
+  at_before i = placed_of (p.entry i) (cur p i) (open_placed i)
 
   pub ordered : (i j : ℕ) → i < j → opens p j ≡ true → (mid p i).at < (mid p j).at
-  ordered i j h q = omega (arith, at_before i, reach i j h, begin-at (opens p j) (cur p j) q)
+  ordered i j h q = omega (arith, at_before i, reach i j h, begin_at (opens p j) (cur p j) q)
 
   -- no two cells are opened at one index
   pub one_entry : (i j : ℕ) → opens p i ≡ true → opens p j ≡ true → (mid p i).at ≡ (mid p j).at → i ≡ j

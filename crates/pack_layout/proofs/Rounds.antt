@@ -14,14 +14,14 @@ unfoldable pub count : (ℕ → Bool) → ℕ → ℕ
 count p zero = 0
 count p (suc i) = bit (p i) + count p i
 
-pub bit-most : (b : Bool) → bit b ≤ 1
-bit-most true = omega arith
-bit-most false = omega arith
+pub bit_most : (b : Bool) → bit b ≤ 1
+bit_most true = omega arith
+bit_most false = omega arith
 
 pub count_most : (p : ℕ → Bool) (n : ℕ) → count p n ≤ n
 unfolding count
 count_most p zero = omega arith
-count_most p (suc n) = omega (arith, bit-most (p n), count_most p n)
+count_most p (suc n) = omega (arith, bit_most (p n), count_most p n)
 
 -- all of the counting: marks that are new add to the count
 more_of : (a b c : Bool) (x y : ℕ) → (b ≡ true → a ≡ false) → x + bit c ≤ y → bit a + x + bit (b || c) ≤ bit (a || b) + y
@@ -51,14 +51,14 @@ module _ (n : ℕ) (new : (ℕ → Bool) → ℕ → Bool) (only : (m : ℕ → 
   unfolding rounds
   grows r e = rw e at (more (rounds n new r) (new (rounds n new r)) (only (rounds n new r)) n)
 
-  quiet-from : (k r : ℕ) → r + k ≡ n → r ≤ count (rounds n new r) n → adds n new (settle n new k r) ≡ false
+  quiet_from : (k r : ℕ) → r + k ≡ n → r ≤ count (rounds n new r) n → adds n new (settle n new k r) ≡ false
   unfolding settle
-  quiet-from zero r e h = go (adds n new r) refl
+  quiet_from zero r e h = go (adds n new r) refl
     where
       go : (b : Bool) → adds n new r ≡ b → b ≡ false
       go true q = absurd (omega (arith, grows r q, count_most (rounds n new (suc r)) n))
       go false q = refl
-  quiet-from (suc k) r e h = go (adds n new r) refl (λ q. quiet-from k (suc r) (omega arith) (omega (arith, grows r q)))
+  quiet_from (suc k) r e h = go (adds n new r) refl (λ q. quiet_from k (suc r) (omega arith) (omega (arith, grows r q)))
     where
       go : (b : Bool) → adds n new r ≡ b → (adds n new r ≡ true → adds n new (settle n new k (suc r)) ≡ false)
           → adds n new (if b (settle n new k (suc r)) r) ≡ false
@@ -67,23 +67,23 @@ module _ (n : ℕ) (new : (ℕ → Bool) → ℕ → Bool) (only : (m : ℕ → 
 
   -- the round taken adds no mark
   pub quiet : adds n new (settle n new n 0) ≡ false
-  quiet = quiet-from n 0 (omega arith) (omega arith)
+  quiet = quiet_from n 0 (omega arith) (omega arith)
 
-  pub settled-adds-none : (i : ℕ) → i < n → new (rounds n new (settle n new n 0)) i ≡ false
-  settled-adds-none = any_none (new (rounds n new (settle n new n 0))) n quiet
+  pub settled_adds_none : (i : ℕ) → i < n → new (rounds n new (settle n new n 0)) i ≡ false
+  settled_adds_none = any_none (new (rounds n new (settle n new n 0))) n quiet
 
 -- n rounds are enough
-settle-at-most : (n : ℕ) (new : (ℕ → Bool) → ℕ → Bool) (k r : ℕ) → settle n new k r ≤ r + k
+settle_at_most : (n : ℕ) (new : (ℕ → Bool) → ℕ → Bool) (k r : ℕ) → settle n new k r ≤ r + k
 unfolding settle
-settle-at-most n new zero r = omega arith
-settle-at-most n new (suc k) r = go (adds n new r) (settle-at-most n new k (suc r))
+settle_at_most n new zero r = omega arith
+settle_at_most n new (suc k) r = go (adds n new r) (settle_at_most n new k (suc r))
   where
     go : (b : Bool) → settle n new k (suc r) ≤ suc r + k → if b (settle n new k (suc r)) r ≤ r + suc k
     go true h = omega arith
     go false h = omega arith
 
-pub settle-most : (n : ℕ) (new : (ℕ → Bool) → ℕ → Bool) → settle n new n 0 ≤ n
-settle-most n new = omega (arith, settle-at-most n new n 0)
+pub settle_most : (n : ℕ) (new : (ℕ → Bool) → ℕ → Bool) → settle n new n 0 ≤ n
+settle_most n new = omega (arith, settle_at_most n new n 0)
 
 -- what a loop over rounds keeps: r rounds were run, each added a mark, and the round taken is still ahead
 pub record AtRound (n : ℕ) (new : (ℕ → Bool) → ℕ → Bool) (r : ℕ) : Type 0 where
@@ -97,24 +97,24 @@ module _ (n : ℕ) (new : (ℕ → Bool) → ℕ → Bool) (only : (m : ℕ → 
   pub room : (r : ℕ) → AtRound n new r → adds n new r ≡ true → suc r ≤ n
   room r a q = omega (arith, a.marked, grows n new only r q, count_most (rounds n new (suc r)) n)
 
-  settle-more : (k r : ℕ) → adds n new r ≡ true → settle n new (suc k) r ≡ settle n new k (suc r)
+  settle_more : (k r : ℕ) → adds n new r ≡ true → settle n new (suc k) r ≡ settle n new k (suc r)
   unfolding settle
-  settle-more k r q = rw q
+  settle_more k r q = rw q
 
-  settle-stop : (k r : ℕ) → adds n new r ≡ false → settle n new k r ≡ r
+  settle_stop : (k r : ℕ) → adds n new r ≡ false → settle n new k r ≡ r
   unfolding settle
-  settle-stop zero r q = refl
-  settle-stop (suc k) r q = rw q
+  settle_stop zero r q = refl
+  settle_stop (suc k) r q = rw q
 
-  pub next-round : (r : ℕ) → AtRound n new r → adds n new r ≡ true → AtRound n new (suc r)
-  next-round r a q =
+  pub next_round : (r : ℕ) → AtRound n new r → adds n new r ≡ true → AtRound n new (suc r)
+  next_round r a q =
       record {
         marked = omega (arith, a.marked, grows n new only r q);
         ahead =
-            sym (settle-more (n - suc r) r q)
+            sym (settle_more (n - suc r) r q)
             ∙ ap (λ (k : ℕ). settle n new k r) (let e : suc (n - suc r) ≡ n - r = omega (arith, room r a q) in e)
             ∙ a.ahead;
       }
 
-  pub last-round : (r : ℕ) → AtRound n new r → adds n new r ≡ false → settle n new n 0 ≡ r
-  last-round r a q = sym a.ahead ∙ settle-stop (n - r) r q
+  pub last_round : (r : ℕ) → AtRound n new r → adds n new r ≡ false → settle n new n 0 ≡ r
+  last_round r a q = sym a.ahead ∙ settle_stop (n - r) r q

@@ -4,35 +4,35 @@ use Rattle.std.specs.Prelude.{List, [], ◌∷◌, ℕ, zero, suc, ◌+◌, leng
 use Rattle.cell.specs.Memory.{cell_at}
 use Rattle.cell.specs.Refusals.{judge, after}
 use Rattle.cell.specs.declared.Judged.{Judged}
-use Rattle.pack_layout.specs.Grounds.{listingLength}
-use Rattle.pack_layout.specs.Listing.{Listing, listed, judgedArrays}
+use Rattle.pack_layout.specs.Grounds.{listing_length}
+use Rattle.pack_layout.specs.Listing.{Listing, listed, judged_arrays}
 
-abbrev pub leastFirst : List ℕ → ℕ → ℕ
-leastFirst s a = cell_at 0 s a
+abbrev pub least_first : List ℕ → ℕ → ℕ
+least_first s a = cell_at 0 s a
 
 -- k cells from the byte a on
-unfoldable pub cellsFrom : List ℕ → ℕ → ℕ → List ℕ
-cellsFrom s a zero = []
-cellsFrom s a (suc k) = leastFirst s a ∷ cellsFrom s (a + 4) k
+unfoldable pub cells_from : List ℕ → ℕ → ℕ → List ℕ
+cells_from s a zero = []
+cells_from s a (suc k) = least_first s a ∷ cells_from s (a + 4) k
 
-abbrev pub fileCount : List ℕ → ℕ
-fileCount s = leastFirst s 0
+abbrev pub file_count : List ℕ → ℕ
+file_count s = least_first s 0
 
-abbrev pub fileBase : List ℕ → ℕ
-fileBase s = leastFirst s 4
+abbrev pub file_base : List ℕ → ℕ
+file_base s = least_first s 4
 
-abbrev pub fileKinds : List ℕ → List ℕ
-fileKinds s = take (fileCount s) (drop 8 s)
+abbrev pub file_kinds : List ℕ → List ℕ
+file_kinds s = take (file_count s) (drop 8 s)
 
-abbrev pub fileOperands : List ℕ → List ℕ
-fileOperands s = cellsFrom s (8 + fileCount s) (fileCount s)
+abbrev pub file_operands : List ℕ → List ℕ
+file_operands s = cells_from s (8 + file_count s) (file_count s)
 
 abbrev pub filed : List ℕ → Listing
-filed s = listed (fileKinds s) (fileOperands s)
+filed s = listed (file_kinds s) (file_operands s)
 
 -- document 01, Turned back for the input: a file's length is that of its header and its items
-abbrev pub judgedLength : List ℕ → Judged
-judgedLength s = judge (listingLength (length s) (fileCount s) ∷ [])
+abbrev pub judged_length : List ℕ → Judged
+judged_length s = judge (listing_length (length s) (file_count s) ∷ [])
 
-unfoldable pub judgedFile : List ℕ → Judged
-judgedFile s = after (judgedLength s) (judgedArrays (fileKinds s) (fileOperands s))
+unfoldable pub judged_file : List ℕ → Judged
+judged_file s = after (judged_length s) (judged_arrays (file_kinds s) (file_operands s))

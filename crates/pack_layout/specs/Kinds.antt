@@ -3,7 +3,7 @@
 use Rattle.std.specs.Prelude.{Bool, true, false, ◌||◌, List, [], ◌∷◌, ℕ, leb, eqb}
 use Rattle.cell.specs.Choice.{if}
 use Rattle.pack_layout.specs.declared.Class.{Class}
-pub use Rattle.pack_layout.specs.declared.Class.TheVariants.{Plain as plain, Literal as literal, Branch as branch, NoKind as noKind}
+pub use Rattle.pack_layout.specs.declared.Class.TheVariants.{Plain as plain, Literal as literal, Branch as branch, NoKind as no_kind}
 
 abbrev pub among : ℕ → List ℕ → Bool
 among k [] = false
@@ -24,13 +24,13 @@ raising = 0x56 ∷ 0x58 ∷ 0x59 ∷ 0x5A ∷ 0x5B ∷ []
 abbrev pub outside : ℕ → Bool
 outside k = eqb k 0 || leb 0x5C k
 
-unfoldable pub classOf : ℕ → Class
-classOf k =
+unfoldable pub class_of : ℕ → Class
+class_of k =
     if (eqb k 0x52) literal
-    (if (among k branches) branch (if (outside k || among k immediates || among k raising) noKind plain))
+    (if (among k branches) branch (if (outside k || among k immediates || among k raising) no_kind plain))
 
 abbrev pub is_branch : Class → Bool
 is_branch plain = false
 is_branch literal = false
 is_branch branch = true
-is_branch noKind = false
+is_branch no_kind = false

@@ -3,7 +3,7 @@
 use Rattle.std.specs.Prelude.{◌≡◌, Bool, true, false, List, ℕ, zero, suc, ◌+◌, ◌-◌, ◌<◌, get_or}
 use Rattle.pack_layout.specs.declared.Cursor.{Cursor}
 use Rattle.pack_layout.specs.declared.ItemForm.{ItemForm}
-pub use Rattle.pack_layout.specs.declared.ItemForm.TheVariants.{Alone as alone, Immediate as immediate, InCell as inCell}
+pub use Rattle.pack_layout.specs.declared.ItemForm.TheVariants.{Alone as alone, Immediate as immediate, InCell as in_cell}
 
 -- where the layout stands: at, the index of the open cell; free, the bytes left in it, 0 if none is open or it is full; next, the index
 -- of the next cell
@@ -34,7 +34,7 @@ begin false c = c
 abbrev pub finish : ItemForm → ℕ → Spot → Spot
 finish alone f d = record { at = d.at; free = f; next = d.next }
 finish immediate f d = record { at = d.at; free = 0; next = d.next }
-finish inCell f d = record { at = d.at; free = f; next = d.next + 1 }
+finish in_cell f d = record { at = d.at; free = f; next = d.next + 1 }
 
 abbrev pub step : Bool → (ℕ → ItemForm) → Spot → Spot
 step o g c = finish (g ((begin o c).free - 1)) ((begin o c).free - 1) (begin o c)
@@ -43,7 +43,7 @@ step o g c = finish (g ((begin o c).free - 1)) ((begin o c).free - 1) (begin o c
 abbrev pub extra : ItemForm → ℕ
 extra alone = 0
 extra immediate = 0
-extra inCell = 1
+extra in_cell = 1
 
 -- what a layout goes by: the entries, and the form that item i takes where its opcode leaves f bytes
 pub record Plan : Type 0 where
@@ -68,8 +68,8 @@ module _ (p : Plan) where
   abbrev pub left : ℕ → ℕ
   left i = (mid i).free - 1
 
-  abbrev pub formAt : ℕ → ItemForm
-  formAt i = p.form i (left i)
+  abbrev pub form_at : ℕ → ItemForm
+  form_at i = p.form i (left i)
 
 -- arrays hold, for each of the first n items, the indexes of its cell and of its EP value, and the bytes left behind its opcode
 pub record Laid (p : Plan) (ats nexts lefts : List ℕ) (n : ℕ) : Type 0 where

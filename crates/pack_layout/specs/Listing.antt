@@ -5,8 +5,8 @@ use Rattle.cell.specs.declared.Refusal.TheVariants as refusal
 use Rattle.cell.specs.declared.Judged.{Judged}
 use Rattle.cell.specs.declared.Judged.TheVariants.{Passed, Refused}
 use Rattle.pack_layout.specs.declared.Class.{Class}
-use Rattle.pack_layout.specs.Grounds.{itemCount, unequal, plainOperand, noTarget}
-use Rattle.pack_layout.specs.Kinds.{classOf, among, is_branch, plain, literal, branch, noKind}
+use Rattle.pack_layout.specs.Grounds.{item_count, unequal, plain_operand, no_target}
+use Rattle.pack_layout.specs.Kinds.{class_of, among, is_branch, plain, literal, branch, no_kind}
 
 -- kind and operand are functions of the item's number; what they give from count on plays no part
 pub record Listing : Type 0 where
@@ -38,29 +38,29 @@ after_call kind (suc i) = calls (kind i)
 
 -- document 01, Listings: the entries are the first item, the targets of branches, and what follows a call
 unfoldable pub entry : Listing → ℕ → Bool
-entry l i = after_call l.kind i || any (λ j. targets (classOf (l.kind j)) (l.operand j) i) l.count
+entry l i = after_call l.kind i || any (λ j. targets (class_of (l.kind j)) (l.operand j) i) l.count
 
 -- document 01, Turned back for the input: one item of n, by its class; a byte that is no kind is -4107
 abbrev pub judged : Class → ℕ → ℕ → Judged
-judged plain n x = judge (plainOperand x ∷ [])
+judged plain n x = judge (plain_operand x ∷ [])
 judged literal n x = Passed
-judged branch n x = judge (noTarget n x ∷ [])
-judged noKind n x = Refused refusal.Kind
+judged branch n x = judge (no_target n x ∷ [])
+judged no_kind n x = Refused refusal.Kind
 
 -- k items from item i on, lowest first
-unfoldable pub judgedFrom : Listing → ℕ → ℕ → Judged
-judgedFrom l zero i = Passed
-judgedFrom l (suc k) i = after (judged (classOf (l.kind i)) l.count (l.operand i)) (judgedFrom l k (suc i))
+unfoldable pub judged_from : Listing → ℕ → ℕ → Judged
+judged_from l zero i = Passed
+judged_from l (suc k) i = after (judged (class_of (l.kind i)) l.count (l.operand i)) (judged_from l k (suc i))
 
-unfoldable pub judgedListing : Listing → Judged
-judgedListing l = after (judge (itemCount l.count ∷ [])) (judgedFrom l l.count 0)
+unfoldable pub judged_listing : Listing → Judged
+judged_listing l = after (judge (item_count l.count ∷ [])) (judged_from l l.count 0)
 
 -- a listing in two arrays: unequal arrays are refused with the count
-unfoldable pub judgedArrays : List ℕ → List ℕ → Judged
-judgedArrays kinds operands =
-    after (judge (unequal (length kinds) (length operands) ∷ [])) (judgedListing (listed kinds operands))
+unfoldable pub judged_arrays : List ℕ → List ℕ → Judged
+judged_arrays kinds operands =
+    after (judge (unequal (length kinds) (length operands) ∷ [])) (judged_listing (listed kinds operands))
 
 -- arrays of one length that are not refused
 pub record Checked (kinds operands : List ℕ) : Type 0 where
   pub equal : length operands ≡ length kinds
-  pub input : judgedListing (listed kinds operands) ≡ Passed
+  pub input : judged_listing (listed kinds operands) ≡ Passed

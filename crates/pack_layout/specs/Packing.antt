@@ -10,66 +10,66 @@ use Rattle.pack_layout.specs.declared.Entry.TheVariants.{Item, Nothing}
 use Rattle.pack_layout.specs.declared.ItemForm.{ItemForm}
 use Rattle.pack_layout.specs.Bytes.{fits}
 use Rattle.pack_layout.specs.Flags.{flagged}
-use Rattle.pack_layout.specs.Kinds.{classOf, plain, literal, branch, noKind}
-use Rattle.pack_layout.specs.Grounds.{outOfPlace}
-use Rattle.pack_layout.specs.Listing.{Listing, entry, judgedListing}
-use Rattle.pack_layout.specs.Layout.{Plan, extra, cur, mid, left, formAt, alone, immediate, inCell}
+use Rattle.pack_layout.specs.Kinds.{class_of, plain, literal, branch, no_kind}
+use Rattle.pack_layout.specs.Grounds.{out_of_place}
+use Rattle.pack_layout.specs.Listing.{Listing, entry, judged_listing}
+use Rattle.pack_layout.specs.Layout.{Plan, extra, cur, mid, left, form_at, alone, immediate, in_cell}
 use Rattle.pack_layout.specs.Image.{cells, reg}
 use Rattle.pack_layout.specs.Rounds.{settled}
 
 -- document 01, Listings: without a mark and with a byte or more left, the immediate form; else an operand cell
 abbrev pub taking : Bool → ℕ → ItemForm
-taking marked zero = inCell
-taking true (suc f) = inCell
+taking marked zero = in_cell
+taking true (suc f) = in_cell
 taking false (suc f) = immediate
 
 -- the form of an item with operand x where its opcode leaves f bytes; m is its mark if it is a branch. Document 01, Listings: a
 -- literal counts as marked where, and only where, its value does not fit f signed bytes
-abbrev pub formOf : Class → Bool → ℕ → ℕ → ItemForm
-formOf plain m x f = alone
-formOf literal m x f = taking (not (fits f x)) f
-formOf branch m x f = taking m f
-formOf noKind m x f = alone
+abbrev pub form_of : Class → Bool → ℕ → ℕ → ItemForm
+form_of plain m x f = alone
+form_of literal m x f = taking (not (fits f x)) f
+form_of branch m x f = taking m f
+form_of no_kind m x f = alone
 
 -- document 01, Listings: a branch holds the cells from its EP value to its target, or in an operand cell the target's address. next and
 -- to are the indexes of the EP value and of the target's cell; a way back is a cell's negative number
 abbrev pub distance : ℕ → ℕ → ℕ
 distance next to = (to + 2 ^ 32 - next) % 2 ^ 32
 
-abbrev pub branchValue : ItemForm → ℕ → ℕ → ℕ → ℕ
-branchValue alone next to base = 0
-branchValue immediate next to base = distance next to
-branchValue inCell next to base = base + 4 * to
+abbrev pub branch_value : ItemForm → ℕ → ℕ → ℕ → ℕ
+branch_value alone next to base = 0
+branch_value immediate next to base = distance next to
+branch_value in_cell next to base = base + 4 * to
 
 -- the value of an item with operand x
 abbrev pub value_of : Class → ItemForm → ℕ → ℕ → ℕ → ℕ → ℕ
 value_of plain g x next to base = 0
 value_of literal g x next to base = x
-value_of branch g x next to base = branchValue g next to base
-value_of noKind g x next to base = 0
+value_of branch g x next to base = branch_value g next to base
+value_of no_kind g x next to base = 0
 
 -- document 01, Listings: a round marks each immediate branch whose value does not fit
-abbrev pub newIn : ItemForm → Bool → Bool
-newIn alone fit = false
-newIn immediate fit = not fit
-newIn inCell fit = false
+abbrev pub new_in : ItemForm → Bool → Bool
+new_in alone fit = false
+new_in immediate fit = not fit
+new_in in_cell fit = false
 
-abbrev pub newOf : Class → ItemForm → Bool → Bool
-newOf plain g fit = false
-newOf literal g fit = false
-newOf branch g fit = newIn g fit
-newOf noKind g fit = false
+abbrev pub new_of : Class → ItemForm → Bool → Bool
+new_of plain g fit = false
+new_of literal g fit = false
+new_of branch g fit = new_in g fit
+new_of no_kind g fit = false
 
 module _ (l : Listing) where
   -- the layout under the branch marks m
   abbrev pub plan : (ℕ → Bool) → Plan
-  plan m = record { entry = entry l; form = λ i f. formOf (classOf (l.kind i)) (m i) (l.operand i) f }
+  plan m = record { entry = entry l; form = λ i f. form_of (class_of (l.kind i)) (m i) (l.operand i) f }
 
   abbrev pub distance_at : (ℕ → Bool) → ℕ → ℕ
   distance_at m i = distance (mid (plan m) i).next (mid (plan m) (l.operand i)).at
 
   abbrev pub new : (ℕ → Bool) → ℕ → Bool
-  new m i = newOf (classOf (l.kind i)) (formAt (plan m) i) (fits (left (plan m) i) (distance_at m i))
+  new m i = new_of (class_of (l.kind i)) (form_at (plan m) i) (fits (left (plan m) i) (distance_at m i))
 
   -- document 01, Listings: the marks when the rounds end, from none
   unfoldable pub marks : ℕ → Bool
@@ -78,12 +78,12 @@ module _ (l : Listing) where
   abbrev pub layout : Plan
   layout = plan marks
 
-  abbrev pub imageCells : ℕ
-  imageCells = (cur layout l.count).next
+  abbrev pub image_cells : ℕ
+  image_cells = (cur layout l.count).next
 
 -- document 01, Turned back for the state: -4104, then -4110, of the base of an image of size cells
-abbrev pub judgedPlace : ℕ → ℕ → Judged
-judgedPlace base size = judge (unaligned base ∷ outOfPlace base size ∷ [])
+abbrev pub judged_place : ℕ → ℕ → Judged
+judged_place base size = judge (unaligned base ∷ out_of_place base size ∷ [])
 
 -- arrays of marks before and after a round, for the first n items
 abbrev pub Marked : Listing → List ℕ → List ℕ → ℕ → Type 0
@@ -92,7 +92,7 @@ Marked l before after n = (j : ℕ) → j < n → flagged after j ≡ (flagged b
 module _ (base : ℕ) (l : Listing) where
   abbrev pub value : ℕ → ℕ
   value i =
-      value_of (classOf (l.kind i)) (formAt (layout l) i) (l.operand i)
+      value_of (class_of (l.kind i)) (form_at (layout l) i) (l.operand i)
       (mid (layout l) i).next (mid (layout l) (l.operand i)).at base
 
   unfoldable pub image : List ℕ
@@ -102,17 +102,17 @@ module _ (base : ℕ) (l : Listing) where
   abbrev pub address_of : ℕ → ℕ
   address_of i = base + 4 * (mid (layout l) i).at
 
-  abbrev pub epValue : ℕ → ℕ
-  epValue i = base + 4 * (mid (layout l) i).next
+  abbrev pub ep_value : ℕ → ℕ
+  ep_value i = base + 4 * (mid (layout l) i).next
 
   -- document 01, Listings, the list machine: the entry whose cell is at an address; here among the first items, as many as the first
   -- argument says
-  unfoldable pub entryBelow : ℕ → ℕ → Entry
-  entryBelow zero a = Nothing
-  entryBelow (suc i) a = if (entry l i && eqb (address_of i) a) (Item (record { 0 = i })) (entryBelow i a)
+  unfoldable pub entry_below : ℕ → ℕ → Entry
+  entry_below zero a = Nothing
+  entry_below (suc i) a = if (entry l i && eqb (address_of i) a) (Item (record { 0 = i })) (entry_below i a)
 
   unfoldable pub entry_at : ℕ → Entry
-  entry_at = entryBelow l.count
+  entry_at = entry_below l.count
 
   -- A when item i's opcode is its low byte
   abbrev pub register : ℕ → ℕ
@@ -120,13 +120,13 @@ module _ (base : ℕ) (l : Listing) where
 
   -- EP behind item i, once its operand cell, if it has one, is passed
   abbrev pub behind : ℕ → ℕ
-  behind i = epValue i + 4 * extra (formAt (layout l) i)
+  behind i = ep_value i + 4 * extra (form_at (layout l) i)
 
-  abbrev pub judgedBase : Judged
-  judgedBase = judgedPlace base (imageCells l)
+  abbrev pub judged_base : Judged
+  judged_base = judged_place base (image_cells l)
 
 -- document 01, Listings, on demand 3: what an accepted listing and a legal base are; operands are cells
 pub record Legal (base : ℕ) (l : Listing) : Type 0 where
-  pub input : judgedListing l ≡ Passed
-  pub state : judgedBase base l ≡ Passed
+  pub input : judged_listing l ≡ Passed
+  pub state : judged_base base l ≡ Passed
   pub cell : (i : ℕ) → i < l.count → l.operand i < 2 ^ 32

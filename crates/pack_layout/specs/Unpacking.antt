@@ -2,10 +2,10 @@
 use Rattle.std.specs.Prelude.{Bool, true, false, ◌&&◌, List, [], ◌∷◌, ℕ, eqb}
 use Rattle.cell.specs.declared.Judged.{Judged}
 use Rattle.cell.specs.declared.Judged.TheVariants.{Passed, Refused}
-use Rattle.pack_layout.specs.Listing.{Listing, judgedListing}
+use Rattle.pack_layout.specs.Listing.{Listing, judged_listing}
 use Rattle.pack_layout.specs.Packing.{image}
 use Rattle.pack_layout.specs.Output.{bytes_of}
-use Rattle.pack_layout.specs.Reading.{cells_of, listingRead}
+use Rattle.pack_layout.specs.Reading.{cells_of, listing_read}
 
 -- two lists have the same numbers
 unfoldable pub same : List ℕ → List ℕ → Bool
@@ -19,9 +19,9 @@ passes Passed = true
 passes (Refused r) = false
 
 -- a listing that the input list takes, and whose image these bytes are
-unfoldable pub packsTo : ℕ → ℕ → Listing → List ℕ → Bool
-packsTo order base l s = passes (judgedListing l) && same (bytes_of order (image base l)) s
+unfoldable pub packs_to : ℕ → ℕ → Listing → List ℕ → Bool
+packs_to order base l s = passes (judged_listing l) && same (bytes_of order (image base l)) s
 
 -- the bytes of an image are taken if the listing read from them packs to them
 abbrev pub taken : ℕ → ℕ → List ℕ → Bool
-taken order base s = packsTo order base (listingRead (cells_of order s) base) s
+taken order base s = packs_to order base (listing_read (cells_of order s) base) s

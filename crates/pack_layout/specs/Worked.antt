@@ -1,12 +1,12 @@
 -- The rows of document 01, Worked on paper, that speak of packing: a listing in two arrays, and the cells of its image.
 use Rattle.std.specs.Prelude.{◌≡◌, Bool, true, false, List, [], ◌∷◌, ◌++◌, map, ℕ, zero, suc, ◌+◌, ◌-◌, ◌^◌, replicate}
 use Rattle.cell.specs.Choice.{if}
-use Rattle.cell.specs.Refusals.{refusalNumber}
+use Rattle.cell.specs.Refusals.{refusal_number}
 use Rattle.cell.specs.declared.Judged.{Judged}
 use Rattle.cell.specs.declared.Judged.TheVariants.{Passed, Refused}
 use Rattle.pack_layout.specs.declared.Class.{Class}
-use Rattle.pack_layout.specs.Kinds.{classOf, plain, literal, branch, noKind}
-use Rattle.pack_layout.specs.Listing.{listed, judgedArrays}
+use Rattle.pack_layout.specs.Kinds.{class_of, plain, literal, branch, no_kind}
+use Rattle.pack_layout.specs.Listing.{listed, judged_arrays}
 use Rattle.pack_layout.specs.Packing.{image}
 
 pub record Row : Type 0 where
@@ -18,15 +18,15 @@ pub record Row : Type 0 where
 abbrev pub row : ℕ → List ℕ → List ℕ → List ℕ → Row
 row base kinds operands cells = record { base = base; kinds = kinds; operands = operands; cells = cells }
 
-abbrev pub rowJudged : Row → Judged
-rowJudged r = judgedArrays r.kinds r.operands
+abbrev pub row_judged : Row → Judged
+row_judged r = judged_arrays r.kinds r.operands
 
-abbrev pub rowImage : Row → List ℕ
-rowImage r = image r.base (listed r.kinds r.operands)
+abbrev pub row_image : Row → List ℕ
+row_image r = image r.base (listed r.kinds r.operands)
 
 -- every row of a table is accepted and packs to its cells
 abbrev pub RowsHold : List Row → Type 0
-RowsHold rows = (map rowJudged rows ≡ map (λ r. Passed) rows) × (map rowImage rows ≡ map (λ r. r.cells) rows)
+RowsHold rows = (map row_judged rows ≡ map (λ r. Passed) rows) × (map row_image rows ≡ map (λ r. r.cells) rows)
 
 -- the kinds here: 01h DUP, 1Eh, 42h BRANCH, 52h literal, 55h HALT
 abbrev pub worked : List Row
@@ -82,9 +82,9 @@ further =
     ∷ []
 
 -- the number of a judgement: 0, or the refusal's
-abbrev pub judgedNumber : Judged → ℕ
-judgedNumber Passed = 0
-judgedNumber (Refused r) = refusalNumber r
+abbrev pub judged_number : Judged → ℕ
+judged_number Passed = 0
+judged_number (Refused r) = refusal_number r
 
 -- Listings that are refused: arrays, and k where document 01 gives the refusal -k
 pub record RefusedRow : Type 0 where
@@ -97,10 +97,10 @@ refused kinds operands number = record { kinds = kinds; operands = operands; num
 
 abbrev pub RefusedRows : List RefusedRow → Type 0
 RefusedRows rows =
-    map (λ r. judgedNumber (judgedArrays r.kinds r.operands)) rows ≡ map (λ r. 2 ^ 32 - r.number) rows
+    map (λ r. judged_number (judged_arrays r.kinds r.operands)) rows ≡ map (λ r. 2 ^ 32 - r.number) rows
 
-abbrev pub refusedListings : List RefusedRow
-refusedListings =
+abbrev pub refused_listings : List RefusedRow
+refused_listings =
     -- no item; arrays unequal
     refused [] [] 4106
     ∷ refused (0x01 ∷ []) [] 4106
@@ -124,14 +124,14 @@ abbrev pub is_plain : Class → Bool
 is_plain plain = true
 is_plain literal = false
 is_plain branch = false
-is_plain noKind = false
+is_plain no_kind = false
 
-abbrev pub isKind : Class → Bool
-isKind plain = true
-isKind literal = true
-isKind branch = true
-isKind noKind = false
+abbrev pub is_kind : Class → Bool
+is_kind plain = true
+is_kind literal = true
+is_kind branch = true
+is_kind no_kind = false
 
 unfoldable pub bytes_of : (Class → Bool) → ℕ → ℕ
 bytes_of test zero = 0
-bytes_of test (suc k) = if (test (classOf k)) 1 0 + bytes_of test k
+bytes_of test (suc k) = if (test (class_of k)) 1 0 + bytes_of test k

@@ -11,25 +11,25 @@ use lib.ListN.{length}
 use Rattle.cell.specs.Refusals.{judge}
 use Rattle.cell.specs.declared.Refusal.TheVariants.{ItemCount}
 use Rattle.cell.specs.declared.Judged.TheVariants.{Passed}
-use Rattle.cell.proofs.JudgementLaws.{both-pass, one-clear}
+use Rattle.cell.proofs.JudgementLaws.{both_pass, one_clear}
 use Rattle.pack_layout.specs.Grounds.{unequal}
-use Rattle.pack_layout.specs.Listing.{listed, judgedArrays, judgedListing, Checked}
-use Rattle.pack_layout.specs.Packing.{layout, imageCells}
+use Rattle.pack_layout.specs.Listing.{listed, judged_arrays, judged_listing, Checked}
+use Rattle.pack_layout.specs.Packing.{layout, image_cells}
 use Rattle.pack_layout.proofs.Listing.{some_item}
 use Rattle.pack_layout.proofs.Placing.{at_most}
 
 -- arrays that the input list passes
-pub arrays-checked : (kinds operands : List ℕ) → judgedArrays kinds operands ≡ Passed → Checked kinds operands
-unfolding judgedArrays
-arrays-checked kinds operands e =
-    let s = both-pass (judge (unequal (length kinds) (length operands) ∷ [])) (judgedListing (listed kinds operands)) e in
-    let t = one-clear (not (eqb (length kinds) (length operands))) ItemCount Passed s.0 in
+pub arrays_checked : (kinds operands : List ℕ) → judged_arrays kinds operands ≡ Passed → Checked kinds operands
+unfolding judged_arrays
+arrays_checked kinds operands e =
+    let s = both_pass (judge (unequal (length kinds) (length operands) ∷ [])) (judged_listing (listed kinds operands)) e in
+    let t = one_clear (not (eqb (length kinds) (length operands))) ItemCount Passed s.0 in
     record { equal = sym (eqb-true (length kinds) (length operands) (not-false (eqb (length kinds) (length operands)) t.0)); input = s.1 }
 
 module _ (kinds operands : List ℕ) (ok : Checked kinds operands) where
-  pub items-most : length kinds ≤ 4096
-  items-most = (some_item (listed kinds operands) ok.input).1
+  pub items_most : length kinds ≤ 4096
+  items_most = (some_item (listed kinds operands) ok.input).1
 
   -- an image has at most 8,192 cells
-  pub cells-most : imageCells (listed kinds operands) ≤ 8192
-  cells-most = omega (arith, items-most, at_most (layout (listed kinds operands)) (length kinds))
+  pub cells_most : image_cells (listed kinds operands) ≤ 8192
+  cells_most = omega (arith, items_most, at_most (layout (listed kinds operands)) (length kinds))

@@ -1,8 +1,8 @@
 // The entries and the settled layout of a listing that the input list passed.
 ghost use Rattle.std.specs.Prelude.{◌≡◌, length};
-ghost use Rattle.cell.specs.Memory.{cellCount};
+ghost use Rattle.cell.specs.Memory.{cell_count};
 ghost use Rattle.pack_layout.specs.Listing.{listed, Checked};
-ghost use Rattle.pack_layout.specs.Packing.{imageCells};
+ghost use Rattle.pack_layout.specs.Packing.{image_cells};
 ghost use Rattle.pack_prepare.specs.Prepared.{Places, Prepared};
 
 use cell::CellCount;
@@ -22,7 +22,7 @@ pub fn prepare(
 ) -> CellCount
     requires checked { Checked kinds.now operands.now }
     requires places { Places (length kinds.now) entries.old marks.old ats.old nexts.old lefts.old }
-    ensures value { result ≡ cellCount (imageCells (listed kinds.now operands.now)) }
+    ensures value { result ≡ cell_count (image_cells (listed kinds.now operands.now)) }
     ensures prepared { Prepared kinds.now operands.now entries.new marks.new ats.new nexts.new lefts.new }
 {
     find_entries(kinds, operands, entries);
@@ -32,7 +32,7 @@ pub fn prepare(
 // The number of cells of the image.
 pub fn count_cells(kinds: &[u8], operands: &[u32]) -> CellCount
     requires { Checked kinds.now operands.now }
-    ensures { result ≡ cellCount (imageCells (listed kinds.now operands.now)) }
+    ensures { result ≡ cell_count (image_cells (listed kinds.now operands.now)) }
 {
     let n = kinds.len();
     let mut entries = [0u8; MOST_ITEMS];

@@ -3,7 +3,7 @@
 use Rattle.std.proofs.Common.{◌≡◌, ℕ, zero, suc, ◌+◌, ◌-◌, ◌*◌, ◌<◌, ◌≤◌, Bool, true, false, List, length, set, refl, ap, ◌∙◌, add-one, arith, length-set}
 use Rattle.pack_layout.specs.declared.ItemForm.{ItemForm}
 use Rattle.pack_layout.specs.Layout.{Spot, fresh, begin, finish, Plan, cur, opens, mid, left, Laid}
-use Rattle.pack_layout.proofs.Placing.{left_le, at_most, begin-most}
+use Rattle.pack_layout.proofs.Placing.{left_le, at_most, begin_most}
 use Rattle.pack_judging.proofs.Flags.{stored_more}
 
 free_of : (f : ℕ) (e : Bool) (c : Spot) → c.free ≡ f → 0 < (begin (fresh f e) c).free
@@ -12,21 +12,21 @@ free_of (suc f) true c q = omega arith
 free_of (suc f) false c q = omega arith
 
 -- an open cell has a byte for its item
-pub mid-free : (p : Plan) (i : ℕ) → 0 < (mid p i).free
-mid-free p i = free_of (cur p i).free (p.entry i) (cur p i) refl
+pub mid_free : (p : Plan) (i : ℕ) → 0 < (mid p i).free
+mid_free p i = free_of (cur p i).free (p.entry i) (cur p i) refl
 
-pub mid-most : (p : Plan) (i : ℕ) → (mid p i).next ≤ 2 * i + 1
-mid-most p i = omega (arith, at_most p i, begin-most (opens p i) (cur p i))
+pub mid_most : (p : Plan) (i : ℕ) → (mid p i).next ≤ 2 * i + 1
+mid_most p i = omega (arith, at_most p i, begin_most (opens p i) (cur p i))
 
 -- what the code's values are at item i
 module _ (p : Plan) (i : ℕ) (c d : Spot) (e : Bool) (at_item : c ≡ cur p i) (is-entry : e ≡ p.entry i)
     (begun : d ≡ begin (fresh c.free e) c) where
-  pub mid-is : d ≡ mid p i
-  mid-is = begun ∙ rw (at_item, is-entry)
+  pub mid_is : d ≡ mid p i
+  mid_is = begun ∙ rw (at_item, is-entry)
 
-  pub next-is : (g : ItemForm) (r : Spot) → g ≡ p.form i (d.free - 1) → r ≡ finish g (d.free - 1) d → r ≡ cur p (i + 1)
+  pub next_is : (g : ItemForm) (r : Spot) → g ≡ p.form i (d.free - 1) → r ≡ finish g (d.free - 1) d → r ≡ cur p (i + 1)
   unfolding cur
-  next-is g r q s = rw add-one (s ∙ rw (q, mid-is))
+  next_is g r q s = rw add-one (s ∙ rw (q, mid_is))
 
 pub laid_more : (p : Plan) (ats nexts lefts : List ℕ) (i a e f : ℕ) → i < length ats → i < length nexts → i < length lefts
     → a ≡ (mid p i).at → e ≡ (mid p i).next → f ≡ left p i → Laid p ats nexts lefts i
@@ -45,39 +45,39 @@ laid_none p ats nexts lefts =
 -- what the pass keeps before item i
 pub record LayStep (p : Plan) (n : ℕ) (ats nexts lefts : List ℕ) (c : Spot) (i : ℕ) : Type 0 where
   pub inside : i ≤ n
-  pub ats-length : length ats ≡ n
-  pub nexts-length : length nexts ≡ n
-  pub lefts-length : length lefts ≡ n
+  pub ats_length : length ats ≡ n
+  pub nexts_length : length nexts ≡ n
+  pub lefts_length : length lefts ≡ n
   pub item : c ≡ cur p i
   pub laid : Laid p ats nexts lefts i
 
 module _ (p : Plan) (n : ℕ) (ats nexts lefts : List ℕ) (c : Spot) (i : ℕ) (t : LayStep p n ats nexts lefts c i) (h : i < n)
     (most : n ≤ 4096) where
-  pub lay-room : c.next ≤ 8192
-  lay-room = omega (arith, ap (λ (x : Spot). x.next) t.item, at_most p i)
+  pub lay_room : c.next ≤ 8192
+  lay_room = omega (arith, ap (λ (x : Spot). x.next) t.item, at_most p i)
 
   module _ (e : Bool) (d : Spot) (q : e ≡ p.entry i) (s : d ≡ begin (fresh c.free e) c) where
-    pub lay-free : 0 < d.free
-    lay-free = omega (arith, ap (λ (x : Spot). x.free) (mid-is p i c d e t.item q s), mid-free p i)
+    pub lay_free : 0 < d.free
+    lay_free = omega (arith, ap (λ (x : Spot). x.free) (mid_is p i c d e t.item q s), mid_free p i)
 
-    pub lay-left : d.free - 1 ≤ 3
-    lay-left = omega (arith, ap (λ (x : Spot). x.free) (mid-is p i c d e t.item q s), left_le p i)
+    pub lay_left : d.free - 1 ≤ 3
+    lay_left = omega (arith, ap (λ (x : Spot). x.free) (mid_is p i c d e t.item q s), left_le p i)
 
-    pub lay-next : d.next ≤ 8193
-    lay-next = omega (arith, ap (λ (x : Spot). x.next) (mid-is p i c d e t.item q s), mid-most p i)
+    pub lay_next : d.next ≤ 8193
+    lay_next = omega (arith, ap (λ (x : Spot). x.next) (mid_is p i c d e t.item q s), mid_most p i)
 
     pub lay_step : (g : ItemForm) (r : Spot) → g ≡ p.form i (d.free - 1) → r ≡ finish g (d.free - 1) d
         → LayStep p n (set ats i d.at) (set nexts i d.next) (set lefts i (d.free - 1)) r (i + 1)
     lay_step g r y z =
-        let m = mid-is p i c d e t.item q s in
+        let m = mid_is p i c d e t.item q s in
         record {
           inside = omega arith;
-          ats-length = length-set ats i d.at ∙ t.ats-length;
-          nexts-length = length-set nexts i d.next ∙ t.nexts-length;
-          lefts-length = length-set lefts i (d.free - 1) ∙ t.lefts-length;
-          item = next-is p i c d e t.item q s g r y z;
+          ats_length = length-set ats i d.at ∙ t.ats_length;
+          nexts_length = length-set nexts i d.next ∙ t.nexts_length;
+          lefts_length = length-set lefts i (d.free - 1) ∙ t.lefts_length;
+          item = next_is p i c d e t.item q s g r y z;
           laid =
-              laid_more p ats nexts lefts i d.at d.next (d.free - 1) (omega (arith, t.ats-length)) (omega (arith, t.nexts-length))
-              (omega (arith, t.lefts-length)) (ap (λ (x : Spot). x.at) m) (ap (λ (x : Spot). x.next) m)
+              laid_more p ats nexts lefts i d.at d.next (d.free - 1) (omega (arith, t.ats_length)) (omega (arith, t.nexts_length))
+              (omega (arith, t.lefts_length)) (ap (λ (x : Spot). x.at) m) (ap (λ (x : Spot). x.next) m)
               (ap (λ (x : Spot). x.free - 1) m) t.laid;
         }

@@ -1,6 +1,6 @@
 // One layout of a listing.
 ghost use Rattle.std.specs.Prelude.{◌≡◌, length};
-ghost use Rattle.cell.specs.Memory.{cellCount};
+ghost use Rattle.cell.specs.Memory.{cell_count};
 ghost use Rattle.pack_layout.specs.Flags.{Flags, flagged};
 ghost use Rattle.pack_layout.specs.Listing.{listed, entry, Checked};
 ghost use Rattle.pack_layout.specs.Layout.{cur, Laid};
@@ -25,7 +25,7 @@ pub fn lay_out(
     requires entries_len { (length entries.now ≡ length kinds.now) × (length marks.now ≡ length kinds.now) }
     requires ats_len { (length ats.old ≡ length kinds.now) × (length nexts.old ≡ length kinds.now) × (length lefts.old ≡ length kinds.now) }
     requires flags { Flags entries.now (entry (listed kinds.now operands.now)) (length kinds.now) }
-    ensures value { result ≡ cellCount (cur (plan (listed kinds.now operands.now) (flagged marks.now)) (length kinds.now)).next }
+    ensures value { result ≡ cell_count (cur (plan (listed kinds.now operands.now) (flagged marks.now)) (length kinds.now)).next }
     ensures laid { Laid (plan (listed kinds.now operands.now) (flagged marks.now)) ats.new nexts.new lefts.new (length kinds.now) }
 {
     let n = kinds.len();

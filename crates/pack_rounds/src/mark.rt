@@ -1,12 +1,12 @@
 // The marks that one layout adds.
 ghost use Rattle.std.specs.Prelude.{◌≡◌, ◌<◌, ◌≤◌, true, length, slice_index};
-ghost use Rattle.cell.specs.Memory.{cellCount};
-ghost use Rattle.pack_layout.specs.Kinds.{classOf, is_branch};
+ghost use Rattle.cell.specs.Memory.{cell_count};
+ghost use Rattle.pack_layout.specs.Kinds.{class_of, is_branch};
 ghost use Rattle.pack_layout.specs.Bytes.{fits};
 ghost use Rattle.pack_layout.specs.Flags.{flagged};
 ghost use Rattle.pack_layout.specs.Listing.{listed, any, Checked};
 ghost use Rattle.pack_layout.specs.Layout.{Laid};
-ghost use Rattle.pack_layout.specs.Packing.{formOf, distance, newOf, plan, new, Marked};
+ghost use Rattle.pack_layout.specs.Packing.{form_of, distance, new_of, plan, new, Marked};
 
 use crate::measure::{distance_of, fits_in};
 use crate::place::taken;
@@ -17,7 +17,7 @@ use pack_layout::{Class, ItemForm, ItemNumber};
 // The index of an item's cell.
 pub fn place_of(ats: &[u32], item: ItemNumber) -> CellCount
     requires { item.0 < length ats.now }
-    ensures { result ≡ cellCount (slice_index ats.now item.0) }
+    ensures { result ≡ cell_count (slice_index ats.now item.0) }
 {
     let i = item.0 as usize;
     CellCount(ats[i])
@@ -25,8 +25,8 @@ pub fn place_of(ats: &[u32], item: ItemNumber) -> CellCount
 
 // Whether an item is an immediate branch that does not fit: x its operand, f the bytes left behind its opcode, next the index of its EP value.
 fn newly(kind: u8, marked: bool, x: u32, f: u32, next: CellCount, ats: &[u32]) -> bool
-    requires { (f ≤ 3) × (is_branch (classOf kind) ≡ true → x < length ats.now) }
-    ensures { result ≡ newOf (classOf kind) (formOf (classOf kind) marked x f) (fits f (distance next.0 (slice_index ats.now x))) }
+    requires { (f ≤ 3) × (is_branch (class_of kind) ≡ true → x < length ats.now) }
+    ensures { result ≡ new_of (class_of kind) (form_of (class_of kind) marked x f) (fits f (distance next.0 (slice_index ats.now x))) }
 {
     let c = class_of(kind);
     match c {

@@ -1,7 +1,7 @@
 // Where an item goes, and in which form.
 ghost use Rattle.std.specs.Prelude.{◌≡◌, ◌-◌, ◌<◌, ◌≤◌};
 ghost use Rattle.pack_layout.specs.Layout.{spot_of, opening, fresh, begin, finish};
-ghost use Rattle.pack_layout.specs.Packing.{taking, formOf};
+ghost use Rattle.pack_layout.specs.Packing.{taking, form_of};
 
 use crate::measure::fits_in;
 use cell::CellCount;
@@ -76,7 +76,7 @@ pub fn taken(marked: bool, f: u32) -> ItemForm
 // The form of an item with operand x and f bytes left.
 pub fn form_of(c: Class, marked: bool, x: u32, f: u32) -> ItemForm
     requires { f ≤ 3 }
-    ensures { result ≡ formOf c marked x f }
+    ensures { result ≡ form_of c marked x f }
 {
     match c {
         Class::Plain => ItemForm::Alone,

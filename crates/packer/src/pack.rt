@@ -1,7 +1,7 @@
 // pack: a listing in two arrays.
 ghost use Rattle.std.specs.Prelude.{◌≡◌, length};
 ghost use Rattle.pack_layout.specs.Listing.{listed, Checked};
-ghost use Rattle.pack_layout.specs.Packing.{imageCells};
+ghost use Rattle.pack_layout.specs.Packing.{image_cells};
 ghost use Rattle.pack_refusals.specs.Judgement as judgement;
 ghost use Rattle.packer.specs.Pack as answers;
 ghost use Rattle.pack_prepare.specs.Prepared.{Places};
@@ -28,7 +28,7 @@ fn pack_checked(
 ) -> Packed
     requires checked { Checked kinds.now operands.now }
     requires places { Places (length kinds.now) entries.old marks.old ats.old nexts.old lefts.old }
-    ensures { answers.packedTo output.new result ≡ answers.packIf (judgement.judgeImage base.0 (imageCells (listed kinds.now operands.now)) (length output.old)) order base.0 (listed kinds.now operands.now) output.old }
+    ensures { answers.packed_to output.new result ≡ answers.pack_if (judgement.judge_image base.0 (image_cells (listed kinds.now operands.now)) (length output.old)) order base.0 (listed kinds.now operands.now) output.old }
 {
     let cells = prepare(kinds, operands, entries, marks, ats, nexts, lefts);
     match judge_image(base, cells, output.len()) {
@@ -43,7 +43,7 @@ fn pack_checked(
 }
 
 pub fn pack(order: u8, kinds: &[u8], operands: &[u32], base: Address, output: &mut [u8]) -> Packed
-    ensures { answers.packedTo output.new result ≡ answers.packOf order kinds.now operands.now base.0 output.old }
+    ensures { answers.packed_to output.new result ≡ answers.pack_of order kinds.now operands.now base.0 output.old }
 {
     match judge_input(order, kinds, operands) {
         Judged::Refused(r) => Packed::Refused(r),

@@ -12,7 +12,7 @@ use machine::{CycleResult, Ended, Table};
 use processor_start::entry::file;
 
 fn cycled_as(areas: Areas, t: CycleResult) -> Cycled
-    ensures { result ≡ answers.cycledAs areas t.registers t.ended }
+    ensures { result ≡ answers.cycled_as areas t.registers t.ended }
 {
     let r = t.registers;
     let ended = t.ended;
@@ -24,7 +24,7 @@ fn cycled_as(areas: Areas, t: CycleResult) -> Cycled
 }
 
 pub fn cycle(order: u8, memory: &mut [u8], table: Table, r: RegisterFile) -> Cycled
-    ensures { answers.cycledTo r memory.new result ≡ answers.cycleAnswer order table memory.old r }
+    ensures { answers.cycled_to r memory.new result ≡ answers.cycle_answer order table memory.old r }
 {
     let areas = r.areas;
     match judge_bounded(memory.len(), order, areas, table) {
@@ -41,7 +41,7 @@ pub fn cycle(order: u8, memory: &mut [u8], table: Table, r: RegisterFile) -> Cyc
 
 fn ran_as(areas: Areas, t: Progress, budget: u32) -> Ran
     requires { t.left ≤ budget }
-    ensures { result ≡ answers.ranAs areas t.result.registers (budget - t.left) t.result.ended }
+    ensures { result ≡ answers.ran_as areas t.result.registers (budget - t.left) t.result.ended }
 {
     let u = t.result;
     let r = u.registers;
@@ -54,7 +54,7 @@ fn ran_as(areas: Areas, t: Progress, budget: u32) -> Ran
 }
 
 pub fn run(order: u8, memory: &mut [u8], table: Table, r: RegisterFile, budget: u32) -> Ran
-    ensures { answers.ranTo r budget memory.new result ≡ answers.runAnswer (answers.given_of order table memory.old r budget) }
+    ensures { answers.ran_to r budget memory.new result ≡ answers.run_answer (answers.given_of order table memory.old r budget) }
 {
     let areas = r.areas;
     match judge_bounded(memory.len(), order, areas, table) {

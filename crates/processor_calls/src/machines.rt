@@ -20,7 +20,7 @@ pub fn judge_call(
     out: usize,
     needed: usize,
 ) -> Judged
-    ensures { result ≡ machines.judgeCall length order areas table registers out needed }
+    ensures { result ≡ machines.judge_call length order areas table registers out needed }
 {
     with_room(
         with_room(judge_bounded(length, order, areas, table), registers, 8),
@@ -38,7 +38,7 @@ pub fn judge_with(
     out: usize,
     needed: usize,
 ) -> Judged
-    ensures { result ≡ machines.judgeWith length order table registers.now out needed }
+    ensures { result ≡ machines.judge_with length order table registers.now out needed }
 {
     let areas = areas_in(registers, 4);
     judge_call(length, order, areas, table, registers.len(), out, needed)
@@ -47,7 +47,7 @@ pub fn judge_with(
 pub fn tell_started(answer: Started, registers: &mut [u32], out: &mut [u32]) -> u32
     requires in_bounds { 8 ≤ length registers.old }
     requires in_bounds_2 { 1 ≤ length out.old }
-    ensures { machines.told registers.new out.new result ≡ machines.startTold registers.old out.old answer }
+    ensures { machines.told registers.new out.new result ≡ machines.start_told registers.old out.old answer }
 {
     match answer {
         // never reached: the call judges before it asks for this answer
@@ -68,7 +68,7 @@ pub fn tell_started(answer: Started, registers: &mut [u32], out: &mut [u32]) -> 
 pub fn tell_cycled(answer: Cycled, registers: &mut [u32], out: &mut [u32]) -> u32
     requires in_bounds { 8 ≤ length registers.old }
     requires in_bounds_2 { 1 ≤ length out.old }
-    ensures { machines.told registers.new out.new result ≡ machines.cycleTold registers.old out.old answer }
+    ensures { machines.told registers.new out.new result ≡ machines.cycle_told registers.old out.old answer }
 {
     match answer {
         // never reached: the call judges before it asks for this answer
@@ -94,7 +94,7 @@ pub fn tell_cycled(answer: Cycled, registers: &mut [u32], out: &mut [u32]) -> u3
 pub fn tell_ran(answer: Ran, budget: u32, registers: &mut [u32], out: &mut [u32]) -> u32
     requires in_bounds { 8 ≤ length registers.old }
     requires in_bounds_2 { 2 ≤ length out.old }
-    ensures { machines.told registers.new out.new result ≡ machines.runTold registers.old out.old budget answer }
+    ensures { machines.told registers.new out.new result ≡ machines.run_told registers.old out.old budget answer }
 {
     match answer {
         // never reached: the call judges before it asks for this answer

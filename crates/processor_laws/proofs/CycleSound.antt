@@ -3,8 +3,8 @@ use mathlib.Core.List.{List}
 use Prim.Native.Nat.{ℕ, zero, suc, ◌%◌, ◌^◌, ◌<◌}
 use native.Mathlib.Omega.{arith}
 use Rattle.cell.specs.Memory.{Bytewise}
-use Rattle.cell.proofs.MemoryLaws.{store-bytewise}
-use Rattle.machine.specs.Commits.{Stepped, commitOf}
+use Rattle.cell.proofs.MemoryLaws.{store_bytewise}
+use Rattle.machine.specs.Commits.{Stepped, commit_of}
 use Rattle.throws.specs.Throws.{CycleState}
 use Rattle.machine.specs.declared.Machine.{Machine}
 use Rattle.machine.specs.declared.Registers.{Registers}
@@ -13,80 +13,80 @@ use Rattle.machine.specs.declared.Outcome.{Outcome}
 use Rattle.machine.specs.declared.Outcome.TheVariants as outcome
 use Rattle.machine.specs.declared.Ended.{Ended}
 use Rattle.machine.specs.declared.Ended.TheVariants.{Went, Threw, Stopped}
-use Rattle.instruction.specs.Plain.{plainAt}
-use Rattle.instruction.specs.Taking.{takingAt, passed, onward}
+use Rattle.instruction.specs.Plain.{plain_at}
+use Rattle.instruction.specs.Taking.{taking_at, passed, onward}
 use Rattle.instruction.specs.declared.OperandForm.{OperandForm}
 use Rattle.instruction.specs.declared.OperandForm.TheVariants.{InCell, Immediate}
 use Rattle.instruction.specs.declared.Instruction.{Instruction}
-use Rattle.instruction.specs.Dispatch.{OperandClass, next, plain, taking, operandClass, taken, executed, executeOf, decodeOf}
-use Rattle.cycles.specs.Cycles.{shifted, cycleOf, advanced, advance, cyclesOf}
-use Rattle.processor_start.specs.Starting.{fourCells, start_of}
+use Rattle.instruction.specs.Dispatch.{OperandClass, next, plain, taking, operand_class, taken, executed, execute_of, decode_of}
+use Rattle.cycles.specs.Cycles.{shifted, cycle_of, advanced, advance, cycles_of}
+use Rattle.processor_start.specs.Starting.{four_cells, start_of}
 use Rattle.processor_laws.specs.Soundness.{Sound, SoundStepped, SoundState}
-use Rattle.processor_laws.proofs.NumberBounds.{sum_below, asr8-below}
-use Rattle.processor_laws.proofs.PlainBounds.{plain-bounded}
-use Rattle.processor_laws.proofs.TakingBounds.{taking-at-bounded}
-use Rattle.processor_laws.proofs.SoundLaws.{commit-sound, next-sound, finish-sound}
+use Rattle.processor_laws.proofs.NumberBounds.{sum_below, asr8_below}
+use Rattle.processor_laws.proofs.PlainBounds.{plain_bounded}
+use Rattle.processor_laws.proofs.TakingBounds.{taking_at_bounded}
+use Rattle.processor_laws.proofs.SoundLaws.{commit_sound, next_sound, finish_sound}
 
-passed-sound : (form : OperandForm) (m : List ℕ) (r : Registers) → Sound m r → Sound m (passed form r).registers
-passed-sound InCell m r s = record { bytes = s.bytes; ep = sum_below r.ep 4; a = s.a; sp = s.sp; rp = s.rp }
-passed-sound Immediate m r s = s
+passed_sound : (form : OperandForm) (m : List ℕ) (r : Registers) → Sound m r → Sound m (passed form r).registers
+passed_sound InCell m r s = record { bytes = s.bytes; ep = sum_below r.ep 4; a = s.a; sp = s.sp; rp = s.rp }
+passed_sound Immediate m r s = s
 
-onward-sound : (form : OperandForm) (m : List ℕ) (t : Step) (o : Outcome) → Sound m t.registers → Sound m (onward form t o).registers
-onward-sound form m t outcome.Went s = passed-sound form m t.registers s
-onward-sound form m t outcome.Next s = s
-onward-sound form m t (outcome.Raise f) s = s
-onward-sound form m t (outcome.Halt x) s = s
-onward-sound form m t outcome.Throw s = s
+onward_sound : (form : OperandForm) (m : List ℕ) (t : Step) (o : Outcome) → Sound m t.registers → Sound m (onward form t o).registers
+onward_sound form m t outcome.Went s = passed_sound form m t.registers s
+onward_sound form m t outcome.Next s = s
+onward_sound form m t (outcome.Raise f) s = s
+onward_sound form m t (outcome.Halt x) s = s
+onward_sound form m t outcome.Throw s = s
 
-taken-sound : (form : OperandForm) (s : Stepped) → SoundStepped s → SoundStepped (taken form s)
-taken-sound form s h = onward-sound form s.memory s.step s.step.outcome h
+taken_sound : (form : OperandForm) (s : Stepped) → SoundStepped s → SoundStepped (taken form s)
+taken_sound form s h = onward_sound form s.memory s.step s.step.outcome h
 
 module _ (machine : Machine) where
-  executed-sound : (m : List ℕ) (r : Registers) (i : Instruction) (c : OperandClass) → Sound m r → SoundStepped (executed machine m r i c)
-  executed-sound m r i next s = s
-  executed-sound m r i plain s =
-      commit-sound machine m r (plainAt machine i m r)
-      (plain-bounded machine m s.bytes r.ep r.sp r.rp s.sp s.rp i)
+  executed_sound : (m : List ℕ) (r : Registers) (i : Instruction) (c : OperandClass) → Sound m r → SoundStepped (executed machine m r i c)
+  executed_sound m r i next s = s
+  executed_sound m r i plain s =
+      commit_sound machine m r (plain_at machine i m r)
+      (plain_bounded machine m s.bytes r.ep r.sp r.rp s.sp s.rp i)
       s
-  executed-sound m r i (taking form t) s =
-      taken-sound form (commitOf machine m r (takingAt machine form t m r))
-      (commit-sound machine m r (takingAt machine form t m r) (taking-at-bounded machine form t m r s) s)
+  executed_sound m r i (taking form t) s =
+      taken_sound form (commit_of machine m r (taking_at machine form t m r))
+      (commit_sound machine m r (taking_at machine form t m r) (taking_at_bounded machine form t m r s) s)
 
-  pub execute-sound : (m : List ℕ) (r : Registers) (i : Instruction) → Sound m r → SoundStepped (executeOf machine m r i)
-  unfolding executeOf
-  execute-sound m r i s = executed-sound m r i (operandClass i) s
+  pub execute_sound : (m : List ℕ) (r : Registers) (i : Instruction) → Sound m r → SoundStepped (execute_of machine m r i)
+  unfolding execute_of
+  execute_sound m r i s = executed_sound m r i (operand_class i) s
 
-  pub cycle-stays-sound : (m : List ℕ) (r : Registers) → Sound m r → SoundState (cycleOf machine m r)
-  unfolding cycleOf
-  cycle-stays-sound m r s =
-      finish-sound machine (executeOf machine m (shifted r) (decodeOf (r.a % 256)))
-      (execute-sound m (shifted r) (decodeOf (r.a % 256))
-      (record { bytes = s.bytes; ep = s.ep; a = asr8-below r.a s.a; sp = s.sp; rp = s.rp }))
+  pub cycle_stays_sound : (m : List ℕ) (r : Registers) → Sound m r → SoundState (cycle_of machine m r)
+  unfolding cycle_of
+  cycle_stays_sound m r s =
+      finish_sound machine (execute_of machine m (shifted r) (decode_of (r.a % 256)))
+      (execute_sound m (shifted r) (decode_of (r.a % 256))
+      (record { bytes = s.bytes; ep = s.ep; a = asr8_below r.a s.a; sp = s.sp; rp = s.rp }))
 
-  advanced-sound : (s : CycleState) (e : Ended) → SoundState s → SoundState (advanced machine s e)
-  advanced-sound s Went h = cycle-stays-sound s.memory s.result.registers h
-  advanced-sound s (Threw f) h = cycle-stays-sound s.memory s.result.registers h
-  advanced-sound s (Stopped x) h = h
+  advanced_sound : (s : CycleState) (e : Ended) → SoundState s → SoundState (advanced machine s e)
+  advanced_sound s Went h = cycle_stays_sound s.memory s.result.registers h
+  advanced_sound s (Threw f) h = cycle_stays_sound s.memory s.result.registers h
+  advanced_sound s (Stopped x) h = h
 
-  pub advance-stays-sound : (s : CycleState) → SoundState s → SoundState (advance machine s)
+  pub advance_stays_sound : (s : CycleState) → SoundState s → SoundState (advance machine s)
   unfolding advance
-  advance-stays-sound s h = advanced-sound s s.result.ended h
+  advance_stays_sound s h = advanced_sound s s.result.ended h
 
-  pub cycles-stay-sound : (n : ℕ) (s : CycleState) → SoundState s → SoundState (cyclesOf machine n s)
-  unfolding cyclesOf
-  cycles-stay-sound zero s h = h
-  cycles-stay-sound (suc n) s h = cycles-stay-sound n (advance machine s) (advance-stays-sound s h)
+  pub cycles_stay_sound : (n : ℕ) (s : CycleState) → SoundState s → SoundState (cycles_of machine n s)
+  unfolding cycles_of
+  cycles_stay_sound zero s h = h
+  cycles_stay_sound (suc n) s h = cycles_stay_sound n (advance machine s) (advance_stays_sound s h)
 
   -- a start on a memory of bytes, with cells for EP, SP and RP
-  pub start-is-sound : (m : List ℕ) (ep handler sp rp : ℕ) → Bytewise m → ep < 2 ^ 32 → sp < 2 ^ 32 → rp < 2 ^ 32
+  pub start_is_sound : (m : List ℕ) (ep handler sp rp : ℕ) → Bytewise m → ep < 2 ^ 32 → sp < 2 ^ 32 → rp < 2 ^ 32
       → SoundState (start_of machine m ep handler sp rp)
   unfolding start_of
-  start-is-sound m ep handler sp rp b h s r =
-      next-sound machine (fourCells machine m handler) _
+  start_is_sound m ep handler sp rp b h s r =
+      next_sound machine (four_cells machine m handler) _
       (record {
         bytes =
-            store-bytewise machine.order _ _ _
-            (store-bytewise machine.order _ _ _ (store-bytewise machine.order _ _ _ (store-bytewise machine.order m _ _ b)));
+            store_bytewise machine.order _ _ _
+            (store_bytewise machine.order _ _ _ (store_bytewise machine.order _ _ _ (store_bytewise machine.order m _ _ b)));
         ep = h;
         a = omega arith;
         sp = s;

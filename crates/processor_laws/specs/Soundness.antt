@@ -5,8 +5,8 @@ use Rattle.cell.specs.Memory.{Bytewise}
 use Rattle.cell.specs.declared.Fault.{Fault}
 use Rattle.cell.specs.declared.Fetched.{Fetched}
 use Rattle.cell.specs.declared.Fetched.TheVariants.{Cell, Failed}
-use Rattle.machine.specs.Places.{Width, oneByte, oneCell}
-use Rattle.machine.specs.Effects.{Store, Control, goOn, jump, halt, throwing, Action, Effect, act, raise}
+use Rattle.machine.specs.Places.{Width, one_byte, one_cell}
+use Rattle.machine.specs.Effects.{Store, Control, go_on, jump, halt, throwing, Action, Effect, act, raise}
 use Rattle.machine.specs.Commits.{Stepped}
 use Rattle.throws.specs.Throws.{CycleState}
 use Rattle.machine.specs.declared.Registers.{Registers}
@@ -33,8 +33,8 @@ Below (Failed f) = Unit
 
 -- a value that its place can hold; of a cell's value the four bytes are stored, whatever it is
 abbrev pub FitsWidth : Width → ℕ → Type 0
-FitsWidth oneByte x = x < 256
-FitsWidth oneCell x = Unit
+FitsWidth one_byte x = x < 256
+FitsWidth one_cell x = Unit
 
 abbrev pub AllHold : List Store → Type 0
 AllHold [] = Unit
@@ -42,7 +42,7 @@ AllHold (s ∷ ss) = FitsWidth s.width s.value × AllHold ss
 
 -- a jump leads to a cell's value
 abbrev pub Leads : Control → Type 0
-Leads goOn = Unit
+Leads go_on = Unit
 Leads (jump a) = a < 2 ^ 32
 Leads (halt x) = Unit
 Leads throwing = Unit

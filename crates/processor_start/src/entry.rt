@@ -27,7 +27,7 @@ fn begin(
 ) -> CycleResult
     requires fits { places.Fits machine (length memory.old) }
     requires in_bounds { 1024 ≤ length memory.old }
-    ensures { throws.withResult memory.new result ≡ starting.start_of machine memory.old ep.0 handler.0 sp rp }
+    ensures { throws.with_result memory.new result ≡ starting.start_of machine memory.old ep.0 handler.0 sp rp }
 {
     let length = memory.len() as u32;
     store(machine.order, memory, HANDLER_CELL, handler.0);
@@ -57,7 +57,7 @@ pub fn file(areas: Areas, r: Registers) -> RegisterFile
 }
 
 fn started_as(areas: Areas, t: CycleResult) -> Started
-    ensures { result ≡ answers.startedAs areas t.registers t.ended }
+    ensures { result ≡ answers.started_as areas t.registers t.ended }
 {
     let r = t.registers;
     let ended = t.ended;
@@ -76,7 +76,7 @@ pub fn start(
     areas: Areas,
     table: Table,
 ) -> Started
-    ensures { answers.startedTo memory.new result ≡ answers.startAnswer order areas table memory.old ep.0 handler.0 }
+    ensures { answers.started_to memory.new result ≡ answers.start_answer order areas table memory.old ep.0 handler.0 }
 {
     match judge_bounded(memory.len(), order, areas, table) {
         Judged::Refused(n) => Started::Refused(n),

@@ -1,6 +1,6 @@
 // What programs print: a cell in digits, the cells of an image, one a line, or a refusal's number.
 ghost use Rattle.std.specs.Prelude.{◌*◌, ◌≤◌, length};
-ghost use Rattle.packer.specs.Pack.{packCount};
+ghost use Rattle.packer.specs.Pack.{pack_count};
 
 use cell::CellCount;
 use cell::memory::load_at;
@@ -55,7 +55,7 @@ pub fn print_number(x: u32) {
 
 // What a packing in order 0 answered and left.
 pub fn print_packed(answer: Packed, output: &[u8])
-    requires { 4 * packCount answer ≤ length output.now }
+    requires { 4 * pack_count answer ≤ length output.now }
 {
     let number = pack_number(answer);
     if number == 0 {

@@ -3,7 +3,7 @@
 use Rattle.std.specs.Prelude.{◌≡◌, List, ℕ, ◌+◌, ◌≤◌, ◌<◌, length, get_or, take}
 use Rattle.cell.specs.Memory.{Bytewise}
 use Rattle.pack_layout.specs.Listing.{Listing, listed}
-use Rattle.unpacker.specs.Unpack.{UnpackResult, unpackOf}
+use Rattle.unpacker.specs.Unpack.{UnpackResult, unpack_of}
 use Rattle.approved.specs.Approved.{RunsAsListed}
 
 -- the listing that an unpacking wrote
@@ -17,6 +17,6 @@ pub record ImageAt (s m : List ℕ) (a : ℕ) : Type 0 where
 
 abbrev pub RecoveredRuns : Type 0
 RecoveredRuns =
-    (order : ℕ) (s : List ℕ) (base : ℕ) (ks xs : List ℕ) → Bytewise s → (unpackOf order s base ks xs).number ≡ 0
+    (order : ℕ) (s : List ℕ) (base : ℕ) (ks xs : List ℕ) → Bytewise s → (unpack_of order s base ks xs).number ≡ 0
     → (m : List ℕ) → ImageAt s m base
-    → RunsAsListed order base (recovered (unpackOf order s base ks xs)) m
+    → RunsAsListed order base (recovered (unpack_of order s base ks xs)) m

@@ -15,7 +15,7 @@ pub fn call_load_set(
     modules: &[u32],
     out: &mut [u32],
 ) -> u32
-    ensures { moved memory.new out.new result ≡ sets.loadSetCall order memory.old buffer.now modules.now out.old }
+    ensures { moved memory.new out.new result ≡ sets.load_set_call order memory.old buffer.now modules.now out.old }
 {
     if out.len() < 1 {
         return no_place(judge_set(memory.len(), order, buffer, modules));

@@ -5,17 +5,17 @@ use Prim.Native.Nat.{ℕ, zero, suc, ◌+◌, ◌*◌, ◌/◌, ◌≤◌, ◌<�
 use native.Mathlib.Omega.{arith}
 use lib.ListN.{length, drop}
 use Rattle.set_judging.specs.declared.Member.{Member}
-use Rattle.set_judging.specs.Members.{members_of, memberAt}
+use Rattle.set_judging.specs.Members.{members_of, member_at}
 
 -- a third as many modules as numbers
-pub members-length : (numbers : List ℕ) → length (members_of numbers) ≡ length numbers / 3
-members-length [] = refl
-members-length (a ∷ []) = refl
-members-length (a ∷ place ∷ []) = refl
-members-length (a ∷ place ∷ size ∷ rest) = let e = members-length rest in omega (arith, e)
+pub members_length : (numbers : List ℕ) → length (members_of numbers) ≡ length numbers / 3
+members_length [] = refl
+members_length (a ∷ []) = refl
+members_length (a ∷ place ∷ []) = refl
+members_length (a ∷ place ∷ size ∷ rest) = let e = members_length rest in omega (arith, e)
 
 -- module k behind three other numbers is the one before it without them
-pub at_next : (a place size : ℕ) (rest : List ℕ) (k : ℕ) → memberAt (a ∷ place ∷ size ∷ rest) (suc k) ≡ memberAt rest k
+pub at_next : (a place size : ℕ) (rest : List ℕ) (k : ℕ) → member_at (a ∷ place ∷ size ∷ rest) (suc k) ≡ member_at rest k
 at_next a place size rest k =
     let e : 3 * suc k ≡ suc (suc (suc (3 * k))) = omega arith in
     let f : suc (suc (suc (3 * k))) + 1 ≡ suc (suc (suc (3 * k + 1))) = omega arith in
@@ -23,24 +23,24 @@ at_next a place size rest k =
     rw (e, f, g)
 
 -- from module k on: it, and those after it
-pub members-from : (numbers : List ℕ) (k : ℕ) → 3 * k + 3 ≤ length numbers
-    → drop k (members_of numbers) ≡ memberAt numbers k ∷ drop (suc k) (members_of numbers)
-members-from [] k h = absurd (omega arith)
-members-from (a ∷ []) k h = absurd (omega arith)
-members-from (a ∷ place ∷ []) k h = absurd (omega arith)
-members-from (a ∷ place ∷ size ∷ rest) zero h = refl
-members-from (a ∷ place ∷ size ∷ rest) (suc k) h = members-from rest k (omega arith) ∙ rw (at_next a place size rest k)
+pub members_from : (numbers : List ℕ) (k : ℕ) → 3 * k + 3 ≤ length numbers
+    → drop k (members_of numbers) ≡ member_at numbers k ∷ drop (suc k) (members_of numbers)
+members_from [] k h = absurd (omega arith)
+members_from (a ∷ []) k h = absurd (omega arith)
+members_from (a ∷ place ∷ []) k h = absurd (omega arith)
+members_from (a ∷ place ∷ size ∷ rest) zero h = refl
+members_from (a ∷ place ∷ size ∷ rest) (suc k) h = members_from rest k (omega arith) ∙ rw (at_next a place size rest k)
 
 -- behind the last there is none
-pub members-none : (numbers : List ℕ) (k : ℕ) → length numbers < 3 * k + 3 → drop k (members_of numbers) ≡ []
-members-none [] zero h = refl
-members-none [] (suc k) h = refl
-members-none (a ∷ []) zero h = refl
-members-none (a ∷ []) (suc k) h = refl
-members-none (a ∷ place ∷ []) zero h = refl
-members-none (a ∷ place ∷ []) (suc k) h = refl
-members-none (a ∷ place ∷ size ∷ rest) zero h = absurd (omega arith)
-members-none (a ∷ place ∷ size ∷ rest) (suc k) h = members-none rest k (omega arith)
+pub members_none : (numbers : List ℕ) (k : ℕ) → length numbers < 3 * k + 3 → drop k (members_of numbers) ≡ []
+members_none [] zero h = refl
+members_none [] (suc k) h = refl
+members_none (a ∷ []) zero h = refl
+members_none (a ∷ []) (suc k) h = refl
+members_none (a ∷ place ∷ []) zero h = refl
+members_none (a ∷ place ∷ []) (suc k) h = refl
+members_none (a ∷ place ∷ size ∷ rest) zero h = absurd (omega arith)
+members_none (a ∷ place ∷ size ∷ rest) (suc k) h = members_none rest k (omega arith)
 
 -- a fact about each module of a list
 pub data Each (P : Member → Type 0) : List Member → Type 0 where
@@ -48,7 +48,7 @@ pub data Each (P : Member → Type 0) : List Member → Type 0 where
   more : {x : Member} {xs : List Member} → P x → Each P xs → Each P (x ∷ xs)
 
 pub each_at : (P : Member → Type 0) (numbers : List ℕ) → Each P (members_of numbers) → (k : ℕ) → 3 * k + 3 ≤ length numbers
-    → P (memberAt numbers k)
+    → P (member_at numbers k)
 each_at P [] s k h = absurd (omega arith)
 each_at P (a ∷ []) s k h = absurd (omega arith)
 each_at P (a ∷ place ∷ []) s k h = absurd (omega arith)

@@ -7,33 +7,33 @@ use native.Mathlib.Omega.{arith}
 use borrow.Author.Tests.{ltb-false, eqb-true, eqb-false, not-false, le-ltb, eq-eqb, ne_eqb}
 use lib.Dec.{ltb, eqb}
 use lib.ListN.{length}
-use Rattle.cell.specs.Refusals.{judge, after, judgeMachine}
+use Rattle.cell.specs.Refusals.{judge, after, judge_machine}
 use Rattle.cell.specs.declared.Refusal.TheVariants.{ModuleSet}
 use Rattle.cell.specs.declared.Judged.TheVariants.{Passed}
 use Rattle.cell.proofs.BooleanLaws.{neither}
-use Rattle.cell.proofs.JudgementLaws.{both-pass, one-clear}
+use Rattle.cell.proofs.JudgementLaws.{both_pass, one_clear}
 use Rattle.set_judging.specs.Members.{members_of}
 use Rattle.set_judging.specs.Sharing.{end_of, sharing}
-use Rattle.set_judging.specs.Grounds.{judgeMembers, moduleSet, judgeSet}
+use Rattle.set_judging.specs.Grounds.{judge_members, module_set, judge_set}
 
 pub record Passing (len order : ℕ) (buffer numbers : List ℕ) : Type 0 where
-  pub machine : judgeMachine len order ≡ Passed
-  pub alone : judgeMembers len order buffer (members_of numbers) ≡ Passed
+  pub machine : judge_machine len order ≡ Passed
+  pub alone : judge_members len order buffer (members_of numbers) ≡ Passed
   pub whole : length numbers % 3 ≡ 0
   pub some : 1 ≤ length (members_of numbers)
   pub few : length (members_of numbers) ≤ 16
   pub apart : sharing (end_of buffer) (members_of numbers) ≡ false
 
 module _ (len order : ℕ) (buffer numbers : List ℕ) where
-  pub set-passing : judgeSet len order buffer numbers ≡ Passed → Passing len order buffer numbers
-  unfolding judgeSet
-  set-passing e =
+  pub set_passing : judge_set len order buffer numbers ≡ Passed → Passing len order buffer numbers
+  unfolding judge_set
+  set_passing e =
       let n = length (members_of numbers) in
       let shared = sharing (end_of buffer) (members_of numbers) in
-      let together = judge (moduleSet (end_of buffer) numbers ∷ []) in
-      let p = both-pass (judgeMachine len order) (after (judgeMembers len order buffer (members_of numbers)) together) e in
-      let q = both-pass (judgeMembers len order buffer (members_of numbers)) together p.1 in
-      let s = one-clear (moduleSet (end_of buffer) numbers).applies ModuleSet Passed q.1 in
+      let together = judge (module_set (end_of buffer) numbers ∷ []) in
+      let p = both_pass (judge_machine len order) (after (judge_members len order buffer (members_of numbers)) together) e in
+      let q = both_pass (judge_members len order buffer (members_of numbers)) together p.1 in
+      let s = one_clear (module_set (end_of buffer) numbers).applies ModuleSet Passed q.1 in
       let t = neither (not (eqb (length numbers % 3) 0)) (eqb n 0 || (ltb 16 n || shared)) s.0 in
       let u = neither (eqb n 0) (ltb 16 n || shared) t.1 in
       let v = neither (ltb 16 n) shared u.1 in
@@ -47,8 +47,8 @@ module _ (len order : ℕ) (buffer numbers : List ℕ) where
         apart = v.1;
       }
 
-  pub passing-set : Passing len order buffer numbers → judgeSet len order buffer numbers ≡ Passed
-  unfolding judgeSet
-  passing-set g =
+  pub passing_set : Passing len order buffer numbers → judge_set len order buffer numbers ≡ Passed
+  unfolding judge_set
+  passing_set g =
       let n = length (members_of numbers) in
       rw (g.machine, g.alone, eq-eqb (length numbers % 3) 0 g.whole, ne_eqb n 0 (omega (arith, g.some)), le-ltb 16 n g.few, g.apart)

@@ -16,12 +16,12 @@ members_of (a ∷ []) = []
 members_of [] = []
 
 -- the same, module k alone
-abbrev pub memberAt : List ℕ → ℕ → Member
-memberAt numbers k = member (get_or numbers (3 * k) 0) (get_or numbers (3 * k + 1) 0) (get_or numbers (3 * k + 2) 0)
+abbrev pub member_at : List ℕ → ℕ → Member
+member_at numbers k = member (get_or numbers (3 * k) 0) (get_or numbers (3 * k + 1) 0) (get_or numbers (3 * k + 2) 0)
 
 -- the file of a module, and the count of cells in its header
-abbrev pub fileOf : List ℕ → Member → List ℕ
-fileOf buffer x = take x.size (drop x.place buffer)
+abbrev pub file_of : List ℕ → Member → List ℕ
+file_of buffer x = take x.size (drop x.place buffer)
 
 abbrev pub cells_of : List ℕ → Member → ℕ
-cells_of buffer x = count_of (fileOf buffer x)
+cells_of buffer x = count_of (file_of buffer x)

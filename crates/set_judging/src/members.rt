@@ -8,7 +8,7 @@ use cell::Address;
 // Module k, of three numbers for each.
 pub fn member_at(numbers: &[u32], k: usize) -> Member
     requires { 3 * k + 3 ≤ length numbers.now }
-    ensures { result ≡ members.memberAt numbers.now k }
+    ensures { result ≡ members.member_at numbers.now k }
 {
     let i = 3 * k;
     Member {
@@ -21,7 +21,7 @@ pub fn member_at(numbers: &[u32], k: usize) -> Member
 // The file of a module: its part of the buffer.
 pub fn file_of(buffer: &[u8], x: Member) -> &[u8]
     requires { x.place + x.size ≤ length buffer.now }
-    ensures { result.now ≡ members.fileOf buffer.now x }
+    ensures { result.now ≡ members.file_of buffer.now x }
 {
     let place = x.place as usize;
     let end = place + (x.size as usize);

@@ -1,15 +1,15 @@
 -- The rows, computed.
 -- Assumes nothing.
 use mathlib.Core.Path.{refl}
-use Rattle.cell.specs.Memory.{cell_at, storeCell}
-use Rattle.cell.specs.Refusals.{judgeMachine}
+use Rattle.cell.specs.Memory.{cell_at, store_cell}
+use Rattle.cell.specs.Refusals.{judge_machine}
 use Rattle.module_judging.specs.Format.{count_of}
-use Rattle.module_judging.specs.Grounds.{judgeLoad}
+use Rattle.module_judging.specs.Grounds.{judge_load}
 use Rattle.module_copying.specs.Copies.{copied}
-use Rattle.set_judging.specs.Grounds.{judgeMember, judgeSet}
-use Rattle.set_loading.specs.Sets.{copiedOne, loadSetOf}
+use Rattle.set_judging.specs.Grounds.{judge_member, judge_set}
+use Rattle.set_loading.specs.Sets.{copied_one, load_set_of}
 use Rattle.set_laws.specs.Worked.{RowsHold}
 
-pub rows-hold : RowsHold
-unfolding cell_at storeCell judgeMachine count_of judgeLoad copied judgeMember judgeSet copiedOne loadSetOf
-rows-hold = ((refl, refl, refl), (refl, refl, refl))
+pub rows_hold : RowsHold
+unfolding cell_at store_cell judge_machine count_of judge_load copied judge_member judge_set copied_one load_set_of
+rows_hold = ((refl, refl, refl), (refl, refl, refl))

@@ -5,114 +5,114 @@ use mathlib.Core.List.{List, [], ◌∷◌}
 use Prim.Native.Nat.{ℕ, ◌*◌}
 use native.Mathlib.Omega.{arith}
 use lib.ListN.{length}
-use Rattle.cell.specs.Memory.{cellCount}
+use Rattle.cell.specs.Memory.{cell_count}
 use Rattle.cell.specs.declared.Judged.{Judged}
 use Rattle.cell.specs.declared.Judged.TheVariants.{Passed, Refused}
 use Rattle.module_loading.specs.declared.Loaded.TheVariants.{Cells}
-use Rattle.module_loading.specs.Answers.{loadedTo}
+use Rattle.module_loading.specs.Answers.{loaded_to}
 use Rattle.set_judging.specs.declared.Member.{Member}
 use Rattle.set_judging.specs.Members.{members_of}
-use Rattle.set_judging.specs.Grounds.{judgeSet}
+use Rattle.set_judging.specs.Grounds.{judge_set}
 use Rattle.set_judging.proofs.MemberLaws.{Each}
-use Rattle.set_judging.proofs.PassLaws.{member-fits, each-passes}
-use Rattle.set_judging.proofs.SetLaws.{set-passing, passing-set}
-use Rattle.set_loading.specs.Sets.{copiedSet, cells_in, loadSetIf, loadSetOf}
+use Rattle.set_judging.proofs.PassLaws.{member_fits, each_passes}
+use Rattle.set_judging.proofs.SetLaws.{set_passing, passing_set}
+use Rattle.set_loading.specs.Sets.{copied_set, cells_in, load_set_if, load_set_of}
 use Rattle.permutations.specs.Permutations.{Permuted}
-use Rattle.permutations.proofs.PermutationLaws.{length-permuted, permuted-refl}
-use Rattle.set_laws.specs.Claims.{numbersOf, InAnySequence, InOrderGiven, InAnyOrder, AllOrNone}
-use Rattle.set_laws.proofs.Lists.{Pairwise, each_map, each-permuted, pairwise-permuted}
-use Rattle.set_laws.proofs.Orders.{Apart, Room, copied-permuted, cells-permuted}
-use Rattle.set_laws.proofs.Singles.{Passes, singly-copied}
-use Rattle.set_laws.proofs.Conditions.{accepted-passed, apart-turned, all_apart, apart-all, passes-each}
+use Rattle.permutations.proofs.PermutationLaws.{length_permuted, permuted_refl}
+use Rattle.set_laws.specs.Claims.{numbers_of, InAnySequence, InOrderGiven, InAnyOrder, AllOrNone}
+use Rattle.set_laws.proofs.Lists.{Pairwise, each_map, each_permuted, pairwise_permuted}
+use Rattle.set_laws.proofs.Orders.{Apart, Room, copied_permuted, cells_permuted}
+use Rattle.set_laws.proofs.Singles.{Passes, singly_copied}
+use Rattle.set_laws.proofs.Conditions.{accepted_passed, apart_turned, all_apart, apart_all, passes_each}
 
 -- the result where the judgement passes
-passed-result : (order : ℕ) (m buffer numbers : List ℕ) → judgeSet (length m) order buffer numbers ≡ Passed
-    → loadSetOf order m buffer numbers
-    ≡ loadedTo (copiedSet order buffer (members_of numbers) m) (Cells (cellCount (cells_in buffer (members_of numbers))))
-unfolding loadSetOf
-passed-result order m buffer numbers j = rw j
+passed_result : (order : ℕ) (m buffer numbers : List ℕ) → judge_set (length m) order buffer numbers ≡ Passed
+    → load_set_of order m buffer numbers
+    ≡ loaded_to (copied_set order buffer (members_of numbers) m) (Cells (cell_count (cells_in buffer (members_of numbers))))
+unfolding load_set_of
+passed_result order m buffer numbers j = rw j
 
 -- an accepted set: its modules pass by themselves and share no byte, and its result is their copy
 pub record Accepted (order : ℕ) (m buffer numbers : List ℕ) : Type 0 where
   pub passed : Each (Passes order (length m) buffer) (members_of numbers)
   pub apart : Pairwise (Apart buffer) (members_of numbers)
-  pub result : loadSetOf order m buffer numbers
-      ≡ loadedTo (copiedSet order buffer (members_of numbers) m) (Cells (cellCount (cells_in buffer (members_of numbers))))
+  pub result : load_set_of order m buffer numbers
+      ≡ loaded_to (copied_set order buffer (members_of numbers) m) (Cells (cell_count (cells_in buffer (members_of numbers))))
 
-pub accepted-set : (order : ℕ) (m buffer numbers : List ℕ) → (loadSetOf order m buffer numbers).number ≡ 0 → Accepted order m buffer numbers
-accepted-set order m buffer numbers e =
-    let j = accepted-passed order m buffer numbers e in
-    let p = set-passing (length m) order buffer numbers j in
+pub accepted_set : (order : ℕ) (m buffer numbers : List ℕ) → (load_set_of order m buffer numbers).number ≡ 0 → Accepted order m buffer numbers
+accepted_set order m buffer numbers e =
+    let j = accepted_passed order m buffer numbers e in
+    let p = set_passing (length m) order buffer numbers j in
     record {
-      passed = each-passes (length m) order buffer (members_of numbers) p.alone;
+      passed = each_passes (length m) order buffer (members_of numbers) p.alone;
       apart = all_apart buffer (members_of numbers) p.apart;
-      result = passed-result order m buffer numbers j;
+      result = passed_result order m buffer numbers j;
     }
 
 module _ (order len : ℕ) (buffer : List ℕ) where
-  pub room-each : (xs : List Member) → Each (Passes order len buffer) xs → Each (Room len buffer) xs
-  room-each = each_map (Passes order len buffer) (Room len buffer) (λ x p. (member-fits len order buffer x p).room)
+  pub room_each : (xs : List Member) → Each (Passes order len buffer) xs → Each (Room len buffer) xs
+  room_each = each_map (Passes order len buffer) (Room len buffer) (λ x p. (member_fits len order buffer x p).room)
 
 -- the copy in another order, with its count
-permuted-result : (order : ℕ) (m buffer : List ℕ) (xs ys : List Member) → Permuted xs ys → Each (Passes order (length m) buffer) xs
+permuted_result : (order : ℕ) (m buffer : List ℕ) (xs ys : List Member) → Permuted xs ys → Each (Passes order (length m) buffer) xs
     → Pairwise (Apart buffer) xs
-    → loadedTo (copiedSet order buffer ys m) (Cells (cellCount (cells_in buffer ys)))
-    ≡ loadedTo (copiedSet order buffer xs m) (Cells (cellCount (cells_in buffer xs)))
-permuted-result order m buffer xs ys q p s =
-    rw (copied-permuted order (length m) buffer xs ys m q refl (room-each order (length m) buffer xs p) s, cells-permuted buffer xs ys q)
+    → loaded_to (copied_set order buffer ys m) (Cells (cell_count (cells_in buffer ys)))
+    ≡ loaded_to (copied_set order buffer xs m) (Cells (cell_count (cells_in buffer xs)))
+permuted_result order m buffer xs ys q p s =
+    rw (copied_permuted order (length m) buffer xs ys m q refl (room_each order (length m) buffer xs p) s, cells_permuted buffer xs ys q)
 
-pub in-any-sequence : InAnySequence
-in-any-sequence order m buffer numbers e ys q =
-    let a = accepted-set order m buffer numbers e in
+pub in_any_sequence : InAnySequence
+in_any_sequence order m buffer numbers e ys q =
+    let a = accepted_set order m buffer numbers e in
     let xs = members_of numbers in
-    rw (a.result, ← permuted-result order m buffer xs ys q a.passed a.apart)
-    (singly-copied order (length m) buffer ys m refl (each-permuted (Passes order (length m) buffer) xs ys q a.passed))
+    rw (a.result, ← permuted_result order m buffer xs ys q a.passed a.apart)
+    (singly_copied order (length m) buffer ys m refl (each_permuted (Passes order (length m) buffer) xs ys q a.passed))
 
-pub in-order-given : InOrderGiven
-in-order-given order m buffer numbers e =
-    in-any-sequence order m buffer numbers e (members_of numbers) (permuted-refl (members_of numbers))
+pub in_order_given : InOrderGiven
+in_order_given order m buffer numbers e =
+    in_any_sequence order m buffer numbers e (members_of numbers) (permuted_refl (members_of numbers))
 
 -- the modules of the numbers of some modules are these
-members-back : (xs : List Member) → members_of (numbersOf xs) ≡ xs
-members-back [] = refl
-members-back (x ∷ xs) = ap (λ (ys : List Member). x ∷ ys) (members-back xs)
+members_back : (xs : List Member) → members_of (numbers_of xs) ≡ xs
+members_back [] = refl
+members_back (x ∷ xs) = ap (λ (ys : List Member). x ∷ ys) (members_back xs)
 
-numbers-length : (xs : List Member) → length (numbersOf xs) ≡ 3 * length xs
-numbers-length [] = refl
-numbers-length (x ∷ xs) = let e = numbers-length xs in omega (arith, e)
+numbers_length : (xs : List Member) → length (numbers_of xs) ≡ 3 * length xs
+numbers_length [] = refl
+numbers_length (x ∷ xs) = let e = numbers_length xs in omega (arith, e)
 
-set-permuted : (order : ℕ) (m buffer numbers : List ℕ) (ys : List Member) → judgeSet (length m) order buffer numbers ≡ Passed
-    → Permuted (members_of numbers) ys → judgeSet (length m) order buffer (numbersOf ys) ≡ Passed
-set-permuted order m buffer numbers ys j q =
+set_permuted : (order : ℕ) (m buffer numbers : List ℕ) (ys : List Member) → judge_set (length m) order buffer numbers ≡ Passed
+    → Permuted (members_of numbers) ys → judge_set (length m) order buffer (numbers_of ys) ≡ Passed
+set_permuted order m buffer numbers ys j q =
     let len = length m in
     let xs = members_of numbers in
-    let p = set-passing len order buffer numbers j in
-    let n = length-permuted xs ys q in
-    let e = numbers-length ys in
-    let b = members-back ys in
-    let t : length (members_of (numbersOf ys)) ≡ length xs = ap length b ∙ n in
-    passing-set len order buffer (numbersOf ys)
+    let p = set_passing len order buffer numbers j in
+    let n = length_permuted xs ys q in
+    let e = numbers_length ys in
+    let b = members_back ys in
+    let t : length (members_of (numbers_of ys)) ≡ length xs = ap length b ∙ n in
+    passing_set len order buffer (numbers_of ys)
     (record {
       machine = p.machine;
-      alone = rw b (passes-each order len buffer ys (each-permuted (Passes order len buffer) xs ys q (each-passes len order buffer xs p.alone)));
+      alone = rw b (passes_each order len buffer ys (each_permuted (Passes order len buffer) xs ys q (each_passes len order buffer xs p.alone)));
       whole = omega (arith, e);
       some = omega (arith, t, p.some);
       few = omega (arith, t, p.few);
-      apart = rw b (apart-all buffer ys (pairwise-permuted (Apart buffer) (apart-turned buffer) xs ys q (all_apart buffer xs p.apart)));
+      apart = rw b (apart_all buffer ys (pairwise_permuted (Apart buffer) (apart_turned buffer) xs ys q (all_apart buffer xs p.apart)));
     })
 
-pub in-any-order : InAnyOrder
-in-any-order order m buffer numbers e ys q =
-    let a = accepted-set order m buffer numbers e in
+pub in_any_order : InAnyOrder
+in_any_order order m buffer numbers e ys q =
+    let a = accepted_set order m buffer numbers e in
     let xs = members_of numbers in
-    passed-result order m buffer (numbersOf ys) (set-permuted order m buffer numbers ys (accepted-passed order m buffer numbers e) q)
-    ∙ rw (members-back ys) (permuted-result order m buffer xs ys q a.passed a.apart ∙ sym a.result)
+    passed_result order m buffer (numbers_of ys) (set_permuted order m buffer numbers ys (accepted_passed order m buffer numbers e) q)
+    ∙ rw (members_back ys) (permuted_result order m buffer xs ys q a.passed a.apart ∙ sym a.result)
 
-refused_none : (j : Judged) (order : ℕ) (m buffer : List ℕ) (xs : List Member) → ((loadSetIf j order m buffer xs).number ≡ 0 → ⊥)
-    → ((loadSetIf j order m buffer xs).memory ≡ m) × ((loadSetIf j order m buffer xs).count ≡ 0)
+refused_none : (j : Judged) (order : ℕ) (m buffer : List ℕ) (xs : List Member) → ((load_set_if j order m buffer xs).number ≡ 0 → ⊥)
+    → ((load_set_if j order m buffer xs).memory ≡ m) × ((load_set_if j order m buffer xs).count ≡ 0)
 refused_none Passed order m buffer xs e = absurd (e refl)
 refused_none (Refused r) order m buffer xs e = (refl, refl)
 
-pub all-or-none : AllOrNone
-unfolding loadSetOf
-all-or-none order m buffer numbers e = refused_none (judgeSet (length m) order buffer numbers) order m buffer (members_of numbers) e
+pub all_or_none : AllOrNone
+unfolding load_set_of
+all_or_none order m buffer numbers e = refused_none (judge_set (length m) order buffer numbers) order m buffer (members_of numbers) e

@@ -1,7 +1,7 @@
 -- Rows on sets of modules, worked on paper from document 02, (d), and document 01, Modules. Memory is lent with 5Ah in every byte.
 use Rattle.std.specs.Prelude.{◌≡◌, List, [], ◌∷◌, ◌++◌, map, ℕ, ◌+◌, ◌-◌, ◌^◌, length, replicate}
 use Rattle.module_loading.specs.Answers.{LoadResult}
-use Rattle.set_loading.specs.Sets.{loadSetOf}
+use Rattle.set_loading.specs.Sets.{load_set_of}
 
 -- three modules end to end, from bytes 0, 16 and 36 on: the cell 55h in order 0; 01020304h and A0B0C0D0h in order 1; no cell
 abbrev pub buffer : List ℕ
@@ -70,8 +70,8 @@ accepted =
     ∷ loaded 0 (sixteen []) 0 0x10 []
     ∷ []
 
-abbrev pub turnedAway : List Row
-turnedAway =
+abbrev pub turned_away : List Row
+turned_away =
     -- no module; numbers left over
     refused 4113 0 1024 []
     ∷ refused 4113 0 1024 (0x10 ∷ 0 ∷ [])
@@ -99,7 +99,7 @@ turnedAway =
 
 -- what load_set leaves of each, and what the row has
 abbrev pub left : Row → LoadResult
-left r = loadSetOf r.order (lent r.size) buffer r.numbers
+left r = load_set_of r.order (lent r.size) buffer r.numbers
 
 abbrev pub AsOnPaper : List Row → Type 0
 AsOnPaper rows =
@@ -108,4 +108,4 @@ AsOnPaper rows =
     × (map (λ r. (left r).memory) rows ≡ map (λ r. r.memory) rows)
 
 abbrev pub RowsHold : Type 0
-RowsHold = AsOnPaper accepted × AsOnPaper turnedAway
+RowsHold = AsOnPaper accepted × AsOnPaper turned_away

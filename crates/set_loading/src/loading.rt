@@ -1,7 +1,7 @@
 // A set of modules into memory: judged in one pass, then copied in one, with no second buffer.
 ghost use Rattle.std.specs.Prelude.{◌≡◌, ◌≤◌, length};
-ghost use Rattle.cell.specs.Memory.{cellCount};
-ghost use Rattle.module_loading.specs.Answers.{loadedTo};
+ghost use Rattle.cell.specs.Memory.{cell_count};
+ghost use Rattle.module_loading.specs.Answers.{loaded_to};
 ghost use Rattle.set_judging.specs.Members as members;
 ghost use Rattle.set_judging.specs.Conditions as conditions;
 ghost use Rattle.set_loading.specs.Sets as sets;
@@ -18,8 +18,8 @@ use set_refusals::judge_set;
 // One module, which has been judged; how many cells it has.
 fn copy_member(order: u8, memory: &mut [u8], buffer: &[u8], x: Member) -> CellCount
     requires { conditions.Fits (length memory.old) buffer.now x }
-    ensures value { result ≡ cellCount (members.cells_of buffer.now x) }
-    ensures memory_after { memory.new ≡ sets.copiedOne order buffer.now x memory.old }
+    ensures value { result ≡ cell_count (members.cells_of buffer.now x) }
+    ensures memory_after { memory.new ≡ sets.copied_one order buffer.now x memory.old }
 {
     let address = x.address;
     let file = file_of(buffer, x);
@@ -33,8 +33,8 @@ fn copy_members(order: u8, memory: &mut [u8], buffer: &[u8], numbers: &[u32]) ->
     requires all_fit { conditions.AllFit (length memory.old) buffer.now numbers.now }
     requires memory_len_bound { length memory.old ≤ 16777216 }
     requires numbers_len_bound { length numbers.now ≤ 48 }
-    ensures value { result ≡ cellCount (sets.cells_in buffer.now (members.members_of numbers.now)) }
-    ensures memory_after { memory.new ≡ sets.copiedSet order buffer.now (members.members_of numbers.now) memory.old }
+    ensures value { result ≡ cell_count (sets.cells_in buffer.now (members.members_of numbers.now)) }
+    ensures memory_after { memory.new ≡ sets.copied_set order buffer.now (members.members_of numbers.now) memory.old }
 {
     let n = numbers.len() / 3;
     let mut total: u32 = 0;
@@ -49,7 +49,7 @@ fn copy_members(order: u8, memory: &mut [u8], buffer: &[u8], numbers: &[u32]) ->
 
 // All modules of a set, or none.
 pub fn load_set(order: u8, memory: &mut [u8], buffer: &[u8], numbers: &[u32]) -> Loaded
-    ensures { loadedTo memory.new result ≡ sets.loadSetOf order memory.old buffer.now numbers.now }
+    ensures { loaded_to memory.new result ≡ sets.load_set_of order memory.old buffer.now numbers.now }
 {
     match judge_set(memory.len(), order, buffer, numbers) {
         Judged::Refused(r) => Loaded::Refused(r),

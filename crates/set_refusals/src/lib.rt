@@ -14,7 +14,7 @@ use set_sharing::is_sharing;
 
 // A module by itself.
 fn judge_member(length: usize, order: u8, buffer: &[u8], x: Member) -> Judged
-    ensures { result ≡ grounds.judgeMember length order buffer.now x }
+    ensures { result ≡ grounds.judge_member length order buffer.now x }
 {
     if buffer.len() < (x.place as usize) + (x.size as usize) {
         return Judged::Refused(Refusal::Header);
@@ -25,7 +25,7 @@ fn judge_member(length: usize, order: u8, buffer: &[u8], x: Member) -> Judged
 
 // Every module, in the order given.
 fn judge_members(length: usize, order: u8, buffer: &[u8], numbers: &[u32]) -> Judged
-    ensures { result ≡ grounds.judgeMembers length order buffer.now (members.members_of numbers.now) }
+    ensures { result ≡ grounds.judge_members length order buffer.now (members.members_of numbers.now) }
 {
     let n = numbers.len() / 3;
     let mut k = 0;
@@ -42,7 +42,7 @@ fn judge_members(length: usize, order: u8, buffer: &[u8], numbers: &[u32]) -> Ju
 // The modules together, each of which has passed by itself.
 fn judge_together(numbers: &[u32]) -> Judged
     requires { shared.Headed numbers.now }
-    ensures { result ≡ judge (grounds.moduleSet shared.endBySize numbers.now ∷ []) }
+    ensures { result ≡ judge (grounds.module_set shared.end_by_size numbers.now ∷ []) }
 {
     if numbers.len() % 3 != 0 {
         return Judged::Refused(Refusal::ModuleSet);
@@ -61,7 +61,7 @@ fn judge_together(numbers: &[u32]) -> Judged
 
 // A set: what it is lent, then its modules by themselves, then together.
 pub fn judge_set(length: usize, order: u8, buffer: &[u8], numbers: &[u32]) -> Judged
-    ensures { result ≡ grounds.judgeSet length order buffer.now numbers.now }
+    ensures { result ≡ grounds.judge_set length order buffer.now numbers.now }
 {
     match judge_machine(length, order) {
         Judged::Refused(r) => Judged::Refused(r),

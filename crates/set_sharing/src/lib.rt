@@ -36,7 +36,7 @@ fn first_of(x: Member) -> usize
 // Where it ends.
 fn end_of(x: Member) -> usize
     requires { 12 ≤ x.size }
-    ensures { result ≡ shared.endBySize x }
+    ensures { result ≡ shared.end_by_size x }
 {
     let address = x.address;
     (address.0 as usize) + ((x.size as usize) - 12)
@@ -46,7 +46,7 @@ fn end_of(x: Member) -> usize
 fn shares_later(numbers: &[u32], i: usize) -> bool
     requires headed { shared.Headed numbers.now }
     requires i_in_bounds { 3 * i + 3 ≤ length numbers.now }
-    ensures { result ≡ shared.sharesOne shared.endBySize (members.memberAt numbers.now i) (drop (suc i) (members.members_of numbers.now)) }
+    ensures { result ≡ shared.shares_one shared.end_by_size (members.member_at numbers.now i) (drop (suc i) (members.members_of numbers.now)) }
 {
     let x = member_at(numbers, i);
     let first = first_of(x);
@@ -66,7 +66,7 @@ fn shares_later(numbers: &[u32], i: usize) -> bool
 // Whether each begins where the one before it ends, or later. Then no two share, and the pairs need not be compared.
 fn is_ascending(numbers: &[u32]) -> bool
     requires { shared.Headed numbers.now }
-    ensures { result ≡ shared.ascendingFrom shared.endBySize 0 (members.members_of numbers.now) }
+    ensures { result ≡ shared.ascending_from shared.end_by_size 0 (members.members_of numbers.now) }
 {
     let n = numbers.len() / 3;
     let mut end = 0;
@@ -85,7 +85,7 @@ fn is_ascending(numbers: &[u32]) -> bool
 // Whether any two do.
 pub fn is_sharing(numbers: &[u32]) -> bool
     requires { shared.Headed numbers.now }
-    ensures { result ≡ shared.sharing shared.endBySize (members.members_of numbers.now) }
+    ensures { result ≡ shared.sharing shared.end_by_size (members.members_of numbers.now) }
 {
     if is_ascending(numbers) {
         return false;

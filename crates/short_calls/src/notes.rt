@@ -9,7 +9,7 @@ use short_files::Converted;
 
 pub fn note_converted(answer: Converted, out: &mut [u32]) -> u32
     requires { 1 ≤ length out.old }
-    ensures { modules.noted out.new result ≡ shorts.convertNoted out.old answer }
+    ensures { modules.noted out.new result ≡ shorts.convert_noted out.old answer }
 {
     match answer {
         Converted::Refused(r) => refusal_number(r),

@@ -8,8 +8,8 @@ use native.Mathlib.Omega.{arith}
 use lib.ListN.{length, set, drop, length-append}
 use lib.Seq.{sets, sets-eq, length-sets}
 use Rattle.short_judging.specs.Operands.{in_turn}
-use Rattle.short_judging.proofs.Turns.{singles-length}
-use Rattle.short_files.proofs.Stores.{sets-append, set_before}
+use Rattle.short_judging.proofs.Turns.{singles_length}
+use Rattle.short_files.proofs.Stores.{sets_append, set_before}
 
 module _ (out : List ℕ) (h n : ℕ) (kind : ℕ → ℕ) (g : ℕ → List ℕ) where
   abbrev kinds : ℕ → List ℕ
@@ -27,16 +27,16 @@ module _ (out : List ℕ) (h n : ℕ) (kind : ℕ → ℕ) (g : ℕ → List ℕ
   unfolding in_turn
   filled_none = refl
 
-  pub filled-length : (i : ℕ) → length (filled i) ≡ length out
-  filled-length i = length-sets (sets out h (kinds i)) (h + n) (in_turn g i) ∙ length-sets out h (kinds i)
+  pub filled_length : (i : ℕ) → length (filled i) ≡ length out
+  filled_length i = length-sets (sets out h (kinds i)) (h + n) (in_turn g i) ∙ length-sets out h (kinds i)
 
-  one-kind : (i : ℕ) → i < n → set (filled i) (h + i) (kind i) ≡ part (suc i) i
+  one_kind : (i : ℕ) → i < n → set (filled i) (h + i) (kind i) ≡ part (suc i) i
   unfolding in_turn
-  one-kind i l =
+  one_kind i l =
       set_before (sets out h (kinds i)) (h + n) (in_turn g i) (h + i) (kind i) (omega arith)
       ∙ ap (λ (m : List ℕ). sets m (h + n) (in_turn g i))
-      (ap (λ (k : ℕ). set (sets out h (kinds i)) (h + k) (kind i)) (sym (singles-length kind i))
-      ∙ sym (sets-append out h (kinds i) (kind i ∷ [])))
+      (ap (λ (k : ℕ). set (sets out h (kinds i)) (h + k) (kind i)) (sym (singles_length kind i))
+      ∙ sym (sets_append out h (kinds i) (kind i ∷ [])))
 
   -- one item more: its kind, then what it has behind
   pub filled_more : (i at x : ℕ) (now next : List ℕ) → now ≡ filled i → i < n → x ≡ kind i → at ≡ h + n + length (in_turn g i)
@@ -44,8 +44,8 @@ module _ (out : List ℕ) (h n : ℕ) (kind : ℕ → ℕ) (g : ℕ → List ℕ
   unfolding in_turn
   filled_more i at x now next e l q p r =
       r
-      ∙ rw (e, q, p) (ap (λ (m : List ℕ). sets m (h + n + length (in_turn g i)) (g i)) (one-kind i l))
-      ∙ sym (sets-append (sets out h (kinds (suc i))) (h + n) (in_turn g i) (g i))
+      ∙ rw (e, q, p) (ap (λ (m : List ℕ). sets m (h + n + length (in_turn g i)) (g i)) (one_kind i l))
+      ∙ sym (sets_append (sets out h (kinds (suc i))) (h + n) (in_turn g i) (g i))
       ∙ ap filled (sym (add-one i))
 
 -- a header, and the rest behind it
@@ -56,13 +56,13 @@ module _ (out head : List ℕ) (n : ℕ) (kind : ℕ → ℕ) (g : ℕ → List 
   abbrev whole : List ℕ
   whole = head ++ ks ++ in_turn g n
 
-  pub whole-file : length whole ≤ length out → filled (sets out 0 head) (length head) n kind g n ≡ whole ++ drop (length whole) out
-  whole-file h =
-      let e : length (head ++ ks) ≡ length head + n = length-append head ks ∙ ap (λ (k : ℕ). length head + k) (singles-length kind n) in
+  pub whole_file : length whole ≤ length out → filled (sets out 0 head) (length head) n kind g n ≡ whole ++ drop (length whole) out
+  whole_file h =
+      let e : length (head ++ ks) ≡ length head + n = length-append head ks ∙ ap (λ (k : ℕ). length head + k) (singles_length kind n) in
       let z : (k : ℕ) → 0 + k ≡ k = λ k. omega arith in
       ap (λ (k : ℕ). sets (sets (sets out 0 head) k ks) (length head + n) (in_turn g n)) (sym (z (length head)))
-      ∙ ap (λ (m : List ℕ). sets m (length head + n) (in_turn g n)) (sym (sets-append out 0 head ks))
+      ∙ ap (λ (m : List ℕ). sets m (length head + n) (in_turn g n)) (sym (sets_append out 0 head ks))
       ∙ ap (λ (k : ℕ). sets (sets out 0 (head ++ ks)) k (in_turn g n)) (sym (z (length (head ++ ks)) ∙ e))
-      ∙ sym (sets-append out 0 (head ++ ks) (in_turn g n))
+      ∙ sym (sets_append out 0 (head ++ ks) (in_turn g n))
       ∙ sets-eq whole out 0 (omega arith)
       ∙ ap (λ (k : ℕ). whole ++ drop k out) (z (length whole))

@@ -2,25 +2,25 @@
 -- nor byte order is judged. Document 01, Turned back for the state: a refusal has a number and a count of 0 and leaves the output; a success
 -- changes its own bytes alone.
 use Rattle.std.specs.Prelude.{List, [], ◌∷◌, ◌++◌, ℕ, ltb, length, drop}
-use Rattle.cell.specs.Refusals.{Ground, judge, after, refusalNumber}
+use Rattle.cell.specs.Refusals.{Ground, judge, after, refusal_number}
 use Rattle.cell.specs.declared.Refusal.TheVariants.{ShortOutput}
 use Rattle.cell.specs.declared.Judged.{Judged}
 use Rattle.cell.specs.declared.Judged.TheVariants as judged
-use Rattle.pack_layout.specs.File.{fileBase, filed, judgedFile}
-use Rattle.short_judging.specs.ShortFile.{shortBase, shortListing}
-use Rattle.short_judging.specs.Judging.{judgedShort}
+use Rattle.pack_layout.specs.File.{file_base, filed, judged_file}
+use Rattle.short_judging.specs.ShortFile.{short_base, short_listing}
+use Rattle.short_judging.specs.Judging.{judged_short}
 use Rattle.short_files.specs.declared.Converted.{Converted}
 use Rattle.short_files.specs.declared.Converted.TheVariants as converted
-use Rattle.short_files.specs.Files.{longFile, shortFile}
+use Rattle.short_files.specs.Files.{long_file, short_file}
 
 -- the number and the count of each answer: 0 and the bytes written, or the refusal's number and 0
-abbrev pub convertNumber : Converted → ℕ
-convertNumber (converted.Refused r) = refusalNumber r
-convertNumber (converted.Bytes n) = 0
+abbrev pub convert_number : Converted → ℕ
+convert_number (converted.Refused r) = refusal_number r
+convert_number (converted.Bytes n) = 0
 
-abbrev pub convertCount : Converted → ℕ
-convertCount (converted.Refused r) = 0
-convertCount (converted.Bytes n) = n
+abbrev pub convert_count : Converted → ℕ
+convert_count (converted.Refused r) = 0
+convert_count (converted.Bytes n) = n
 
 -- the output afterwards, and the answer
 pub record ConvertResult : Type 0 where
@@ -29,37 +29,37 @@ pub record ConvertResult : Type 0 where
   pub number : ℕ
   pub count : ℕ
 
-abbrev pub convertedTo : List ℕ → Converted → ConvertResult
-convertedTo out a = record { output = out; answer = a; number = convertNumber a; count = convertCount a }
+abbrev pub converted_to : List ℕ → Converted → ConvertResult
+converted_to out a = record { output = out; answer = a; number = convert_number a; count = convert_count a }
 
 -- -4105: an output of this size has no room for so many bytes
-abbrev pub noRoom : ℕ → ℕ → Ground
-noRoom bytes size = record { applies = ltb size bytes; refusal = ShortOutput }
+abbrev pub no_room : ℕ → ℕ → Ground
+no_room bytes size = record { applies = ltb size bytes; refusal = ShortOutput }
 
 -- the input list of a file, then the room for the file that it becomes
-abbrev pub judgeRoom : Judged → List ℕ → ℕ → Judged
-judgeRoom input file size = after input (judge (noRoom (length file) size ∷ []))
+abbrev pub judge_room : Judged → List ℕ → ℕ → Judged
+judge_room input file size = after input (judge (no_room (length file) size ∷ []))
 
 -- that file goes into the output's first bytes
-abbrev pub convertIf : Judged → List ℕ → List ℕ → ConvertResult
-convertIf (judged.Refused r) file out = convertedTo out (converted.Refused r)
-convertIf judged.Passed file out = convertedTo (file ++ drop (length file) out) (converted.Bytes (length file))
+abbrev pub convert_if : Judged → List ℕ → List ℕ → ConvertResult
+convert_if (judged.Refused r) file out = converted_to out (converted.Refused r)
+convert_if judged.Passed file out = converted_to (file ++ drop (length file) out) (converted.Bytes (length file))
 
 -- the short file of a listing file, and the listing file of a short one
 abbrev pub shortened : List ℕ → List ℕ
-shortened s = shortFile (filed s) (fileBase s)
+shortened s = short_file (filed s) (file_base s)
 
 abbrev pub lengthened : List ℕ → List ℕ
-lengthened s = longFile (shortListing s) (shortBase s)
+lengthened s = long_file (short_listing s) (short_base s)
 
-unfoldable pub judgeShorten : List ℕ → ℕ → Judged
-judgeShorten s size = judgeRoom (judgedFile s) (shortened s) size
+unfoldable pub judge_shorten : List ℕ → ℕ → Judged
+judge_shorten s size = judge_room (judged_file s) (shortened s) size
 
-unfoldable pub judgeLengthen : List ℕ → ℕ → Judged
-judgeLengthen s size = judgeRoom (judgedShort s) (lengthened s) size
+unfoldable pub judge_lengthen : List ℕ → ℕ → Judged
+judge_lengthen s size = judge_room (judged_short s) (lengthened s) size
 
-unfoldable pub shortenOf : List ℕ → List ℕ → ConvertResult
-shortenOf s out = convertIf (judgeShorten s (length out)) (shortened s) out
+unfoldable pub shorten_of : List ℕ → List ℕ → ConvertResult
+shorten_of s out = convert_if (judge_shorten s (length out)) (shortened s) out
 
-unfoldable pub lengthenOf : List ℕ → List ℕ → ConvertResult
-lengthenOf s out = convertIf (judgeLengthen s (length out)) (lengthened s) out
+unfoldable pub lengthen_of : List ℕ → List ℕ → ConvertResult
+lengthen_of s out = convert_if (judge_lengthen s (length out)) (lengthened s) out

@@ -1,34 +1,34 @@
 -- The two files of a listing at a base: document 01, Listings, and document 02, (l). All numbers stand least significant byte first.
 use Rattle.std.specs.Prelude.{List, [], ◌∷◌, ◌++◌, ℕ}
 use Rattle.cell.specs.Choice.{if}
-use Rattle.cell.specs.Memory.{cellBytes}
-use Rattle.pack_layout.specs.Kinds.{classOf}
+use Rattle.cell.specs.Memory.{cell_bytes}
+use Rattle.pack_layout.specs.Kinds.{class_of}
 use Rattle.pack_layout.specs.Listing.{Listing}
-use Rattle.short_judging.specs.Operands.{hasOperand, operandsBefore, in_turn}
+use Rattle.short_judging.specs.Operands.{has_operand, operands_before, in_turn}
 
-abbrev pub leastBytes : ℕ → List ℕ
-leastBytes x = cellBytes 0 x
+abbrev pub least_bytes : ℕ → List ℕ
+least_bytes x = cell_bytes 0 x
 
 -- what item i puts into a file: its kind, its operand, and its operand where a short file has one
-abbrev pub kindByte : Listing → ℕ → List ℕ
-kindByte l i = l.kind i ∷ []
+abbrev pub kind_byte : Listing → ℕ → List ℕ
+kind_byte l i = l.kind i ∷ []
 
-abbrev pub operandBytes : Listing → ℕ → List ℕ
-operandBytes l i = leastBytes (l.operand i)
+abbrev pub operand_bytes : Listing → ℕ → List ℕ
+operand_bytes l i = least_bytes (l.operand i)
 
-abbrev pub keptBytes : Listing → ℕ → List ℕ
-keptBytes l i = if (hasOperand (classOf (l.kind i))) (leastBytes (l.operand i)) []
+abbrev pub kept_bytes : Listing → ℕ → List ℕ
+kept_bytes l i = if (has_operand (class_of (l.kind i))) (least_bytes (l.operand i)) []
 
 -- n and base; n, m and base
 abbrev pub header : Listing → ℕ → List ℕ
-header l base = leastBytes l.count ++ leastBytes base
+header l base = least_bytes l.count ++ least_bytes base
 
-abbrev pub shortHeader : Listing → ℕ → List ℕ
-shortHeader l base = leastBytes l.count ++ leastBytes (operandsBefore l.kind l.count) ++ leastBytes base
+abbrev pub short_header : Listing → ℕ → List ℕ
+short_header l base = least_bytes l.count ++ least_bytes (operands_before l.kind l.count) ++ least_bytes base
 
 -- document 01's file, and the short one
-unfoldable pub longFile : Listing → ℕ → List ℕ
-longFile l base = header l base ++ in_turn (kindByte l) l.count ++ in_turn (operandBytes l) l.count
+unfoldable pub long_file : Listing → ℕ → List ℕ
+long_file l base = header l base ++ in_turn (kind_byte l) l.count ++ in_turn (operand_bytes l) l.count
 
-unfoldable pub shortFile : Listing → ℕ → List ℕ
-shortFile l base = shortHeader l base ++ in_turn (kindByte l) l.count ++ in_turn (keptBytes l) l.count
+unfoldable pub short_file : Listing → ℕ → List ℕ
+short_file l base = short_header l base ++ in_turn (kind_byte l) l.count ++ in_turn (kept_bytes l) l.count

@@ -14,92 +14,92 @@ use Rattle.cell.specs.declared.Refusal.TheVariants.{ItemCount, OperandCount}
 use Rattle.cell.specs.declared.Judged.{Judged}
 use Rattle.cell.specs.declared.Judged.TheVariants.{Passed, Refused}
 use Rattle.cell.proofs.BooleanLaws.{neither}
-use Rattle.cell.proofs.JudgementLaws.{both-pass, one-clear}
-use Rattle.pack_layout.specs.File.{fileCount, fileKinds, fileOperands, filed, judgedLength, judgedFile}
-use Rattle.pack_layout.specs.Grounds.{itemCount}
-use Rattle.pack_layout.specs.Listing.{judgedFrom, judgedArrays}
-use Rattle.pack_judging.proofs.Reading.{length-of}
+use Rattle.cell.proofs.JudgementLaws.{both_pass, one_clear}
+use Rattle.pack_layout.specs.File.{file_count, file_kinds, file_operands, filed, judged_length, judged_file}
+use Rattle.pack_layout.specs.Grounds.{item_count}
+use Rattle.pack_layout.specs.Listing.{judged_from, judged_arrays}
+use Rattle.pack_judging.proofs.Reading.{length_of}
 use Rattle.short_judging.specs.declared.Counted.{Counted}
 use Rattle.short_judging.specs.declared.Counted.TheVariants as counted
-use Rattle.short_judging.specs.Operands.{operandsBefore}
-use Rattle.short_judging.specs.ShortFile.{shortCount, operandCount, shortKind, shortListing}
-use Rattle.short_judging.specs.Judging.{judgedShort, keeping, keptCount, countedFile, otherCount}
-use Rattle.short_judging.proofs.Passes.{file-counted, counts-reached, same-passed}
+use Rattle.short_judging.specs.Operands.{operands_before}
+use Rattle.short_judging.specs.ShortFile.{short_count, operand_count, short_kind, short_listing}
+use Rattle.short_judging.specs.Judging.{judged_short, keeping, kept_count, counted_file, other_count}
+use Rattle.short_judging.proofs.Passes.{file_counted, counts_reached, same_passed}
 
 -- what the count of operands says of the judgement, and of the number
-abbrev toJudged : Counted → Judged
-toJudged (counted.Refused r) = Refused r
-toJudged (counted.Operands m) = Passed
+abbrev to_judged : Counted → Judged
+to_judged (counted.Refused r) = Refused r
+to_judged (counted.Operands m) = Passed
 
-abbrev countOr : ℕ → Counted → ℕ
-countOr d (counted.Refused r) = d
-countOr d (counted.Operands m) = m
+abbrev count_or : ℕ → Counted → ℕ
+count_or d (counted.Refused r) = d
+count_or d (counted.Operands m) = m
 
-keeping-judged : (j : Judged) (m : ℕ) (c : Counted) → keeping j m ≡ c → j ≡ toJudged c
-keeping-judged (Refused r) m c e = ap toJudged e
-keeping-judged Passed m c e = ap toJudged e
+keeping_judged : (j : Judged) (m : ℕ) (c : Counted) → keeping j m ≡ c → j ≡ to_judged c
+keeping_judged (Refused r) m c e = ap to_judged e
+keeping_judged Passed m c e = ap to_judged e
 
-keeping-count : (j : Judged) (m k : ℕ) → keeping j m ≡ counted.Operands k → m ≡ k
-keeping-count (Refused r) m k e = ap (countOr m) e
-keeping-count Passed m k e = ap (countOr m) e
+keeping_count : (j : Judged) (m k : ℕ) → keeping j m ≡ counted.Operands k → m ≡ k
+keeping_count (Refused r) m k e = ap (count_or m) e
+keeping_count Passed m k e = ap (count_or m) e
 
-module _ (s : List ℕ) (c : Counted) (e : c ≡ countedFile s) where
-  pub counted-refused : (r : Refusal) → c ≡ counted.Refused r → judgedFile s ≡ Refused r
-  unfolding countedFile
-  counted-refused r q = keeping-judged (judgedFile s) (keptCount s) (counted.Refused r) (sym e ∙ q)
+module _ (s : List ℕ) (c : Counted) (e : c ≡ counted_file s) where
+  pub counted_refused : (r : Refusal) → c ≡ counted.Refused r → judged_file s ≡ Refused r
+  unfolding counted_file
+  counted_refused r q = keeping_judged (judged_file s) (kept_count s) (counted.Refused r) (sym e ∙ q)
 
-  pub counted-passed : (m : ℕ) → c ≡ counted.Operands m → (judgedFile s ≡ Passed) × (keptCount s ≡ m)
-  unfolding countedFile
-  counted-passed m q =
-      (keeping-judged (judgedFile s) (keptCount s) (counted.Operands m) (sym e ∙ q), keeping-count (judgedFile s) (keptCount s) m (sym e ∙ q))
+  pub counted_passed : (m : ℕ) → c ≡ counted.Operands m → (judged_file s ≡ Passed) × (kept_count s ≡ m)
+  unfolding counted_file
+  counted_passed m q =
+      (keeping_judged (judged_file s) (kept_count s) (counted.Operands m) (sym e ∙ q), keeping_count (judged_file s) (kept_count s) m (sym e ∙ q))
 
 -- a count of items that is taken
-count-good : (n : ℕ) (j : Judged) → after (judge (itemCount n ∷ [])) j ≡ Passed → (n ≡ 0 → ⊥) × (n ≤ 4096) × (j ≡ Passed)
-count-good n j e =
-    let p = both-pass (judge (itemCount n ∷ [])) j e in
-    let q = neither (eqb n 0) (ltb 4096 n) (one-clear (itemCount n).applies ItemCount Passed p.0).0 in
+count_good : (n : ℕ) (j : Judged) → after (judge (item_count n ∷ [])) j ≡ Passed → (n ≡ 0 → ⊥) × (n ≤ 4096) × (j ≡ Passed)
+count_good n j e =
+    let p = both_pass (judge (item_count n ∷ [])) j e in
+    let q = neither (eqb n 0) (ltb 4096 n) (one_clear (item_count n).applies ItemCount Passed p.0).0 in
     (eqb-false n 0 q.0, ltb-false 4096 n q.1, p.1)
 
 -- a listing file that its input list does not refuse
 pub record GoodFile (s : List ℕ) : Type 0 where
-  pub whole : length s ≡ 8 + 5 * fileCount s
-  pub some : fileCount s ≡ 0 → ⊥
-  pub most : fileCount s ≤ 4096
-  pub items : judgedFrom (filed s) (fileCount s) 0 ≡ Passed
+  pub whole : length s ≡ 8 + 5 * file_count s
+  pub some : file_count s ≡ 0 → ⊥
+  pub most : file_count s ≤ 4096
+  pub items : judged_from (filed s) (file_count s) 0 ≡ Passed
 
-pub file-good : (s : List ℕ) → judgedFile s ≡ Passed → GoodFile s
-unfolding judgedFile
-file-good s e =
-    let l = (both-pass (judgedLength s) (judgedArrays (fileKinds s) (fileOperands s)) e).0 in
-    let p = count-good (fileCount s) _ (sym (file-counted s l) ∙ e) in
-    record { whole = length-of s l; some = p.0; most = p.1; items = p.2 }
+pub file_good : (s : List ℕ) → judged_file s ≡ Passed → GoodFile s
+unfolding judged_file
+file_good s e =
+    let l = (both_pass (judged_length s) (judged_arrays (file_kinds s) (file_operands s)) e).0 in
+    let p = count_good (file_count s) _ (sym (file_counted s l) ∙ e) in
+    record { whole = length_of s l; some = p.0; most = p.1; items = p.2 }
 
-pub good-file : (s : List ℕ) → GoodFile s → judgedFile s ≡ Passed
-good-file s g =
-    let n = fileCount s in
-    let l : judgedLength s ≡ Passed = rw (le-ltb (length s) 8 (omega (arith, g.whole)), eq-eqb (length s) (8 + 5 * n) g.whole) refl in
-    file-counted s l ∙ rw (ne_eqb n 0 g.some, le-ltb 4096 n g.most) g.items
+pub good_file : (s : List ℕ) → GoodFile s → judged_file s ≡ Passed
+good_file s g =
+    let n = file_count s in
+    let l : judged_length s ≡ Passed = rw (le-ltb (length s) 8 (omega (arith, g.whole)), eq-eqb (length s) (8 + 5 * n) g.whole) refl in
+    file_counted s l ∙ rw (ne_eqb n 0 g.some, le-ltb 4096 n g.most) g.items
 
 -- and a short file
 pub record GoodShort (s : List ℕ) : Type 0 where
-  pub whole : length s ≡ 12 + shortCount s + 4 * operandCount s
-  pub operands : operandCount s ≡ operandsBefore (shortKind s) (shortCount s)
-  pub some : shortCount s ≡ 0 → ⊥
-  pub most : shortCount s ≤ 4096
-  pub items : judgedFrom (shortListing s) (shortCount s) 0 ≡ Passed
+  pub whole : length s ≡ 12 + short_count s + 4 * operand_count s
+  pub operands : operand_count s ≡ operands_before (short_kind s) (short_count s)
+  pub some : short_count s ≡ 0 → ⊥
+  pub most : short_count s ≤ 4096
+  pub items : judged_from (short_listing s) (short_count s) 0 ≡ Passed
 
-pub short-good : (s : List ℕ) → judgedShort s ≡ Passed → GoodShort s
-unfolding judgedShort
-short-good s e =
-    let n = shortCount s in
-    let m = operandCount s in
-    let k = operandsBefore (shortKind s) n in
-    let p = both-pass _ (judgedFrom (shortListing s) n 0) e in
-    let q = one-clear (ltb (length s) 12) OperandCount _ p.0 in
-    let r = one-clear (itemCount n).applies ItemCount _ q.1 in
+pub short_good : (s : List ℕ) → judged_short s ≡ Passed → GoodShort s
+unfolding judged_short
+short_good s e =
+    let n = short_count s in
+    let m = operand_count s in
+    let k = operands_before (short_kind s) n in
+    let p = both_pass _ (judged_from (short_listing s) n 0) e in
+    let q = one_clear (ltb (length s) 12) OperandCount _ p.0 in
+    let r = one_clear (item_count n).applies ItemCount _ q.1 in
     let t = neither (eqb n 0) (ltb 4096 n) r.0 in
     let u = neither (not (eqb m k)) (not (eqb (length s) (12 + n + 4 * m)))
-    (one-clear (otherCount (length s) n m k).applies OperandCount Passed r.1).0 in
+    (one_clear (other_count (length s) n m k).applies OperandCount Passed r.1).0 in
     record {
       whole = eqb-true (length s) (12 + n + 4 * m) (not-false (eqb (length s) (12 + n + 4 * m)) u.1);
       operands = eqb-true m k (not-false (eqb m k) u.0);
@@ -108,9 +108,9 @@ short-good s e =
       items = p.1;
     }
 
-pub good-short : (s : List ℕ) → GoodShort s → judgedShort s ≡ Passed
-good-short s g =
-    let n = shortCount s in
-    let m = operandCount s in
-    let k = operandsBefore (shortKind s) n in
-    counts-reached s (omega (arith, g.whole)) g.some g.most ∙ same-passed (length s) n m k _ g.operands g.whole ∙ g.items
+pub good_short : (s : List ℕ) → GoodShort s → judged_short s ≡ Passed
+good_short s g =
+    let n = short_count s in
+    let m = operand_count s in
+    let k = operands_before (short_kind s) n in
+    counts_reached s (omega (arith, g.whole)) g.some g.most ∙ same_passed (length s) n m k _ g.operands g.whole ∙ g.items

@@ -5,31 +5,31 @@ use Rattle.cell.specs.Refusals.{Ground, judge, after}
 use Rattle.cell.specs.declared.Refusal.TheVariants.{OperandCount}
 use Rattle.cell.specs.declared.Judged.{Judged}
 use Rattle.cell.specs.declared.Judged.TheVariants as judged
-use Rattle.pack_layout.specs.Grounds.{itemCount}
-use Rattle.pack_layout.specs.File.{fileCount, filed, judgedFile}
-use Rattle.pack_layout.specs.Listing.{judgedFrom}
+use Rattle.pack_layout.specs.Grounds.{item_count}
+use Rattle.pack_layout.specs.File.{file_count, filed, judged_file}
+use Rattle.pack_layout.specs.Listing.{judged_from}
 use Rattle.short_judging.specs.declared.Counted.{Counted}
 use Rattle.short_judging.specs.declared.Counted.TheVariants as counted
-use Rattle.short_judging.specs.Operands.{operandsBefore}
-use Rattle.short_judging.specs.ShortFile.{shortCount, operandCount, shortKind, shortListing}
+use Rattle.short_judging.specs.Operands.{operands_before}
+use Rattle.short_judging.specs.ShortFile.{short_count, operand_count, short_kind, short_listing}
 
 -- -4119: a file of this size ends inside its header
-abbrev pub cutHeader : ℕ → Ground
-cutHeader size = record { applies = ltb size 12; refusal = OperandCount }
+abbrev pub cut_header : ℕ → Ground
+cut_header size = record { applies = ltb size 12; refusal = OperandCount }
 
 -- -4119: m is not the k operands that the kinds have, or the size is not that of header, n kinds and m operands
-abbrev pub otherCount : ℕ → ℕ → ℕ → ℕ → Ground
-otherCount size n m k =
+abbrev pub other_count : ℕ → ℕ → ℕ → ℕ → Ground
+other_count size n m k =
     record { applies = not (eqb m k) || not (eqb size (12 + n + 4 * m)); refusal = OperandCount }
 
-abbrev pub judgedCounts : List ℕ → Judged
-judgedCounts s =
-    let n = shortCount s in
-    judge (cutHeader (length s) ∷ itemCount n ∷ otherCount (length s) n (operandCount s) (operandsBefore (shortKind s) n) ∷ [])
+abbrev pub judged_counts : List ℕ → Judged
+judged_counts s =
+    let n = short_count s in
+    judge (cut_header (length s) ∷ item_count n ∷ other_count (length s) n (operand_count s) (operands_before (short_kind s) n) ∷ [])
 
 -- the input list of a short file
-unfoldable pub judgedShort : List ℕ → Judged
-judgedShort s = after (judgedCounts s) (judgedFrom (shortListing s) (shortCount s) 0)
+unfoldable pub judged_short : List ℕ → Judged
+judged_short s = after (judged_counts s) (judged_from (short_listing s) (short_count s) 0)
 
 -- what a listing file is judged on the way to a short one: refused, or the operands that it keeps
 abbrev pub keeping : Judged → ℕ → Counted
@@ -37,8 +37,8 @@ keeping (judged.Refused r) m = counted.Refused r
 keeping judged.Passed m = counted.Operands m
 
 -- the operands that the short file of a listing file has
-abbrev pub keptCount : List ℕ → ℕ
-keptCount s = operandsBefore (filed s).kind (fileCount s)
+abbrev pub kept_count : List ℕ → ℕ
+kept_count s = operands_before (filed s).kind (file_count s)
 
-unfoldable pub countedFile : List ℕ → Counted
-countedFile s = keeping (judgedFile s) (keptCount s)
+unfoldable pub counted_file : List ℕ → Counted
+counted_file s = keeping (judged_file s) (kept_count s)

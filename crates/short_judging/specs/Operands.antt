@@ -3,19 +3,19 @@ use Rattle.std.specs.Prelude.{Bool, true, false, List, [], ◌++◌, ℕ, zero, 
 use Rattle.pack_layout.specs.declared.Class.{Class}
 use Rattle.pack_layout.specs.declared.Class.TheVariants.{Plain, Literal, Branch, NoKind}
 use Rattle.pack_layout.specs.Flags.{bit}
-use Rattle.pack_layout.specs.Kinds.{classOf}
+use Rattle.pack_layout.specs.Kinds.{class_of}
 
 -- a byte that is no kind counts for no operand
-abbrev pub hasOperand : Class → Bool
-hasOperand Plain = false
-hasOperand Literal = true
-hasOperand Branch = true
-hasOperand NoKind = false
+abbrev pub has_operand : Class → Bool
+has_operand Plain = false
+has_operand Literal = true
+has_operand Branch = true
+has_operand NoKind = false
 
 -- the operands of the items in front of item i
-unfoldable pub operandsBefore : (ℕ → ℕ) → ℕ → ℕ
-operandsBefore kind zero = 0
-operandsBefore kind (suc i) = operandsBefore kind i + bit (hasOperand (classOf (kind i)))
+unfoldable pub operands_before : (ℕ → ℕ) → ℕ → ℕ
+operands_before kind zero = 0
+operands_before kind (suc i) = operands_before kind i + bit (has_operand (class_of (kind i)))
 
 -- what each of the first n items gives, in turn
 unfoldable pub in_turn : (ℕ → List ℕ) → ℕ → List ℕ

@@ -1,8 +1,8 @@
 // A listing file on the way to a short one.
 ghost use Rattle.std.specs.Prelude.{◌≡◌, ◌+◌, ◌*◌, ◌≤◌, length};
-ghost use Rattle.pack_layout.specs.File.{fileCount, filed};
-ghost use Rattle.pack_layout.specs.Listing.{judgedFrom};
-ghost use Rattle.short_judging.specs.Judging.{keeping, keptCount, countedFile};
+ghost use Rattle.pack_layout.specs.File.{file_count, filed};
+ghost use Rattle.pack_layout.specs.Listing.{judged_from};
+ghost use Rattle.short_judging.specs.Judging.{keeping, kept_count, counted_file};
 
 use crate::Counted;
 use crate::operands::operands_of;
@@ -23,8 +23,8 @@ fn keep(j: Judged, m: u32) -> Counted
 
 // Every item, lowest first, and the operands that are kept.
 fn count_items(file: &[u8], n: usize) -> Counted
-    requires { (n ≡ fileCount file.now) × (n ≤ 4096) × (length file.now ≡ 8 + 5 * n) }
-    ensures { result ≡ keeping (judgedFrom (filed file.now) n 0) (keptCount file.now) }
+    requires { (n ≡ file_count file.now) × (n ≤ 4096) × (length file.now ≡ 8 + 5 * n) }
+    ensures { result ≡ keeping (judged_from (filed file.now) n 0) (kept_count file.now) }
 {
     let mut m: u32 = 0;
     let mut i: usize = 0;
@@ -42,7 +42,7 @@ fn count_items(file: &[u8], n: usize) -> Counted
 
 // A listing file by its input list.
 pub fn count_operands(file: &[u8]) -> Counted
-    ensures { result ≡ countedFile file.now }
+    ensures { result ≡ counted_file file.now }
 {
     match judge_length(file) {
         Judged::Refused(r) => Counted::Refused(r),

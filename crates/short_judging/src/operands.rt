@@ -2,15 +2,15 @@
 ghost use Rattle.std.specs.Prelude.{◌≡◌, ◌+◌, ◌*◌, ◌≤◌, length};
 ghost use Rattle.cell.specs.Choice.{if};
 ghost use Rattle.pack_layout.specs.Flags.{bit};
-ghost use Rattle.pack_layout.specs.File.{leastFirst};
-ghost use Rattle.short_judging.specs.Operands.{hasOperand};
+ghost use Rattle.pack_layout.specs.File.{least_first};
+ghost use Rattle.short_judging.specs.Operands.{has_operand};
 
 use pack_judging::file::cell_at;
 use pack_layout::Class;
 
 // 1 where an item of this class has an operand, else 0.
 pub fn operands_of(c: Class) -> u32
-    ensures { result ≡ bit (hasOperand c) }
+    ensures { result ≡ bit (has_operand c) }
 {
     match c {
         Class::Plain => 0,
@@ -22,8 +22,8 @@ pub fn operands_of(c: Class) -> u32
 
 // The operand of an item of this class, if it has one, stands at a position of the file.
 pub fn operand_at(file: &[u8], c: Class, at: usize) -> u32
-    requires { at + 4 * bit (hasOperand c) ≤ length file.now }
-    ensures { result ≡ if (hasOperand c) (leastFirst file.now at) 0 }
+    requires { at + 4 * bit (has_operand c) ≤ length file.now }
+    ensures { result ≡ if (has_operand c) (least_first file.now at) 0 }
 {
     match c {
         Class::Plain => 0,

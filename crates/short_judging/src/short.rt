@@ -1,10 +1,10 @@
 // A short file by its input list.
 ghost use Rattle.std.specs.Prelude.{◌≡◌, [], ◌∷◌, ◌+◌, ◌*◌, ◌≤◌, length};
 ghost use Rattle.cell.specs.Refusals as refusals;
-ghost use Rattle.pack_layout.specs.Listing.{judgedFrom};
-ghost use Rattle.short_judging.specs.Operands.{operandsBefore};
-ghost use Rattle.short_judging.specs.ShortFile.{shortCount, operandCount, shortKind, shortListing};
-ghost use Rattle.short_judging.specs.Judging.{otherCount, judgedShort};
+ghost use Rattle.pack_layout.specs.Listing.{judged_from};
+ghost use Rattle.short_judging.specs.Operands.{operands_before};
+ghost use Rattle.short_judging.specs.ShortFile.{short_count, operand_count, short_kind, short_listing};
+ghost use Rattle.short_judging.specs.Judging.{other_count, judged_short};
 
 use crate::operands::{operand_at, operands_of};
 use cell::{Judged, Refusal};
@@ -25,9 +25,9 @@ fn after(a: Judged, b: Judged) -> Judged
 
 // Every item, lowest first. More operands than m, or fewer, refuse the file whatever its items are.
 fn judge_items(file: &[u8], n: usize, m: usize) -> Judged
-    requires n_value { (n ≡ shortCount file.now) × (m ≡ operandCount file.now) }
+    requires n_value { (n ≡ short_count file.now) × (m ≡ operand_count file.now) }
     requires n_bound { (n ≤ 4096) × (length file.now ≡ 12 + n + 4 * m) }
-    ensures { result ≡ refusals.after (refusals.judge (otherCount (length file.now) n m (operandsBefore (shortKind file.now) n) ∷ [])) (judgedFrom (shortListing file.now) n 0) }
+    ensures { result ≡ refusals.after (refusals.judge (other_count (length file.now) n m (operands_before (short_kind file.now) n) ∷ [])) (judged_from (short_listing file.now) n 0) }
 {
     let mut first = Judged::Passed;
     let mut k: usize = 0;
@@ -50,7 +50,7 @@ fn judge_items(file: &[u8], n: usize, m: usize) -> Judged
 }
 
 pub fn judge_short(file: &[u8]) -> Judged
-    ensures { result ≡ judgedShort file.now }
+    ensures { result ≡ judged_short file.now }
 {
     let size = file.len();
     if size < 12 {

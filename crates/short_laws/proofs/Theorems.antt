@@ -12,200 +12,200 @@ use Rattle.cell.specs.Memory.{Bytewise}
 use Rattle.cell.specs.Refusals.{judge}
 use Rattle.cell.specs.declared.Judged.{Judged}
 use Rattle.cell.specs.declared.Judged.TheVariants.{Passed, Refused}
-use Rattle.cell.proofs.JudgementLaws.{both-pass, refusal-some}
+use Rattle.cell.proofs.JudgementLaws.{both_pass, refusal_some}
 use Rattle.cell.proofs.MemoryLaws.{cell_below}
 use Rattle.pack_layout.specs.declared.Class.{Class}
 use Rattle.pack_layout.specs.declared.Class.TheVariants as class
-use Rattle.pack_layout.specs.File.{fileCount, fileBase, fileKinds, fileOperands, filed, judgedLength, judgedFile}
+use Rattle.pack_layout.specs.File.{file_count, file_base, file_kinds, file_operands, filed, judged_length, judged_file}
 use Rattle.pack_layout.specs.Grounds.{unequal}
-use Rattle.pack_layout.specs.Kinds.{classOf}
-use Rattle.pack_layout.specs.Listing.{Listing, listed, judgedFrom, judgedArrays, judgedListing}
-use Rattle.pack_layout.proofs.Listing.{plain-operand, is-kind}
-use Rattle.pack_refusals.specs.Judgement.{judgeAll}
-use Rattle.packer.specs.Pack.{PackResult, packIf}
-use Rattle.pack_files.specs.Files.{judgePackFile, packFileOf}
-use Rattle.short_judging.specs.Operands.{hasOperand, operandsBefore}
-use Rattle.short_judging.specs.ShortFile.{shortCount, shortBase, shortKinds, shortKind, shortOperands, shortListing}
-use Rattle.short_judging.specs.Judging.{judgedShort}
-use Rattle.short_judging.proofs.Parts.{file-count, file-operand, file-operands, short-operands, short-cells, short-count as short-kinds-length}
-use Rattle.short_judging.proofs.Passing.{GoodFile, file-good, good-file, GoodShort, short-good, good-short}
-use Rattle.short_files.specs.Files.{longFile, shortFile}
-use Rattle.short_files.specs.Converted.{convertIf, judgeRoom, shortened, lengthened, judgeShorten, judgeLengthen, shortenOf, lengthenOf}
-use Rattle.short_files.proofs.Lengths.{long-length, short-length}
-use Rattle.short_packing.specs.Packing.{judgePackShort, packShortOf}
-use Rattle.short_laws.specs.Claims.{fileOf, wrote, ThereAndBack, BackAndThere, Twins, byShorten, byLengthen, Alike, OneListing, OneImage}
-use Rattle.short_laws.proofs.Reading.{Arrays, long-count, long-base, long-kinds, long-operands, short-count, short-operand-count, short-base, short-kinds, short-operands-back}
-use Rattle.short_laws.proofs.Writing.{long-again, short-again}
+use Rattle.pack_layout.specs.Kinds.{class_of}
+use Rattle.pack_layout.specs.Listing.{Listing, listed, judged_from, judged_arrays, judged_listing}
+use Rattle.pack_layout.proofs.Listing.{plain_operand_lem, is_kind_lem}
+use Rattle.pack_refusals.specs.Judgement.{judge_all}
+use Rattle.packer.specs.Pack.{PackResult, pack_if}
+use Rattle.pack_files.specs.Files.{judge_pack_file, pack_file_of}
+use Rattle.short_judging.specs.Operands.{has_operand, operands_before}
+use Rattle.short_judging.specs.ShortFile.{short_count, short_base, short_kinds, short_kind, short_operands, short_listing}
+use Rattle.short_judging.specs.Judging.{judged_short}
+use Rattle.short_judging.proofs.Parts.{file_count_lem, file_operand, file_operands_lem, short_operands_lem, short_cells, short_count_lem as short-kinds-length}
+use Rattle.short_judging.proofs.Passing.{GoodFile, file_good, good_file, GoodShort, short_good, good_short}
+use Rattle.short_files.specs.Files.{long_file, short_file}
+use Rattle.short_files.specs.Converted.{convert_if, judge_room, shortened, lengthened, judge_shorten, judge_lengthen, shorten_of, lengthen_of}
+use Rattle.short_files.proofs.Lengths.{long_length, short_length}
+use Rattle.short_packing.specs.Packing.{judge_pack_short, pack_short_of}
+use Rattle.short_laws.specs.Claims.{file_of, wrote, ThereAndBack, BackAndThere, Twins, by_shorten, by_lengthen, Alike, OneListing, OneImage}
+use Rattle.short_laws.proofs.Reading.{Arrays, long_count, long_base, long_kinds, long_operands, short_count_lem, short_operand_count, short_base_lem, short_kinds_lem, short_operands_back}
+use Rattle.short_laws.proofs.Writing.{long_again, short_again}
 
 -- a conversion that answered 0
-wrote-file : (j : Judged) (file out : List ℕ) → (convertIf j file out).number ≡ 0 → (j ≡ Passed) × (fileOf (convertIf j file out) ≡ file)
-wrote-file (Refused r) file out e = absurd (refusal-some r e)
-wrote-file Passed file out e = (refl, take_at file (drop (length file) out) (length file) refl)
+wrote_file : (j : Judged) (file out : List ℕ) → (convert_if j file out).number ≡ 0 → (j ≡ Passed) × (file_of (convert_if j file out) ≡ file)
+wrote_file (Refused r) file out e = absurd (refusal_some r e)
+wrote_file Passed file out e = (refl, take_at file (drop (length file) out) (length file) refl)
 
 -- a conversion that has to answer 0
 converts : (input : Judged) (file same room : List ℕ) → input ≡ Passed → file ≡ same → length same ≤ length room
-    → convertIf (judgeRoom input file (length room)) file room ≡ wrote same room
+    → convert_if (judge_room input file (length room)) file room ≡ wrote same room
 converts input file same room e q h = rw (e, q, le-ltb (length room) (length same) h) refl
 
 -- arrays that are the same are one listing
-alike-listing : (file short : List ℕ) → Alike file short → shortListing short ≡ filed file
-alike-listing file short a = ap (λ (k : List ℕ). listed k (shortOperands short)) a.kinds ∙ ap (listed (fileKinds file)) a.operands
+alike_listing : (file short : List ℕ) → Alike file short → short_listing short ≡ filed file
+alike_listing file short a = ap (λ (k : List ℕ). listed k (short_operands short)) a.kinds ∙ ap (listed (file_kinds file)) a.operands
 
 -- a listing file that is taken, and its short file
-module _ (s : List ℕ) (low : Bytewise s) (ok : judgedFile s ≡ Passed) where
+module _ (s : List ℕ) (low : Bytewise s) (ok : judged_file s ≡ Passed) where
   abbrev good : GoodFile s
-  good = file-good s ok
+  good = file_good s ok
 
-  count-is : length (fileKinds s) ≡ fileCount s
-  count-is = file-count s (omega (arith, good.whole))
+  count_is : length (file_kinds s) ≡ file_count s
+  count_is = file_count_lem s (omega (arith, good.whole))
 
-  arrays : Arrays (fileKinds s) (fileOperands s) (fileBase s)
+  arrays : Arrays (file_kinds s) (file_operands s) (file_base s)
   arrays =
       record {
-        equal = file-operands s ∙ sym count-is;
-        most = omega (arith, count-is, good.most);
-        cells = λ i h. rw (file-operand s i (omega (arith, count-is))) (cell_below 0 s (8 + fileCount s + 4 * i) low);
-        base-cell = cell_below 0 s 4 low;
+        equal = file_operands_lem s ∙ sym count_is;
+        most = omega (arith, count_is, good.most);
+        cells = λ i h. rw (file_operand s i (omega (arith, count_is))) (cell_below 0 s (8 + file_count s + 4 * i) low);
+        base_cell = cell_below 0 s 4 low;
       }
 
-  listing-ok : judgedListing (filed s) ≡ Passed
-  unfolding judgedFile judgedArrays
-  listing-ok =
-      (both-pass (judge (unequal (length (fileKinds s)) (length (fileOperands s)) ∷ [])) (judgedListing (filed s))
-      (both-pass (judgedLength s) (judgedArrays (fileKinds s) (fileOperands s)) ok).1
+  listing_ok : judged_listing (filed s) ≡ Passed
+  unfolding judged_file judged_arrays
+  listing_ok =
+      (both_pass (judge (unequal (length (file_kinds s)) (length (file_operands s)) ∷ [])) (judged_listing (filed s))
+      (both_pass (judged_length s) (judged_arrays (file_kinds s) (file_operands s)) ok).1
       ).1
 
-  plain-zero : (i : ℕ) → i < length (fileKinds s) → hasOperand (classOf (get_or (fileKinds s) i 0)) ≡ false → get_or (fileOperands s) i 0 ≡ 0
-  plain-zero i h e = go (classOf (get_or (fileKinds s) i 0)) refl e
+  plain_zero : (i : ℕ) → i < length (file_kinds s) → has_operand (class_of (get_or (file_kinds s) i 0)) ≡ false → get_or (file_operands s) i 0 ≡ 0
+  plain_zero i h e = go (class_of (get_or (file_kinds s) i 0)) refl e
     where
-      go : (c : Class) → classOf (get_or (fileKinds s) i 0) ≡ c → hasOperand c ≡ false → get_or (fileOperands s) i 0 ≡ 0
-      go class.Plain q r = plain-operand (filed s) listing-ok i h q
+      go : (c : Class) → class_of (get_or (file_kinds s) i 0) ≡ c → has_operand c ≡ false → get_or (file_operands s) i 0 ≡ 0
+      go class.Plain q r = plain_operand_lem (filed s) listing_ok i h q
       go class.Literal q r = cc
       go class.Branch q r = cc
-      go class.NoKind q r = absurd (is-kind (filed s) listing-ok i h q)
+      go class.NoKind q r = absurd (is_kind_lem (filed s) listing_ok i h q)
 
-  pub shortened-alike : Alike s (shortened s)
-  shortened-alike =
+  pub shortened_alike : Alike s (shortened s)
+  shortened_alike =
       record {
-        kinds = short-kinds (fileKinds s) (fileOperands s) (fileBase s) arrays;
-        operands = short-operands-back (fileKinds s) (fileOperands s) (fileBase s) arrays plain-zero;
-        base = short-base (fileKinds s) (fileOperands s) (fileBase s) arrays;
+        kinds = short_kinds_lem (file_kinds s) (file_operands s) (file_base s) arrays;
+        operands = short_operands_back (file_kinds s) (file_operands s) (file_base s) arrays plain_zero;
+        base = short_base_lem (file_kinds s) (file_operands s) (file_base s) arrays;
       }
 
-  shortened-listing : shortListing (shortened s) ≡ filed s
-  shortened-listing = alike-listing s (shortened s) shortened-alike
+  shortened_listing : short_listing (shortened s) ≡ filed s
+  shortened_listing = alike_listing s (shortened s) shortened_alike
 
-  pub shortened-ok : judgedShort (shortened s) ≡ Passed
-  shortened-ok =
-      let n = short-count (fileKinds s) (fileOperands s) (fileBase s) arrays in
-      let m = short-operand-count (fileKinds s) (fileOperands s) (fileBase s) arrays in
-      let k : (i : ℕ) → operandsBefore (shortKind (shortened s)) i ≡ operandsBefore (filed s).kind i = λ i. ap (λ (x : Listing). operandsBefore x.kind i) shortened-listing in
-      good-short (shortened s)
+  pub shortened_ok : judged_short (shortened s) ≡ Passed
+  shortened_ok =
+      let n = short_count_lem (file_kinds s) (file_operands s) (file_base s) arrays in
+      let m = short_operand_count (file_kinds s) (file_operands s) (file_base s) arrays in
+      let k : (i : ℕ) → operands_before (short_kind (shortened s)) i ≡ operands_before (filed s).kind i = λ i. ap (λ (x : Listing). operands_before x.kind i) shortened_listing in
+      good_short (shortened s)
       (record {
-        whole = short-length (filed s) (fileBase s) ∙ omega (arith, n, m);
-        operands = m ∙ sym (k (shortCount (shortened s)) ∙ ap (operandsBefore (filed s).kind) n);
-        some = λ z. good.some (sym (n ∙ count-is) ∙ z);
-        most = omega (arith, n, count-is, good.most);
-        items = ap (λ (x : Listing). judgedFrom x (shortCount (shortened s)) 0) shortened-listing ∙ ap (λ (i : ℕ). judgedFrom (filed s) i 0) (n ∙ count-is) ∙ good.items;
+        whole = short_length (filed s) (file_base s) ∙ omega (arith, n, m);
+        operands = m ∙ sym (k (short_count (shortened s)) ∙ ap (operands_before (filed s).kind) n);
+        some = λ z. good.some (sym (n ∙ count_is) ∙ z);
+        most = omega (arith, n, count_is, good.most);
+        items = ap (λ (x : Listing). judged_from x (short_count (shortened s)) 0) shortened_listing ∙ ap (λ (i : ℕ). judged_from (filed s) i 0) (n ∙ count_is) ∙ good.items;
       })
 
-  pub shortened-back : lengthened (shortened s) ≡ s
-  shortened-back =
-      ap (λ (x : Listing). longFile x (shortBase (shortened s))) shortened-listing ∙ ap (longFile (filed s)) shortened-alike.base ∙ long-again s low good
+  pub shortened_back : lengthened (shortened s) ≡ s
+  shortened_back =
+      ap (λ (x : Listing). long_file x (short_base (shortened s))) shortened_listing ∙ ap (long_file (filed s)) shortened_alike.base ∙ long_again s low good
 
 -- a short file that is taken, and its listing file
-module _ (s : List ℕ) (low : Bytewise s) (ok : judgedShort s ≡ Passed) where
+module _ (s : List ℕ) (low : Bytewise s) (ok : judged_short s ≡ Passed) where
   abbrev fine : GoodShort s
-  fine = short-good s ok
+  fine = short_good s ok
 
-  short-count-is : length (shortKinds s) ≡ shortCount s
-  short-count-is = short-kinds-length s (omega (arith, fine.whole))
+  short_count_is : length (short_kinds s) ≡ short_count s
+  short_count_is = short-kinds-length s (omega (arith, fine.whole))
 
-  short-arrays : Arrays (shortKinds s) (shortOperands s) (shortBase s)
-  short-arrays =
+  short_arrays_lem : Arrays (short_kinds s) (short_operands s) (short_base s)
+  short_arrays_lem =
       record {
-        equal = short-operands s;
-        most = omega (arith, short-count-is, fine.most);
-        cells = λ i h. short-cells s low i (omega (arith, short-operands s));
-        base-cell = cell_below 0 s 8 low;
+        equal = short_operands_lem s;
+        most = omega (arith, short_count_is, fine.most);
+        cells = λ i h. short_cells s low i (omega (arith, short_operands_lem s));
+        base_cell = cell_below 0 s 8 low;
       }
 
-  pub lengthened-alike : Alike (lengthened s) s
-  lengthened-alike =
+  pub lengthened_alike : Alike (lengthened s) s
+  lengthened_alike =
       record {
-        kinds = sym (long-kinds (shortKinds s) (shortOperands s) (shortBase s) short-arrays);
-        operands = sym (long-operands (shortKinds s) (shortOperands s) (shortBase s) short-arrays);
-        base = sym (long-base (shortKinds s) (shortOperands s) (shortBase s) short-arrays);
+        kinds = sym (long_kinds (short_kinds s) (short_operands s) (short_base s) short_arrays_lem);
+        operands = sym (long_operands (short_kinds s) (short_operands s) (short_base s) short_arrays_lem);
+        base = sym (long_base (short_kinds s) (short_operands s) (short_base s) short_arrays_lem);
       }
 
-  lengthened-listing : filed (lengthened s) ≡ shortListing s
-  lengthened-listing = sym (alike-listing (lengthened s) s lengthened-alike)
+  lengthened_listing : filed (lengthened s) ≡ short_listing s
+  lengthened_listing = sym (alike_listing (lengthened s) s lengthened_alike)
 
-  pub lengthened-ok : judgedFile (lengthened s) ≡ Passed
-  lengthened-ok =
-      let n = long-count (shortKinds s) (shortOperands s) (shortBase s) short-arrays in
-      good-file (lengthened s)
+  pub lengthened_ok : judged_file (lengthened s) ≡ Passed
+  lengthened_ok =
+      let n = long_count (short_kinds s) (short_operands s) (short_base s) short_arrays_lem in
+      good_file (lengthened s)
       (record {
-        whole = long-length (shortListing s) (shortBase s) ∙ omega (arith, n);
-        some = λ z. fine.some (sym (n ∙ short-count-is) ∙ z);
-        most = omega (arith, n, short-count-is, fine.most);
-        items = ap (λ (x : Listing). judgedFrom x (fileCount (lengthened s)) 0) lengthened-listing ∙ ap (λ (i : ℕ). judgedFrom (shortListing s) i 0) (n ∙ short-count-is) ∙ fine.items;
+        whole = long_length (short_listing s) (short_base s) ∙ omega (arith, n);
+        some = λ z. fine.some (sym (n ∙ short_count_is) ∙ z);
+        most = omega (arith, n, short_count_is, fine.most);
+        items = ap (λ (x : Listing). judged_from x (file_count (lengthened s)) 0) lengthened_listing ∙ ap (λ (i : ℕ). judged_from (short_listing s) i 0) (n ∙ short_count_is) ∙ fine.items;
       })
 
-  pub lengthened-back : shortened (lengthened s) ≡ s
-  lengthened-back =
-      ap (λ (x : Listing). shortFile x (fileBase (lengthened s))) lengthened-listing ∙ ap (shortFile (shortListing s)) (sym lengthened-alike.base) ∙ short-again s low fine
+  pub lengthened_back : shortened (lengthened s) ≡ s
+  lengthened_back =
+      ap (λ (x : Listing). short_file x (file_base (lengthened s))) lengthened_listing ∙ ap (short_file (short_listing s)) (sym lengthened_alike.base) ∙ short_again s low fine
 
 -- what was taken, and what was written
 module _ (s out : List ℕ) where
-  shorten-took : (shortenOf s out).number ≡ 0 → (judgedFile s ≡ Passed) × (fileOf (shortenOf s out) ≡ shortened s)
-  unfolding shortenOf judgeShorten
-  shorten-took e =
-      let p = wrote-file (judgeShorten s (length out)) (shortened s) out e in
-      ((both-pass (judgedFile s) _ p.0).0, p.1)
+  shorten_took : (shorten_of s out).number ≡ 0 → (judged_file s ≡ Passed) × (file_of (shorten_of s out) ≡ shortened s)
+  unfolding shorten_of judge_shorten
+  shorten_took e =
+      let p = wrote_file (judge_shorten s (length out)) (shortened s) out e in
+      ((both_pass (judged_file s) _ p.0).0, p.1)
 
-  lengthen-took : (lengthenOf s out).number ≡ 0 → (judgedShort s ≡ Passed) × (fileOf (lengthenOf s out) ≡ lengthened s)
-  unfolding lengthenOf judgeLengthen
-  lengthen-took e =
-      let p = wrote-file (judgeLengthen s (length out)) (lengthened s) out e in
-      ((both-pass (judgedShort s) _ p.0).0, p.1)
+  lengthen_took : (lengthen_of s out).number ≡ 0 → (judged_short s ≡ Passed) × (file_of (lengthen_of s out) ≡ lengthened s)
+  unfolding lengthen_of judge_lengthen
+  lengthen_took e =
+      let p = wrote_file (judge_lengthen s (length out)) (lengthened s) out e in
+      ((both_pass (judged_short s) _ p.0).0, p.1)
 
 pub there_and_back : ThereAndBack
-unfolding lengthenOf judgeLengthen
+unfolding lengthen_of judge_lengthen
 there_and_back file out room low e h =
-    let p = shorten-took file out e in
-    rw p.1 (converts (judgedShort (shortened file)) (lengthened (shortened file)) file room (shortened-ok file low p.0) (shortened-back file low p.0) h)
+    let p = shorten_took file out e in
+    rw p.1 (converts (judged_short (shortened file)) (lengthened (shortened file)) file room (shortened_ok file low p.0) (shortened_back file low p.0) h)
 
-pub back-and-there : BackAndThere
-unfolding shortenOf judgeShorten
-back-and-there file out room low e h =
-    let p = lengthen-took file out e in
-    rw p.1 (converts (judgedFile (lengthened file)) (shortened (lengthened file)) file room (lengthened-ok file low p.0) (lengthened-back file low p.0) h)
+pub back_and_there : BackAndThere
+unfolding shorten_of judge_shorten
+back_and_there file out room low e h =
+    let p = lengthen_took file out e in
+    rw p.1 (converts (judged_file (lengthened file)) (shortened (lengthened file)) file room (lengthened_ok file low p.0) (lengthened_back file low p.0) h)
 
 -- twins are both taken, and alike
-both-taken : (file short : List ℕ) → Twins file short → (judgedFile file ≡ Passed) × (judgedShort short ≡ Passed) × Alike file short
-both-taken _ _ (byShorten file out low e) =
-    let p = shorten-took file out e in
-    rw p.1 (p.0, shortened-ok file low p.0, shortened-alike file low p.0)
-both-taken _ _ (byLengthen short out low e) =
-    let p = lengthen-took short out e in
-    rw p.1 (lengthened-ok short low p.0, p.0, lengthened-alike short low p.0)
+both_taken : (file short : List ℕ) → Twins file short → (judged_file file ≡ Passed) × (judged_short short ≡ Passed) × Alike file short
+both_taken _ _ (by_shorten file out low e) =
+    let p = shorten_took file out e in
+    rw p.1 (p.0, shortened_ok file low p.0, shortened_alike file low p.0)
+both_taken _ _ (by_lengthen short out low e) =
+    let p = lengthen_took short out e in
+    rw p.1 (lengthened_ok short low p.0, p.0, lengthened_alike short low p.0)
 
-pub one-listing : OneListing
-one-listing file short t = (both-taken file short t).2
+pub one_listing : OneListing
+one_listing file short t = (both_taken file short t).2
 
 -- a packing depends on the judgement of its input, the base and the listing
 module _ (order : ℕ) (out : List ℕ) where
   abbrev packing : Judged → ℕ → Listing → PackResult
-  packing j base l = packIf (judgeAll order j base l (length out)) order base l out
+  packing j base l = pack_if (judge_all order j base l (length out)) order base l out
 
-  one-packing : (file short : List ℕ) → judgedFile file ≡ Passed → judgedShort short ≡ Passed → Alike file short
-      → packing (judgedShort short) (shortBase short) (shortListing short) ≡ packing (judgedFile file) (fileBase file) (filed file)
-  one-packing file short p q a =
-      ap (λ (j : Judged). packing j (shortBase short) (shortListing short)) (q ∙ sym p)
-      ∙ ap (λ (b : ℕ). packing (judgedFile file) b (shortListing short)) a.base
-      ∙ ap (packing (judgedFile file) (fileBase file)) (alike-listing file short a)
+  one_packing : (file short : List ℕ) → judged_file file ≡ Passed → judged_short short ≡ Passed → Alike file short
+      → packing (judged_short short) (short_base short) (short_listing short) ≡ packing (judged_file file) (file_base file) (filed file)
+  one_packing file short p q a =
+      ap (λ (j : Judged). packing j (short_base short) (short_listing short)) (q ∙ sym p)
+      ∙ ap (λ (b : ℕ). packing (judged_file file) b (short_listing short)) a.base
+      ∙ ap (packing (judged_file file) (file_base file)) (alike_listing file short a)
 
-pub one-image : OneImage
-unfolding packShortOf packFileOf judgePackShort judgePackFile
-one-image file short t order out = let p = both-taken file short t in one-packing order out file short p.0 p.1 p.2
+pub one_image : OneImage
+unfolding pack_short_of pack_file_of judge_pack_short judge_pack_file
+one_image file short t order out = let p = both_taken file short t in one_packing order out file short p.0 p.1 p.2

@@ -8,17 +8,17 @@ use native.Mathlib.Nat.{eq-or-lt_of_le, le_of_suc-le-suc}
 use native.Mathlib.Omega.{arith}
 use lib.ListN.{length, get_or, take, drop, length-append}
 use lib.Seq.{ext_get_or, take-add}
-use Rattle.cell.specs.Memory.{cellBytes}
-use Rattle.pack_layout.specs.File.{leastFirst}
+use Rattle.cell.specs.Memory.{cell_bytes}
+use Rattle.pack_layout.specs.File.{least_first}
 use Rattle.short_judging.specs.Operands.{in_turn}
-use Rattle.short_judging.proofs.Turns.{singles-length, singles-at}
+use Rattle.short_judging.proofs.Turns.{singles_length, singles_at}
 use Rattle.short_laws.proofs.Bytes.{number_in}
 
 -- a list, element by element
-pub singles-all : (xs : List ℕ) → in_turn (λ i. get_or xs i 0 ∷ []) (length xs) ≡ xs
-singles-all xs =
-    ext_get_or 0 (in_turn (λ i. get_or xs i 0 ∷ []) (length xs)) xs (singles-length (λ i. get_or xs i 0) (length xs))
-    (λ i h. singles-at (λ j. get_or xs j 0) (length xs) i (omega (arith, singles-length (λ j. get_or xs j 0) (length xs))))
+pub singles_all : (xs : List ℕ) → in_turn (λ i. get_or xs i 0 ∷ []) (length xs) ≡ xs
+singles_all xs =
+    ext_get_or 0 (in_turn (λ i. get_or xs i 0 ∷ []) (length xs)) xs (singles_length (λ i. get_or xs i 0) (length xs))
+    (λ i h. singles_at (λ j. get_or xs j 0) (length xs) i (omega (arith, singles_length (λ j. get_or xs j 0) (length xs))))
 
 module _ (g : ℕ → List ℕ) where
   -- what item i gives stands behind what the items before it give
@@ -41,9 +41,9 @@ module _ (g : ℕ → List ℕ) where
       (eq-or-lt_of_le (le_of_suc-le-suc h))
 
   -- a number among them, behind p
-  pub number-in-turn : (p : List ℕ) (n i x : ℕ) → i < n → g i ≡ cellBytes 0 x → x < 2 ^ 32
-      → leastFirst (p ++ in_turn g n) (length p + length (in_turn g i)) ≡ x
-  number-in-turn p n i x h e l =
+  pub number_in_turn : (p : List ℕ) (n i x : ℕ) → i < n → g i ≡ cell_bytes 0 x → x < 2 ^ 32
+      → least_first (p ++ in_turn g n) (length p + length (in_turn g i)) ≡ x
+  number_in_turn p n i x h e l =
       let s = split n i h in
       rw (s.so, ← append_assoc p (in_turn g i) (g i ++ s.rest), ← length-append p (in_turn g i), e) (number_in (p ++ in_turn g i) s.rest x l)
 

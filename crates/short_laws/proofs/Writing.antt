@@ -8,19 +8,19 @@ use native.Mathlib.Omega.{arith}
 use lib.ListN.{length, take, drop, take-append-drop, length-drop}
 use lib.Seq.{take-add, take_all, drop-drop}
 use Rattle.cell.specs.Choice.{if}
-use Rattle.cell.specs.Memory.{cellBytes, Bytewise}
+use Rattle.cell.specs.Memory.{cell_bytes, Bytewise}
 use Rattle.pack_layout.specs.Flags.{bit}
-use Rattle.pack_layout.specs.Kinds.{classOf}
-use Rattle.pack_layout.specs.File.{leastFirst, fileCount, fileBase, fileKinds, filed}
-use Rattle.short_judging.specs.Operands.{hasOperand, operandsBefore, in_turn}
-use Rattle.short_judging.specs.ShortFile.{shortCount, shortBase, shortKinds, shortKind, shortOperand, shortListing}
-use Rattle.short_judging.proofs.Turns.{operands-room}
-use Rattle.short_judging.proofs.Parts.{file-count, file-operand, short-count, short-operand}
+use Rattle.pack_layout.specs.Kinds.{class_of}
+use Rattle.pack_layout.specs.File.{least_first, file_count, file_base, file_kinds, filed}
+use Rattle.short_judging.specs.Operands.{has_operand, operands_before, in_turn}
+use Rattle.short_judging.specs.ShortFile.{short_count, short_base, short_kinds, short_kind, short_operand, short_listing}
+use Rattle.short_judging.proofs.Turns.{operands_room}
+use Rattle.short_judging.proofs.Parts.{file_count_lem, file_operand, short_count_lem, short_operand_lem}
 use Rattle.short_judging.proofs.Passing.{GoodFile, GoodShort}
-use Rattle.short_files.specs.Files.{leastBytes, operandBytes, keptBytes, longFile, shortFile}
-use Rattle.short_files.proofs.Lengths.{operands-length, keeps-length}
-use Rattle.short_laws.proofs.Bytes.{bytes-at}
-use Rattle.short_laws.proofs.Turns.{singles-all, laid}
+use Rattle.short_files.specs.Files.{least_bytes, operand_bytes, kept_bytes, long_file, short_file}
+use Rattle.short_files.proofs.Lengths.{operands_length, keeps_length}
+use Rattle.short_laws.proofs.Bytes.{bytes_at}
+use Rattle.short_laws.proofs.Turns.{singles_all, laid}
 
 -- a list in three parts
 three : (s : List ℕ) (h n : ℕ) → take h s ++ take n (drop h s) ++ drop (h + n) s ≡ s
@@ -34,77 +34,77 @@ parts : {a b c x y z : List ℕ} → a ≡ x → b ≡ y → c ≡ z → a ++ b 
 parts p q r = both (both p q) r
 
 -- the number at a place behind p, as bytes
-bytes-behind : (s : List ℕ) (p k a : ℕ) → Bytewise s → a ≡ p + k → a + 4 ≤ length s → cellBytes 0 (leastFirst s a) ≡ take 4 (drop k (drop p s))
-bytes-behind s p k a low e h = bytes-at s a low h ∙ ap (take 4) (ap (λ (i : ℕ). drop i s) e ∙ sym (drop-drop k p s))
+bytes_behind : (s : List ℕ) (p k a : ℕ) → Bytewise s → a ≡ p + k → a + 4 ≤ length s → cell_bytes 0 (least_first s a) ≡ take 4 (drop k (drop p s))
+bytes_behind s p k a low e h = bytes_at s a low h ∙ ap (take 4) (ap (λ (i : ℕ). drop i s) e ∙ sym (drop-drop k p s))
 
 module _ (s : List ℕ) (low : Bytewise s) where
   -- document 01's file
   module _ (good : GoodFile s) where
-    n-kinds : length (fileKinds s) ≡ fileCount s
-    n-kinds = file-count s (omega (arith, good.whole))
+    n_kinds : length (file_kinds s) ≡ file_count s
+    n_kinds = file_count_lem s (omega (arith, good.whole))
 
-    long-bytes : (i : ℕ) → i < fileCount s
-        → operandBytes (filed s) i ≡ take 4 (drop (length (in_turn (operandBytes (filed s)) i)) (drop (8 + fileCount s) s))
-    long-bytes i h =
-        ap (cellBytes 0) (file-operand s i h)
-        ∙ bytes-behind s (8 + fileCount s) (length (in_turn (operandBytes (filed s)) i)) (8 + fileCount s + 4 * i) low
-        (omega (arith, operands-length (filed s) i)) (omega (arith, good.whole))
+    long_bytes : (i : ℕ) → i < file_count s
+        → operand_bytes (filed s) i ≡ take 4 (drop (length (in_turn (operand_bytes (filed s)) i)) (drop (8 + file_count s) s))
+    long_bytes i h =
+        ap (cell_bytes 0) (file_operand s i h)
+        ∙ bytes_behind s (8 + file_count s) (length (in_turn (operand_bytes (filed s)) i)) (8 + file_count s + 4 * i) low
+        (omega (arith, operands_length (filed s) i)) (omega (arith, good.whole))
 
-    long_rest : in_turn (operandBytes (filed s)) (fileCount s) ≡ drop (8 + fileCount s) s
+    long_rest : in_turn (operand_bytes (filed s)) (file_count s) ≡ drop (8 + file_count s) s
     long_rest =
-        laid (operandBytes (filed s)) (drop (8 + fileCount s) s) (fileCount s) long-bytes
-        ∙ take_all (length (in_turn (operandBytes (filed s)) (fileCount s))) (drop (8 + fileCount s) s)
-        (omega (arith, length-drop (8 + fileCount s) s, operands-length (filed s) (fileCount s), good.whole))
+        laid (operand_bytes (filed s)) (drop (8 + file_count s) s) (file_count s) long_bytes
+        ∙ take_all (length (in_turn (operand_bytes (filed s)) (file_count s))) (drop (8 + file_count s) s)
+        (omega (arith, length-drop (8 + file_count s) s, operands_length (filed s) (file_count s), good.whole))
 
-    pub long-again : longFile (filed s) (fileBase s) ≡ s
-    unfolding longFile
-    long-again =
+    pub long_again : long_file (filed s) (file_base s) ≡ s
+    unfolding long_file
+    long_again =
         parts
-        (ap (λ (k : ℕ). leastBytes k ++ leastBytes (fileBase s)) n-kinds
-        ∙ both (bytes-at s 0 low (omega (arith, good.whole))) (bytes-at s 4 low (omega (arith, good.whole))) ∙ sym (take-add 4 4 s))
-        (singles-all (fileKinds s))
-        (ap (in_turn (operandBytes (filed s))) n-kinds ∙ long_rest)
-        ∙ three s 8 (fileCount s)
+        (ap (λ (k : ℕ). least_bytes k ++ least_bytes (file_base s)) n_kinds
+        ∙ both (bytes_at s 0 low (omega (arith, good.whole))) (bytes_at s 4 low (omega (arith, good.whole))) ∙ sym (take-add 4 4 s))
+        (singles_all (file_kinds s))
+        (ap (in_turn (operand_bytes (filed s))) n_kinds ∙ long_rest)
+        ∙ three s 8 (file_count s)
 
   -- the short file
   module _ (good : GoodShort s) where
-    n-short : length (shortKinds s) ≡ shortCount s
-    n-short = short-count s (omega (arith, good.whole))
+    n_short : length (short_kinds s) ≡ short_count s
+    n_short = short_count_lem s (omega (arith, good.whole))
 
-    short-bytes : (i : ℕ) → i < shortCount s
-        → keptBytes (shortListing s) i
-        ≡ take (length (keptBytes (shortListing s) i)) (drop (length (in_turn (keptBytes (shortListing s)) i)) (drop (12 + shortCount s) s))
-    unfolding shortOperand
-    short-bytes i h =
-        let g = operands-room (shortKind s) i (shortCount s) (classOf (shortKind s i)) h refl in
-        go (hasOperand (classOf (shortKind s i))) refl (omega (arith, g, good.whole, good.operands))
+    short_bytes : (i : ℕ) → i < short_count s
+        → kept_bytes (short_listing s) i
+        ≡ take (length (kept_bytes (short_listing s) i)) (drop (length (in_turn (kept_bytes (short_listing s)) i)) (drop (12 + short_count s) s))
+    unfolding short_operand
+    short_bytes i h =
+        let g = operands_room (short_kind s) i (short_count s) (class_of (short_kind s i)) h refl in
+        go (has_operand (class_of (short_kind s i))) refl (omega (arith, g, good.whole, good.operands))
       where
         at : ℕ
-        at = 12 + shortCount s + 4 * operandsBefore (shortKind s) i
+        at = 12 + short_count s + 4 * operands_before (short_kind s) i
 
-        go : (b : Bool) → hasOperand (classOf (shortKind s i)) ≡ b → at + 4 * bit b ≤ length s
-            → if b (leastBytes ((shortListing s).operand i)) []
-            ≡ take (length (if b (leastBytes ((shortListing s).operand i)) [])) (drop (length (in_turn (keptBytes (shortListing s)) i)) (drop (12 + shortCount s) s))
+        go : (b : Bool) → has_operand (class_of (short_kind s i)) ≡ b → at + 4 * bit b ≤ length s
+            → if b (least_bytes ((short_listing s).operand i)) []
+            ≡ take (length (if b (least_bytes ((short_listing s).operand i)) [])) (drop (length (in_turn (kept_bytes (short_listing s)) i)) (drop (12 + short_count s) s))
         go true e r =
-            ap leastBytes (short-operand s i (omega (arith, n-short)) ∙ rw e refl)
-            ∙ bytes-behind s (12 + shortCount s) (length (in_turn (keptBytes (shortListing s)) i)) at low (omega (arith, keeps-length (shortListing s) i)) (omega arith)
+            ap least_bytes (short_operand_lem s i (omega (arith, n_short)) ∙ rw e refl)
+            ∙ bytes_behind s (12 + short_count s) (length (in_turn (kept_bytes (short_listing s)) i)) at low (omega (arith, keeps_length (short_listing s) i)) (omega arith)
         go false e r = refl
 
-    short-rest : in_turn (keptBytes (shortListing s)) (shortCount s) ≡ drop (12 + shortCount s) s
-    short-rest =
-        laid (keptBytes (shortListing s)) (drop (12 + shortCount s) s) (shortCount s) short-bytes
-        ∙ take_all (length (in_turn (keptBytes (shortListing s)) (shortCount s))) (drop (12 + shortCount s) s)
-        (omega (arith, length-drop (12 + shortCount s) s, keeps-length (shortListing s) (shortCount s), good.whole, good.operands))
+    short_rest : in_turn (kept_bytes (short_listing s)) (short_count s) ≡ drop (12 + short_count s) s
+    short_rest =
+        laid (kept_bytes (short_listing s)) (drop (12 + short_count s) s) (short_count s) short_bytes
+        ∙ take_all (length (in_turn (kept_bytes (short_listing s)) (short_count s))) (drop (12 + short_count s) s)
+        (omega (arith, length-drop (12 + short_count s) s, keeps_length (short_listing s) (short_count s), good.whole, good.operands))
 
-    pub short-again : shortFile (shortListing s) (shortBase s) ≡ s
-    unfolding shortFile
-    short-again =
+    pub short_again : short_file (short_listing s) (short_base s) ≡ s
+    unfolding short_file
+    short_again =
         parts
-        (ap (λ (k : ℕ). leastBytes k ++ leastBytes (operandsBefore (shortKind s) k) ++ leastBytes (shortBase s)) n-short
-        ∙ ap (λ (k : ℕ). leastBytes (shortCount s) ++ leastBytes k ++ leastBytes (shortBase s)) (sym good.operands)
-        ∙ both (both (bytes-at s 0 low (omega (arith, good.whole))) (bytes-at s 4 low (omega (arith, good.whole))) ∙ sym (take-add 4 4 s))
-        (bytes-at s 8 low (omega (arith, good.whole)))
+        (ap (λ (k : ℕ). least_bytes k ++ least_bytes (operands_before (short_kind s) k) ++ least_bytes (short_base s)) n_short
+        ∙ ap (λ (k : ℕ). least_bytes (short_count s) ++ least_bytes k ++ least_bytes (short_base s)) (sym good.operands)
+        ∙ both (both (bytes_at s 0 low (omega (arith, good.whole))) (bytes_at s 4 low (omega (arith, good.whole))) ∙ sym (take-add 4 4 s))
+        (bytes_at s 8 low (omega (arith, good.whole)))
         ∙ sym (take-add 8 4 s))
-        (singles-all (shortKinds s))
-        (ap (in_turn (keptBytes (shortListing s))) n-short ∙ short-rest)
-        ∙ three s 12 (shortCount s)
+        (singles_all (short_kinds s))
+        (ap (in_turn (kept_bytes (short_listing s))) n_short ∙ short_rest)
+        ∙ three s 12 (short_count s)

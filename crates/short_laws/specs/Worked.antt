@@ -1,8 +1,8 @@
 -- Rows on listing files of both kinds, worked on paper from document 02, (l). An output is lent with 5Ah in every byte.
 use Rattle.std.specs.Prelude.{◌≡◌, List, [], ◌∷◌, ◌++◌, map, ℕ, ◌-◌, ◌^◌, replicate}
 use Rattle.packer.specs.Pack.{PackResult}
-use Rattle.short_files.specs.Converted.{ConvertResult, shortenOf, lengthenOf}
-use Rattle.short_packing.specs.Packing.{packShortOf}
+use Rattle.short_files.specs.Converted.{ConvertResult, shorten_of, lengthen_of}
+use Rattle.short_packing.specs.Packing.{pack_short_of}
 
 abbrev pub lent : ℕ → List ℕ
 lent size = replicate size 0x5A
@@ -49,8 +49,8 @@ long = small 4 ++ small 0x10 ++ rule ++ small 2 ++ small 3 ++ small 0 ++ small 0
 abbrev pub short : List ℕ
 short = small 4 ++ small 2 ++ small 0x10 ++ rule ++ small 2 ++ small 3
 
-abbrev pub lengthenRows : List Row
-lengthenRows =
+abbrev pub lengthen_rows : List Row
+lengthen_rows =
     -- the rule, with two bytes of the output left
     taken short 30 (long ++ lent 2)
     -- no base and no byte order is judged; a literal has any value; a plain item takes no operand
@@ -78,8 +78,8 @@ lengthenRows =
     ∷ refused 4105 short 27
     ∷ []
 
-abbrev pub shortenRows : List Row
-shortenRows =
+abbrev pub shorten_rows : List Row
+shorten_rows =
     taken long 26 (short ++ lent 2)
     ∷ taken (small 1 ++ ones ++ (0x55 ∷ []) ++ small 0) 13 (small 1 ++ small 0 ++ ones ++ (0x55 ∷ []))
     -- document 01's input list, then the room
@@ -91,8 +91,8 @@ shortenRows =
     ∷ []
 
 -- the rule's image in order 0, and what refuses it: -4119 comes before -4104, -4104 before -4110, and -4105 last
-abbrev pub packRows : List Row
-packRows =
+abbrev pub pack_rows : List Row
+pack_rows =
     taken short 14 ((0x53 ∷ 2 ∷ 0 ∷ 0 ∷ 0x53 ∷ 3 ∷ 0 ∷ 0 ∷ 0x1E ∷ 0x55 ∷ 0 ∷ 0 ∷ []) ++ lent 2)
     ∷ refused 4119 (small 1 ++ small 1 ++ small 3 ++ (0x55 ∷ []) ++ small 0) 14
     ∷ refused 4104 (small 1 ++ small 0 ++ small 3 ++ (0x55 ∷ [])) 14
@@ -101,9 +101,9 @@ packRows =
     ∷ []
 
 -- the byte order comes before all else
-abbrev pub orderRows : List Row
-orderRows = refused 4102 short 14 ∷ refused 4102 [] 14 ∷ []
+abbrev pub order_rows : List Row
+order_rows = refused 4102 short 14 ∷ refused 4102 [] 14 ∷ []
 
 abbrev pub RowsHold : Type 0
 RowsHold =
-    Converts lengthenOf lengthenRows × Converts shortenOf shortenRows × Packs (packShortOf 0) packRows × Packs (packShortOf 2) orderRows
+    Converts lengthen_of lengthen_rows × Converts shorten_of shorten_rows × Packs (pack_short_of 0) pack_rows × Packs (pack_short_of 2) order_rows

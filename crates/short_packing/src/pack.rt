@@ -1,7 +1,7 @@
 // pack_short: a short listing file.
 ghost use Rattle.std.specs.Prelude.{◌≡◌, ◌*◌, ◌+◌, ◌≤◌, length, take};
-ghost use Rattle.short_judging.specs.Operands.{operandsBefore};
-ghost use Rattle.short_judging.specs.ShortFile.{shortCount, shortKind, shortOperands};
+ghost use Rattle.short_judging.specs.Operands.{operands_before};
+ghost use Rattle.short_judging.specs.ShortFile.{short_count, short_kind, short_operands};
 ghost use Rattle.packer.specs.Pack as answers;
 ghost use Rattle.short_packing.specs.Packing as packing;
 
@@ -16,7 +16,7 @@ use short_judging::operands::{operand_at, operands_of};
 use short_judging::short::judge_short;
 
 fn judge_input(order: u8, file: &[u8]) -> Judged
-    ensures { result ≡ packing.judgeInput order file.now }
+    ensures { result ≡ packing.judge_input order file.now }
 {
     match judge_order(order) {
         Judged::Refused(r) => Judged::Refused(r),
@@ -26,8 +26,8 @@ fn judge_input(order: u8, file: &[u8]) -> Judged
 
 // The operand of each item, in front of an array of as many as a file may have.
 fn operands_in(file: &[u8]) -> [u32; MOST_ITEMS]
-    requires { (shortCount file.now ≤ 4096) × (12 + shortCount file.now + 4 * operandsBefore (shortKind file.now) (shortCount file.now) ≤ length file.now) }
-    ensures { (4096 ≡ length result) × (take (shortCount file.now) result ≡ shortOperands file.now) }
+    requires { (short_count file.now ≤ 4096) × (12 + short_count file.now + 4 * operands_before (short_kind file.now) (short_count file.now) ≤ length file.now) }
+    ensures { (4096 ≡ length result) × (take (short_count file.now) result ≡ short_operands file.now) }
 {
     let n = cell_at(file, 0) as usize;
     let mut operands = [0u32; MOST_ITEMS];
@@ -43,7 +43,7 @@ fn operands_in(file: &[u8]) -> [u32; MOST_ITEMS]
 }
 
 pub fn pack_short(order: u8, file: &[u8], output: &mut [u8]) -> Packed
-    ensures { answers.packedTo output.new result ≡ packing.packShortOf order file.now output.old }
+    ensures { answers.packed_to output.new result ≡ packing.pack_short_of order file.now output.old }
 {
     match judge_input(order, file) {
         Judged::Refused(r) => Packed::Refused(r),
@@ -59,7 +59,7 @@ pub fn pack_short(order: u8, file: &[u8], output: &mut [u8]) -> Packed
 
 // A packing of a short file into an output of some size.
 pub fn judge_pack_short(order: u8, file: &[u8], size: usize) -> Judged
-    ensures { result ≡ packing.judgePackShort order file.now size }
+    ensures { result ≡ packing.judge_pack_short order file.now size }
 {
     match judge_input(order, file) {
         Judged::Refused(r) => Judged::Refused(r),

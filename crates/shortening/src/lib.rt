@@ -1,10 +1,10 @@
 // shorten: the short file of a listing file.
 ghost use Rattle.std.specs.Prelude.{◌≡◌, ◌++◌, ◌+◌, ◌*◌, ◌≤◌, length, drop};
 ghost use Rattle.std.proofs.lemmas.List.Edits.{sets};
-ghost use Rattle.pack_layout.specs.File.{fileCount, filed};
+ghost use Rattle.pack_layout.specs.File.{file_count, filed};
 ghost use Rattle.short_judging.specs.Operands.{in_turn};
-ghost use Rattle.short_judging.specs.Judging.{keptCount};
-ghost use Rattle.short_files.specs.Files.{kindByte, keptBytes};
+ghost use Rattle.short_judging.specs.Judging.{kept_count};
+ghost use Rattle.short_files.specs.Files.{kind_byte, kept_bytes};
 ghost use Rattle.short_files.specs.Converted as answers;
 
 use cell::{Judged, Refusal};
@@ -18,9 +18,9 @@ use short_judging::operands::operands_of;
 
 // Kinds and operands, in one pass. The header is written already.
 fn write_items(file: &[u8], n: usize, output: &mut [u8])
-    requires n_value { (n ≡ fileCount file.now) × (n ≤ 4096) × (length file.now ≡ 8 + 5 * n) }
-    requires file_in_bounds { 12 + n + 4 * keptCount file.now ≤ length output.old }
-    ensures { output.new ≡ sets (sets output.old 12 (in_turn (kindByte (filed file.now)) n)) (12 + n) (in_turn (keptBytes (filed file.now)) n) }
+    requires n_value { (n ≡ file_count file.now) × (n ≤ 4096) × (length file.now ≡ 8 + 5 * n) }
+    requires file_in_bounds { 12 + n + 4 * kept_count file.now ≤ length output.old }
+    ensures { output.new ≡ sets (sets output.old 12 (in_turn (kind_byte (filed file.now)) n)) (12 + n) (in_turn (kept_bytes (filed file.now)) n) }
 {
     let mut at = 12 + n;
     let mut i: usize = 0;
@@ -36,8 +36,8 @@ fn write_items(file: &[u8], n: usize, output: &mut [u8])
 
 // The short file, with m operands, where the output has room.
 fn write_short(file: &[u8], m: u32, output: &mut [u8])
-    requires file_bound { (fileCount file.now ≤ 4096) × (length file.now ≡ 8 + 5 * fileCount file.now) }
-    requires m_value { (m ≡ keptCount file.now) × (12 + fileCount file.now + 4 * m ≤ length output.old) }
+    requires file_bound { (file_count file.now ≤ 4096) × (length file.now ≡ 8 + 5 * file_count file.now) }
+    requires m_value { (m ≡ kept_count file.now) × (12 + file_count file.now + 4 * m ≤ length output.old) }
     ensures { output.new ≡ answers.shortened file.now ++ drop (length (answers.shortened file.now)) output.old }
 {
     let n = cell_at(file, 0);
@@ -55,7 +55,7 @@ fn short_length(n: u32, m: u32) -> usize
 }
 
 pub fn shorten(file: &[u8], output: &mut [u8]) -> Converted
-    ensures { answers.convertedTo output.new result ≡ answers.shortenOf file.now output.old }
+    ensures { answers.converted_to output.new result ≡ answers.shorten_of file.now output.old }
 {
     match count_operands(file) {
         Counted::Refused(r) => Converted::Refused(r),
@@ -72,7 +72,7 @@ pub fn shorten(file: &[u8], output: &mut [u8]) -> Converted
 
 // A shortening into an output of some size.
 pub fn judge_shorten(file: &[u8], size: usize) -> Judged
-    ensures { result ≡ answers.judgeShorten file.now size }
+    ensures { result ≡ answers.judge_shorten file.now size }
 {
     match count_operands(file) {
         Counted::Refused(r) => Judged::Refused(r),

@@ -14,7 +14,7 @@ use machine::{Machine, Registers, Then, ThreeStores, TwoStores, Write};
 // 03h SWAP ( x1 x2 -- x2 x1 )
 pub fn swap(machine: Machine, memory: &[u8], r: Registers) -> TwoStores
     requires { places.Fits machine (length memory.now) }
-    ensures { effects.twoStores result ≡ plain.plainAt machine Instruction.Swap memory.now r }
+    ensures { effects.two_stores result ≡ plain.plain_at machine Instruction.Swap memory.now r }
 {
     let got = fetch_data(machine, memory, Address(r.sp));
     let Fetched::Cell(top) = got else {
@@ -42,7 +42,7 @@ pub fn swap(machine: Machine, memory: &[u8], r: Registers) -> TwoStores
 // 05h ROT ( x1 x2 x3 -- x2 x3 x1 )
 pub fn rot(machine: Machine, memory: &[u8], r: Registers) -> ThreeStores
     requires { places.Fits machine (length memory.now) }
-    ensures { effects.threeStores result ≡ plain.plainAt machine Instruction.Rot memory.now r }
+    ensures { effects.three_stores result ≡ plain.plain_at machine Instruction.Rot memory.now r }
 {
     let got = fetch_data(machine, memory, Address(r.sp));
     let Fetched::Cell(x3) = got else {
@@ -78,7 +78,7 @@ pub fn rot(machine: Machine, memory: &[u8], r: Registers) -> ThreeStores
 // 06h -ROT ( x1 x2 x3 -- x3 x1 x2 )
 pub fn minus_rot(machine: Machine, memory: &[u8], r: Registers) -> ThreeStores
     requires { places.Fits machine (length memory.now) }
-    ensures { effects.threeStores result ≡ plain.plainAt machine Instruction.MinusRot memory.now r }
+    ensures { effects.three_stores result ≡ plain.plain_at machine Instruction.MinusRot memory.now r }
 {
     let got = fetch_data(machine, memory, Address(r.sp));
     let Fetched::Cell(x3) = got else {
@@ -114,7 +114,7 @@ pub fn minus_rot(machine: Machine, memory: &[u8], r: Registers) -> ThreeStores
 // 07h TUCK ( x1 x2 -- x2 x1 x2 )
 pub fn tuck(machine: Machine, memory: &[u8], r: Registers) -> ThreeStores
     requires { places.Fits machine (length memory.now) }
-    ensures { effects.threeStores result ≡ plain.plainAt machine Instruction.Tuck memory.now r }
+    ensures { effects.three_stores result ≡ plain.plain_at machine Instruction.Tuck memory.now r }
 {
     let got = fetch_data(machine, memory, Address(r.sp));
     let Fetched::Cell(x2) = got else {

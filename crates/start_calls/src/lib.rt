@@ -19,7 +19,7 @@ pub fn call_start(
     registers: &mut [u32],
     out: &mut [u32],
 ) -> u32
-    ensures { machines.called memory.new registers.new out.new result ≡ machines.startCall order areas table memory.old ep handler registers.old out.old }
+    ensures { machines.called memory.new registers.new out.new result ≡ machines.start_call order areas table memory.old ep handler registers.old out.old }
 {
     match judge_call(
         memory.len(),

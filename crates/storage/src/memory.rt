@@ -14,7 +14,7 @@ use machine::{ByteStore, Machine, OneStore, Registers, Target, Then, Write};
 // 39h @ ( a-addr -- x )
 pub fn fetch_named(machine: Machine, memory: &[u8], r: Registers) -> OneStore
     requires { places.Fits machine (length memory.now) }
-    ensures { effects.oneStore result ≡ plain.plainAt machine Instruction.FetchCell memory.now r }
+    ensures { effects.one_store result ≡ plain.plain_at machine Instruction.FetchCell memory.now r }
 {
     let got = fetch_data(machine, memory, Address(r.sp));
     let Fetched::Cell(a) = got else {
@@ -30,7 +30,7 @@ pub fn fetch_named(machine: Machine, memory: &[u8], r: Registers) -> OneStore
 // 3Ah ! ( x a-addr -- )
 pub fn store_named(machine: Machine, memory: &[u8], r: Registers) -> OneStore
     requires { places.Fits machine (length memory.now) }
-    ensures { effects.oneStore result ≡ plain.plainAt machine Instruction.StoreCell memory.now r }
+    ensures { effects.one_store result ≡ plain.plain_at machine Instruction.StoreCell memory.now r }
 {
     let got = fetch_data(machine, memory, Address(r.sp));
     let Fetched::Cell(a) = got else {
@@ -55,7 +55,7 @@ pub fn store_named(machine: Machine, memory: &[u8], r: Registers) -> OneStore
 // 3Bh C@ ( c-addr -- char )
 pub fn c_fetch(machine: Machine, memory: &[u8], r: Registers) -> OneStore
     requires { places.Fits machine (length memory.now) }
-    ensures { effects.oneStore result ≡ plain.plainAt machine Instruction.CFetch memory.now r }
+    ensures { effects.one_store result ≡ plain.plain_at machine Instruction.CFetch memory.now r }
 {
     let got = fetch_data(machine, memory, Address(r.sp));
     let Fetched::Cell(a) = got else {
@@ -71,7 +71,7 @@ pub fn c_fetch(machine: Machine, memory: &[u8], r: Registers) -> OneStore
 // 3Ch C! ( char c-addr -- )
 pub fn c_store(machine: Machine, memory: &[u8], r: Registers) -> ByteStore
     requires { places.Fits machine (length memory.now) }
-    ensures { effects.byteStore result ≡ plain.plainAt machine Instruction.CStore memory.now r }
+    ensures { effects.byte_store result ≡ plain.plain_at machine Instruction.CStore memory.now r }
 {
     let got = fetch_data(machine, memory, Address(r.sp));
     let Fetched::Cell(a) = got else {
@@ -93,7 +93,7 @@ pub fn c_store(machine: Machine, memory: &[u8], r: Registers) -> ByteStore
 // 3Dh +! ( n a-addr -- )
 pub fn plus_store(machine: Machine, memory: &[u8], r: Registers) -> OneStore
     requires { places.Fits machine (length memory.now) }
-    ensures { effects.oneStore result ≡ plain.plainAt machine Instruction.PlusStore memory.now r }
+    ensures { effects.one_store result ≡ plain.plain_at machine Instruction.PlusStore memory.now r }
 {
     let got = fetch_data(machine, memory, Address(r.sp));
     let Fetched::Cell(a) = got else {

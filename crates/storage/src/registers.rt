@@ -14,7 +14,7 @@ use machine::{Machine, NoStore, Registers, Then};
 // 3Fh SP! ( a-addr -- )
 pub fn sp_store(machine: Machine, memory: &[u8], r: Registers) -> NoStore
     requires { places.Fits machine (length memory.now) }
-    ensures { effects.noStore result ≡ plain.plainAt machine Instruction.SpStore memory.now r }
+    ensures { effects.no_store result ≡ plain.plain_at machine Instruction.SpStore memory.now r }
 {
     let got = fetch_data(machine, memory, Address(r.sp));
     let Fetched::Cell(x) = got else {
@@ -33,7 +33,7 @@ pub fn sp_store(machine: Machine, memory: &[u8], r: Registers) -> NoStore
 // 41h RP! ( a-addr -- )
 pub fn rp_store(machine: Machine, memory: &[u8], r: Registers) -> NoStore
     requires { places.Fits machine (length memory.now) }
-    ensures { effects.noStore result ≡ plain.plainAt machine Instruction.RpStore memory.now r }
+    ensures { effects.no_store result ≡ plain.plain_at machine Instruction.RpStore memory.now r }
 {
     let got = fetch_data(machine, memory, Address(r.sp));
     let Fetched::Cell(x) = got else {

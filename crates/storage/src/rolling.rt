@@ -14,7 +14,7 @@ use machine::{Machine, Registers, RollStores, Then};
 // 0Ah ROLL ( x_u .. x_0 u -- x_u-1 .. x_0 x_u )
 pub fn roll(machine: Machine, memory: &[u8], r: Registers) -> RollStores
     requires { places.Fits machine (length memory.now) }
-    ensures result_value { effects.rollEffect machine.order memory.now result ≡ plain.plainAt machine Instruction.Roll memory.now r }
+    ensures result_value { effects.roll_effect machine.order memory.now result ≡ plain.plain_at machine Instruction.Roll memory.now r }
     ensures reached { effects.Reached result }
 {
     let got = fetch_data(machine, memory, Address(r.sp));

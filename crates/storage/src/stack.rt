@@ -16,7 +16,7 @@ use machine::{Machine, MaybeStore, NoStore, OneStore, Registers, Target, Then, W
 // 01h DUP ( x -- x x )
 pub fn dup(machine: Machine, memory: &[u8], r: Registers) -> OneStore
     requires { places.Fits machine (length memory.now) }
-    ensures { effects.oneStore result ≡ plain.plainAt machine Instruction.Dup memory.now r }
+    ensures { effects.one_store result ≡ plain.plain_at machine Instruction.Dup memory.now r }
 {
     let got = fetch_data(machine, memory, Address(r.sp));
     let Fetched::Cell(x) = got else {
@@ -28,7 +28,7 @@ pub fn dup(machine: Machine, memory: &[u8], r: Registers) -> OneStore
 // 02h DROP ( x -- )
 pub fn drop(machine: Machine, memory: &[u8], r: Registers) -> NoStore
     requires { places.Fits machine (length memory.now) }
-    ensures { effects.noStore result ≡ plain.plainAt machine Instruction.Drop memory.now r }
+    ensures { effects.no_store result ≡ plain.plain_at machine Instruction.Drop memory.now r }
 {
     let got = fetch_data(machine, memory, Address(r.sp));
     let Fetched::Cell(_) = got else {
@@ -44,7 +44,7 @@ pub fn drop(machine: Machine, memory: &[u8], r: Registers) -> NoStore
 // 04h OVER ( x1 x2 -- x1 x2 x1 )
 pub fn over(machine: Machine, memory: &[u8], r: Registers) -> OneStore
     requires { places.Fits machine (length memory.now) }
-    ensures { effects.oneStore result ≡ plain.plainAt machine Instruction.Over memory.now r }
+    ensures { effects.one_store result ≡ plain.plain_at machine Instruction.Over memory.now r }
 {
     let got = fetch_data(machine, memory, Address(r.sp));
     let Fetched::Cell(_) = got else {
@@ -60,7 +60,7 @@ pub fn over(machine: Machine, memory: &[u8], r: Registers) -> OneStore
 // 08h NIP ( x1 x2 -- x2 )
 pub fn nip(machine: Machine, memory: &[u8], r: Registers) -> OneStore
     requires { places.Fits machine (length memory.now) }
-    ensures { effects.oneStore result ≡ plain.plainAt machine Instruction.Nip memory.now r }
+    ensures { effects.one_store result ≡ plain.plain_at machine Instruction.Nip memory.now r }
 {
     let got = fetch_data(machine, memory, Address(r.sp));
     let Fetched::Cell(x2) = got else {
@@ -76,7 +76,7 @@ pub fn nip(machine: Machine, memory: &[u8], r: Registers) -> OneStore
 // 09h PICK ( x_u .. x_0 u -- x_u .. x_0 x_u )
 pub fn pick(machine: Machine, memory: &[u8], r: Registers) -> OneStore
     requires { places.Fits machine (length memory.now) }
-    ensures { effects.oneStore result ≡ plain.plainAt machine Instruction.Pick memory.now r }
+    ensures { effects.one_store result ≡ plain.plain_at machine Instruction.Pick memory.now r }
 {
     let got = fetch_data(machine, memory, Address(r.sp));
     let Fetched::Cell(u) = got else {
@@ -92,7 +92,7 @@ pub fn pick(machine: Machine, memory: &[u8], r: Registers) -> OneStore
 // 0Bh ?DUP ( x -- 0 | x x )
 pub fn question_dup(machine: Machine, memory: &[u8], r: Registers) -> MaybeStore
     requires { places.Fits machine (length memory.now) }
-    ensures { effects.maybeStore result ≡ plain.plainAt machine Instruction.QuestionDup memory.now r }
+    ensures { effects.maybe_store result ≡ plain.plain_at machine Instruction.QuestionDup memory.now r }
 {
     let got = fetch_data(machine, memory, Address(r.sp));
     let Fetched::Cell(x) = got else {
@@ -118,7 +118,7 @@ pub fn question_dup(machine: Machine, memory: &[u8], r: Registers) -> MaybeStore
 // 0Ch >R ( x -- ) R: ( -- x )
 pub fn to_r(machine: Machine, memory: &[u8], r: Registers) -> OneStore
     requires { places.Fits machine (length memory.now) }
-    ensures { effects.oneStore result ≡ plain.plainAt machine Instruction.ToR memory.now r }
+    ensures { effects.one_store result ≡ plain.plain_at machine Instruction.ToR memory.now r }
 {
     let got = fetch_data(machine, memory, Address(r.sp));
     let Fetched::Cell(x) = got else {
@@ -139,7 +139,7 @@ pub fn to_r(machine: Machine, memory: &[u8], r: Registers) -> OneStore
 // 0Dh R> ( -- x ) R: ( x -- )
 pub fn r_from(machine: Machine, memory: &[u8], r: Registers) -> OneStore
     requires { places.Fits machine (length memory.now) }
-    ensures { effects.oneStore result ≡ plain.plainAt machine Instruction.RFrom memory.now r }
+    ensures { effects.one_store result ≡ plain.plain_at machine Instruction.RFrom memory.now r }
 {
     let got = fetch_return(machine, memory, Address(r.rp));
     let Fetched::Cell(x) = got else {
@@ -160,7 +160,7 @@ pub fn r_from(machine: Machine, memory: &[u8], r: Registers) -> OneStore
 // 0Eh R@ ( -- x ) R: ( x -- x )
 pub fn r_fetch(machine: Machine, memory: &[u8], r: Registers) -> OneStore
     requires { places.Fits machine (length memory.now) }
-    ensures { effects.oneStore result ≡ plain.plainAt machine Instruction.RFetch memory.now r }
+    ensures { effects.one_store result ≡ plain.plain_at machine Instruction.RFetch memory.now r }
 {
     let got = fetch_return(machine, memory, Address(r.rp));
     let Fetched::Cell(x) = got else {

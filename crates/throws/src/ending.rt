@@ -35,7 +35,7 @@ fn to_handler(
     h: Address,
 ) -> CycleResult
     requires { places.Fits machine (length memory.now) }
-    ensures { throws.withResult memory.now result ≡ throws.toHandler machine memory.now r ended h.0 }
+    ensures { throws.with_result memory.now result ≡ throws.to_handler machine memory.now r ended h.0 }
 {
     let got = fetch(machine, memory, h);
     let Fetched::Cell(x) = got else {
@@ -68,7 +68,7 @@ fn to_handler(
 pub fn handle(machine: Machine, memory: &mut [u8], r: Registers, ended: Ended) -> CycleResult
     requires fits { places.Fits machine (length memory.old) }
     requires in_bounds { 16 ≤ length memory.old }
-    ensures { throws.withResult memory.new result ≡ throws.handlerOf machine memory.old r ended }
+    ensures { throws.with_result memory.new result ≡ throws.handler_of machine memory.old r ended }
 {
     store(machine.order, memory, BAD_CELL, r.ep);
     let h = load(machine.order, memory, HANDLER_CELL);
@@ -115,8 +115,8 @@ pub fn throw(
 ) -> CycleResult
     requires fits { places.Fits machine (length memory.old) }
     requires in_bounds { 16 ≤ length memory.old }
-    requires code_value { code ≡ exceptions.exceptionCode e }
-    ensures { throws.withResult memory.new result ≡ throws.throwOf machine memory.old r e }
+    requires code_value { code ≡ exceptions.exception_code e }
+    ensures { throws.with_result memory.new result ≡ throws.throw_of machine memory.old r e }
 {
     let sp = subtract(r.sp, 4);
     let place = check_push(machine, memory.len(), Address(sp));
@@ -150,7 +150,7 @@ pub fn throw(
 fn throw_given(machine: Machine, memory: &mut [u8], r: Registers) -> CycleResult
     requires fits { places.Fits machine (length memory.old) }
     requires in_bounds { 16 ≤ length memory.old }
-    ensures { throws.withResult memory.new result ≡ throws.throwingOf machine memory.old r }
+    ensures { throws.with_result memory.new result ≡ throws.throwing_of machine memory.old r }
 {
     if r.sp % 4 == 0 {
         return handle(
@@ -179,7 +179,7 @@ fn throw_given(machine: Machine, memory: &mut [u8], r: Registers) -> CycleResult
 pub fn next(machine: Machine, memory: &mut [u8], r: Registers) -> CycleResult
     requires fits { places.Fits machine (length memory.old) }
     requires in_bounds { 16 ≤ length memory.old }
-    ensures { throws.withResult memory.new result ≡ throws.next_of machine memory.old r }
+    ensures { throws.with_result memory.new result ≡ throws.next_of machine memory.old r }
 {
     let got = fetch(machine, memory, Address(r.ep));
     let Fetched::Cell(x) = got else {
@@ -216,7 +216,7 @@ pub fn next(machine: Machine, memory: &mut [u8], r: Registers) -> CycleResult
 pub fn finish(machine: Machine, memory: &mut [u8], s: Step) -> CycleResult
     requires fits { places.Fits machine (length memory.old) }
     requires in_bounds { 16 ≤ length memory.old }
-    ensures { throws.withResult memory.new result ≡ throws.finishOf machine (commits.stepped memory.old s) }
+    ensures { throws.with_result memory.new result ≡ throws.finish_of machine (commits.stepped memory.old s) }
 {
     let outcome = s.outcome;
     let r = s.registers;

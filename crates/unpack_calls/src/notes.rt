@@ -9,7 +9,7 @@ use unpacker::Unpacked;
 
 pub fn note_unpacked(answer: Unpacked, out: &mut [u32]) -> u32
     requires { 1 ≤ length out.old }
-    ensures { modules.noted out.new result ≡ images.unpackNoted out.old answer }
+    ensures { modules.noted out.new result ≡ images.unpack_noted out.old answer }
 {
     match answer {
         Unpacked::Refused(r) => refusal_number(r),

@@ -17,8 +17,8 @@ module _ (a b : List ℕ) (e : length a ≡ length b) where
   unfolding same
   fronts i h = ap₂ same (drop-cons a i 0 h) (drop-cons b i 0 (omega arith))
 
-  pub same-on : (i : ℕ) → i < length a → get_or a i 0 ≡ get_or b i 0 → same (drop i a) (drop i b) ≡ same (drop (suc i) a) (drop (suc i) b)
-  same-on i h q = fronts i h ∙ rw (eq-eqb (get_or a i 0) (get_or b i 0) q)
+  pub same_on : (i : ℕ) → i < length a → get_or a i 0 ≡ get_or b i 0 → same (drop i a) (drop i b) ≡ same (drop (suc i) a) (drop (suc i) b)
+  same_on i h q = fronts i h ∙ rw (eq-eqb (get_or a i 0) (get_or b i 0) q)
 
   pub same_not : (i : ℕ) → i < length a → (get_or a i 0 ≡ get_or b i 0 → ⊥) → same (drop i a) (drop i b) ≡ false
   same_not i h q = fronts i h ∙ rw (ne_eqb (get_or a i 0) (get_or b i 0) q)

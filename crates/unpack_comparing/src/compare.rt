@@ -2,7 +2,7 @@
 ghost use Rattle.std.specs.Prelude.{◌≡◌, length};
 ghost use Rattle.cell.specs.declared.Judged.TheVariants.{Passed};
 ghost use Rattle.pack_layout.specs.Listing.{listed};
-ghost use Rattle.pack_layout.specs.Unpacking.{same, packsTo};
+ghost use Rattle.pack_layout.specs.Unpacking.{same, packs_to};
 ghost use Rattle.unpack_judging.specs.Judgement as judgement;
 
 use cell::Address;
@@ -35,8 +35,8 @@ pub fn packs_to(
     copy: &mut [u8],
 ) -> bool
     requires operands_len { (length operands.now ≡ length kinds.now) × (length copy.old ≡ length image.now) }
-    requires image_value { judgement.judgePlace order base.0 (length image.now) ≡ Passed }
-    ensures { result ≡ packsTo order base.0 (listed kinds.now operands.now) image.now }
+    requires image_value { judgement.judge_place order base.0 (length image.now) ≡ Passed }
+    ensures { result ≡ packs_to order base.0 (listed kinds.now operands.now) image.now }
 {
     match pack(order, kinds, operands, base, copy) {
         Packed::Refused(_) => false,

@@ -14,32 +14,32 @@ use Rattle.cell.specs.Memory.{cell_at}
 use Rattle.pack_layout.specs.Kinds.{among}
 use Rattle.pack_layout.specs.Reading.{cells_of}
 use Rattle.pack_layout.proofs.Classes.{OneOf}
-use Rattle.pack_layout.proofs.Reading.{each-length, each_at}
+use Rattle.pack_layout.proofs.Reading.{each_length, each_at}
 
-or-true : (b : Bool) → (b || true) ≡ true
-or-true true = refl
-or-true false = refl
+or_true : (b : Bool) → (b || true) ≡ true
+or_true true = refl
+or_true false = refl
 
 pub some_of : (x k : ℕ) (ks : List ℕ) → OneOf x k ks → among x (k ∷ ks) ≡ true
 some_of x k [] e = rw (eq-eqb x k e)
 some_of x k (j ∷ js) (inl e) = rw (eq-eqb x k e)
-some_of x k (j ∷ js) (inr e) = rw (some_of x j js e) (or-true (eqb x k))
+some_of x k (j ∷ js) (inr e) = rw (some_of x j js e) (or_true (eqb x k))
 
-pub cells-size : (order : ℕ) (s : List ℕ) → length (cells_of order s) ≡ length s / 4
+pub cells_size : (order : ℕ) (s : List ℕ) → length (cells_of order s) ≡ length s / 4
 unfolding cells_of
-cells-size order s = each-length (λ j. cell_at order s (4 * j)) (length s / 4) 0
+cells_size order s = each_length (λ j. cell_at order s (4 * j)) (length s / 4) 0
 
 -- a whole cell of the bytes
-pub cell-inside : (order : ℕ) (s : List ℕ) (j : ℕ) → 4 * j + 4 ≤ length s → get_or (cells_of order s) j 0 ≡ cell_at order s (4 * j)
+pub cell_inside : (order : ℕ) (s : List ℕ) (j : ℕ) → 4 * j + 4 ≤ length s → get_or (cells_of order s) j 0 ≡ cell_at order s (4 * j)
 unfolding cells_of
-cell-inside order s j h =
+cell_inside order s j h =
     each_at (λ j. cell_at order s (4 * j)) (length s / 4) 0 j (omega arith) ∙ ap (λ (i : ℕ). cell_at order s (4 * i)) (zero-add j)
 
-pub cell-behind : (order : ℕ) (s : List ℕ) (j : ℕ) → length s < 4 * j + 4 → get_or (cells_of order s) j 0 ≡ 0
-cell-behind order s j h = get_or-eq_default (cells_of order s) 0 (omega (arith, cells-size order s))
+pub cell_behind : (order : ℕ) (s : List ℕ) (j : ℕ) → length s < 4 * j + 4 → get_or (cells_of order s) j 0 ≡ 0
+cell_behind order s j h = get_or-eq_default (cells_of order s) 0 (omega (arith, cells_size order s))
 
 -- an address so many cells on, modulo 2^32
-pub cells-on : (base next v m e n : ℕ) → m ≡ 4 * next % 2 ^ 32 → e ≡ (base + m) % 2 ^ 32 → n ≡ 4 * v % 2 ^ 32
+pub cells_on : (base next v m e n : ℕ) → m ≡ 4 * next % 2 ^ 32 → e ≡ (base + m) % 2 ^ 32 → n ≡ 4 * v % 2 ^ 32
     → (e + n) % 2 ^ 32 ≡ (base + 4 * next + 4 * v) % 2 ^ 32
-cells-on base next v m e n p q r =
+cells_on base next v m e n p q r =
     rw (r, q, p, add-mod-mod base (4 * next) (2 ^ 32), add-mod-mod ((base + 4 * next) % 2 ^ 32) (4 * v) (2 ^ 32)) (mod-add-mod (base + 4 * next) (2 ^ 32) (4 * v))

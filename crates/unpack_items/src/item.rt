@@ -1,11 +1,11 @@
 // One item of an image.
 ghost use Rattle.std.specs.Prelude.{◌≡◌, ◌+◌, ◌≤◌, ◌<◌, get_or};
-ghost use Rattle.cell.specs.Memory.{cellCount};
+ghost use Rattle.cell.specs.Memory.{cell_count};
 ghost use Rattle.cell.specs.Place.{address};
 ghost use Rattle.pack_layout.specs.Layout.{extra};
-ghost use Rattle.pack_layout.specs.Kinds.{classOf};
-ghost use Rattle.pack_layout.specs.Reading.{cells_of, done, atCell, behindItem, valueRead, leadsTo, heldOf, formRead, kindRead, opcodeRead};
-ghost use Rattle.unpack_items.specs.Readers.{readerOf};
+ghost use Rattle.pack_layout.specs.Kinds.{class_of};
+ghost use Rattle.pack_layout.specs.Reading.{cells_of, done, at_cell, behind_item, value_read, leads_to, held_of, form_read, kind_read, opcode_read};
+ghost use Rattle.unpack_items.specs.Readers.{reader_of};
 
 use crate::Reader;
 use crate::opcode::{form_read, kind_read};
@@ -28,7 +28,7 @@ fn cell_in(order: u8, image: &[u8], index: CellCount) -> u32
 
 pub fn at_cell(order: u8, image: &[u8], index: CellCount) -> Reader
     requires { index.0 ≤ 8192 }
-    ensures { readerOf result ≡ atCell (cells_of order image.now) index.0 }
+    ensures { reader_of result ≡ at_cell (cells_of order image.now) index.0 }
 {
     let rest = cell_in(order, image, index);
     Reader {
@@ -53,7 +53,7 @@ fn is_done(g: ItemForm, above: u32) -> bool
 // The index behind an item's operand cell, if it has one.
 fn past_operand(g: ItemForm, next: CellCount) -> CellCount
     requires { next.0 ≤ 8192 }
-    ensures { result ≡ cellCount (next.0 + extra g) }
+    ensures { result ≡ cell_count (next.0 + extra g) }
 {
     match g {
         ItemForm::Alone => next,
@@ -65,7 +65,7 @@ fn past_operand(g: ItemForm, next: CellCount) -> CellCount
 // Where the item after one in the form g is read.
 pub fn behind_item(order: u8, image: &[u8], g: ItemForm, r: Reader) -> Reader
     requires { r.next.0 < 8192 }
-    ensures { readerOf result ≡ behindItem (cells_of order image.now) g (readerOf r) }
+    ensures { reader_of result ≡ behind_item (cells_of order image.now) g (reader_of r) }
 {
     let at = r.at;
     let ep = r.next;
@@ -84,7 +84,7 @@ pub fn behind_item(order: u8, image: &[u8], g: ItemForm, r: Reader) -> Reader
 
 // The value of an item in the form g.
 fn value_read(order: u8, image: &[u8], g: ItemForm, r: Reader) -> u32
-    ensures { result ≡ valueRead (cells_of order image.now) g (readerOf r) }
+    ensures { result ≡ value_read (cells_of order image.now) g (reader_of r) }
 {
     match g {
         ItemForm::Alone => 0,
@@ -98,7 +98,7 @@ fn value_read(order: u8, image: &[u8], g: ItemForm, r: Reader) -> u32
 
 // The address that a branch leads to: next the index of its EP value, v its value.
 fn leads_to(base: Address, g: ItemForm, next: CellCount, v: u32) -> Address
-    ensures { result ≡ address (leadsTo base.0 g next.0 v) }
+    ensures { result ≡ address (leads_to base.0 g next.0 v) }
 {
     match g {
         ItemForm::Alone => Address(0),
@@ -120,7 +120,7 @@ pub struct ItemRead {
 
 // What an item of class c holds.
 fn held_of(order: u8, image: &[u8], base: Address, c: Class, g: ItemForm, r: Reader) -> u32
-    ensures { result ≡ heldOf (cells_of order image.now) base.0 c g (readerOf r) }
+    ensures { result ≡ held_of (cells_of order image.now) base.0 c g (reader_of r) }
 {
     match c {
         Class::Plain => 0,
@@ -135,7 +135,7 @@ fn held_of(order: u8, image: &[u8], base: Address, c: Class, g: ItemForm, r: Rea
 }
 
 pub fn read_item(order: u8, image: &[u8], base: Address, r: Reader) -> ItemRead
-    ensures { (result.form ≡ formRead (opcodeRead (readerOf r))) × (result.kind ≡ kindRead result.form (opcodeRead (readerOf r))) × (result.held ≡ heldOf (cells_of order image.now) base.0 (classOf result.kind) result.form (readerOf r)) }
+    ensures { (result.form ≡ form_read (opcode_read (reader_of r))) × (result.kind ≡ kind_read result.form (opcode_read (reader_of r))) × (result.held ≡ held_of (cells_of order image.now) base.0 (class_of result.kind) result.form (reader_of r)) }
 {
     let b = (r.rest % 256) as u8;
     let g = form_read(b);

@@ -1,7 +1,7 @@
 // Opcodes of an image.
 ghost use Rattle.std.specs.Prelude.{◌≡◌, ◌<◌};
 ghost use Rattle.pack_layout.specs.Kinds.{among, immediates};
-ghost use Rattle.pack_layout.specs.Reading.{formRead, kindRead};
+ghost use Rattle.pack_layout.specs.Reading.{form_read, kind_read};
 
 use pack_judging::kinds::class_of;
 use pack_layout::{Class, ItemForm};
@@ -17,7 +17,7 @@ fn is_immediate(b: u8) -> bool
 
 // How the item of an opcode is written.
 pub fn form_read(b: u8) -> ItemForm
-    ensures { result ≡ formRead b }
+    ensures { result ≡ form_read b }
 {
     if is_immediate(b) {
         return ItemForm::Immediate;
@@ -32,7 +32,7 @@ pub fn form_read(b: u8) -> ItemForm
 
 // The kind of an opcode whose item is written in the form g.
 pub fn kind_read(g: ItemForm, b: u8) -> u8
-    ensures { result ≡ kindRead g b }
+    ensures { result ≡ kind_read g b }
 {
     match g {
         ItemForm::Alone => b,

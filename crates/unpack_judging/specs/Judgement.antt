@@ -4,19 +4,19 @@ use Rattle.std.specs.Prelude.{◌||◌, [], ◌∷◌, ℕ, ◌+◌, ltb}
 use Rattle.cell.specs.Refusals.{Ground, judge, after, unaligned}
 use Rattle.cell.specs.declared.Refusal.TheVariants.{Base, ShortOutput}
 use Rattle.cell.specs.declared.Judged.{Judged}
-use Rattle.pack_refusals.specs.Judgement.{judgeOrder}
+use Rattle.pack_refusals.specs.Judgement.{judge_order}
 
 -- -4110: an image of size bytes begins among the first four cells, or ends past 16,777,216
-abbrev pub bytesOutOfPlace : ℕ → ℕ → Ground
-bytesOutOfPlace base size = record { applies = ltb base 0x10 || ltb 16777216 (base + size); refusal = Base }
+abbrev pub bytes_out_of_place : ℕ → ℕ → Ground
+bytes_out_of_place base size = record { applies = ltb base 0x10 || ltb 16777216 (base + size); refusal = Base }
 
 -- -4102, -4104, -4110
-unfoldable pub judgePlace : ℕ → ℕ → ℕ → Judged
-judgePlace order base size = after (judgeOrder order) (judge (unaligned base ∷ bytesOutOfPlace base size ∷ []))
+unfoldable pub judge_place : ℕ → ℕ → ℕ → Judged
+judge_place order base size = after (judge_order order) (judge (unaligned base ∷ bytes_out_of_place base size ∷ []))
 
 -- -4105: one of two arrays, of lengths k and x, is too short for n items
-abbrev pub shortArrays : ℕ → ℕ → ℕ → Ground
-shortArrays n k x = record { applies = ltb k n || ltb x n; refusal = ShortOutput }
+abbrev pub short_arrays : ℕ → ℕ → ℕ → Ground
+short_arrays n k x = record { applies = ltb k n || ltb x n; refusal = ShortOutput }
 
-unfoldable pub judgeArrays : ℕ → ℕ → ℕ → Judged
-judgeArrays n k x = judge (shortArrays n k x ∷ [])
+unfoldable pub judge_arrays : ℕ → ℕ → ℕ → Judged
+judge_arrays n k x = judge (short_arrays n k x ∷ [])

@@ -7,7 +7,7 @@ use pack_refusals::judgement::judge_order;
 
 // The byte order and the base of an image of some bytes.
 pub fn judge_place(order: u8, base: Address, size: usize) -> Judged
-    ensures { result ≡ judgement.judgePlace order base.0 size }
+    ensures { result ≡ judgement.judge_place order base.0 size }
 {
     let j = judge_order(order);
     let Judged::Passed = j else {
@@ -30,7 +30,7 @@ pub fn judge_place(order: u8, base: Address, size: usize) -> Judged
 
 // The room for n items in two arrays.
 pub fn judge_arrays(n: u32, kinds: usize, operands: usize) -> Judged
-    ensures { result ≡ judgement.judgeArrays n kinds operands }
+    ensures { result ≡ judgement.judge_arrays n kinds operands }
 {
     if kinds < n as usize {
         return Judged::Refused(Refusal::ShortOutput);

@@ -13,28 +13,28 @@ use Rattle.cell.specs.Memory.{Bytewise}
 use Rattle.cell.specs.Shift.{asr8}
 use Rattle.cell.proofs.MemoryLaws.{cell_below}
 use Rattle.pack_layout.specs.declared.Class.{Class}
-use Rattle.pack_layout.specs.declared.Class.TheVariants.{Plain as plain, Literal as literal, Branch as branch, NoKind as noKind}
+use Rattle.pack_layout.specs.declared.Class.TheVariants.{Plain as plain, Literal as literal, Branch as branch, NoKind as no_kind}
 use Rattle.pack_layout.specs.declared.ItemForm.{ItemForm}
-use Rattle.pack_layout.specs.declared.ItemForm.TheVariants.{Alone as alone, Immediate as immediate, InCell as inCell}
-use Rattle.pack_layout.specs.Kinds.{classOf}
+use Rattle.pack_layout.specs.declared.ItemForm.TheVariants.{Alone as alone, Immediate as immediate, InCell as in_cell}
+use Rattle.pack_layout.specs.Kinds.{class_of}
 use Rattle.pack_layout.specs.Layout.{extra}
-use Rattle.pack_layout.specs.Reading.{Reader, done, atCell, behindItem, cells_of, reader, itemsRead, formReadAt, kindReadAt, valueRead, first_at, heldOf, operandOf, operandReadAt, operandsRead}
-use Rattle.pack_layout.proofs.Reading.{each-length, each_at}
-use Rattle.unpack_items.proofs.Cells.{cell-inside, cell-behind}
+use Rattle.pack_layout.specs.Reading.{Reader, done, at_cell, behind_item, cells_of, reader, items_read, form_read_at, kind_read_at, value_read, first_at, held_of, operand_of, operand_read_at, operands_read}
+use Rattle.pack_layout.proofs.Reading.{each_length, each_at}
+use Rattle.unpack_items.proofs.Cells.{cell_inside, cell_behind}
 use Rattle.unpack_laws.specs.Claims.{Words}
 
-asr-below : (x : ℕ) → x < 2 ^ 32 → asr8 x < 2 ^ 32
+asr_below : (x : ℕ) → x < 2 ^ 32 → asr8 x < 2 ^ 32
 unfolding asr8
-asr-below x h = go (leb 0x80000000 x)
+asr_below x h = go (leb 0x80000000 x)
   where
     go : (b : Bool) → x / 256 + if b 0xFF000000 0 < 2 ^ 32
     go true = omega arith
     go false = omega arith
 
-first-most : (img : List ℕ) (base k a : ℕ) → k ≤ 4097 → first_at img base k a ≤ 4096
+first_most : (img : List ℕ) (base k a : ℕ) → k ≤ 4097 → first_at img base k a ≤ 4096
 unfolding first_at
-first-most img base zero a h = omega arith
-first-most img base (suc k) a h = go ((reader img k).first && eqb (base + 4 * (reader img k).at) a) (first-most img base k a (omega arith))
+first_most img base zero a h = omega arith
+first_most img base (suc k) a h = go ((reader img k).first && eqb (base + 4 * (reader img k).at) a) (first_most img base k a (omega arith))
   where
     go : (b : Bool) → first_at img base k a ≤ 4096 → if b k (first_at img base k a) ≤ 4096
     go true e = omega arith
@@ -44,40 +44,40 @@ module _ (order base : ℕ) (s : List ℕ) (low : Bytewise s) where
   abbrev img : List ℕ
   img = cells_of order s
 
-  cell-most : (j : ℕ) → get_or img j 0 < 2 ^ 32
-  cell-most j = go (dec_lt (length s) (4 * j + 4))
+  cell_most : (j : ℕ) → get_or img j 0 < 2 ^ 32
+  cell_most j = go (dec_lt (length s) (4 * j + 4))
     where
       go : Dec (length s < 4 * j + 4) → get_or img j 0 < 2 ^ 32
-      go (yes h) = rw (cell-behind order s j h) (omega arith)
-      go (no h) = rw (cell-inside order s j (omega arith)) (cell_below order s (4 * j) low)
+      go (yes h) = rw (cell_behind order s j h) (omega arith)
+      go (no h) = rw (cell_inside order s j (omega arith)) (cell_below order s (4 * j) low)
 
-  behind-most : (g : ItemForm) (r : Reader) → r.rest < 2 ^ 32 → (behindItem img g r).rest < 2 ^ 32
-  behind-most g r h = go (done g (asr8 r.rest))
+  behind_most : (g : ItemForm) (r : Reader) → r.rest < 2 ^ 32 → (behind_item img g r).rest < 2 ^ 32
+  behind_most g r h = go (done g (asr8 r.rest))
     where
       go : (b : Bool)
-          → (if b (atCell img (r.next + extra g)) (record { at = r.at; rest = asr8 r.rest; next = r.next + extra g; first = false })).rest < 2 ^ 32
-      go true = cell-most (r.next + extra g)
-      go false = asr-below r.rest h
+          → (if b (at_cell img (r.next + extra g)) (record { at = r.at; rest = asr8 r.rest; next = r.next + extra g; first = false })).rest < 2 ^ 32
+      go true = cell_most (r.next + extra g)
+      go false = asr_below r.rest h
 
-  rest-most : (i : ℕ) → (reader img i).rest < 2 ^ 32
+  rest_most : (i : ℕ) → (reader img i).rest < 2 ^ 32
   unfolding reader
-  rest-most zero = cell-most 0
-  rest-most (suc i) = behind-most (formReadAt img i) (reader img i) (rest-most i)
+  rest_most zero = cell_most 0
+  rest_most (suc i) = behind_most (form_read_at img i) (reader img i) (rest_most i)
 
-  value-most : (g : ItemForm) (i : ℕ) → valueRead img g (reader img i) < 2 ^ 32
-  value-most alone i = omega arith
-  value-most immediate i = asr-below (reader img i).rest (rest-most i)
-  value-most inCell i = cell-most (reader img i).next
+  value_most : (g : ItemForm) (i : ℕ) → value_read img g (reader img i) < 2 ^ 32
+  value_most alone i = omega arith
+  value_most immediate i = asr_below (reader img i).rest (rest_most i)
+  value_most in_cell i = cell_most (reader img i).next
 
-  operand-most : (c : Class) (g : ItemForm) (i : ℕ) → itemsRead img ≤ 4097
-      → operandOf img base c (heldOf img base c g (reader img i)) < 2 ^ 32
-  operand-most plain g i h = omega arith
-  operand-most literal g i h = value-most g i
-  operand-most branch g i h = omega (arith, first-most img base (itemsRead img) (heldOf img base branch g (reader img i)) h)
-  operand-most noKind g i h = omega arith
+  operand_most : (c : Class) (g : ItemForm) (i : ℕ) → items_read img ≤ 4097
+      → operand_of img base c (held_of img base c g (reader img i)) < 2 ^ 32
+  operand_most plain g i h = omega arith
+  operand_most literal g i h = value_most g i
+  operand_most branch g i h = omega (arith, first_most img base (items_read img) (held_of img base branch g (reader img i)) h)
+  operand_most no_kind g i h = omega arith
 
-  pub words-read : itemsRead img ≤ 4097 → Words (operandsRead img base)
-  unfolding operandsRead
-  words-read h i b =
-      rw (each_at (operandReadAt img base) (itemsRead img) 0 i (omega (arith, each-length (operandReadAt img base) (itemsRead img) 0)))
-      (operand-most (classOf (kindReadAt img (0 + i))) (formReadAt img (0 + i)) (0 + i) h)
+  pub words_read : items_read img ≤ 4097 → Words (operands_read img base)
+  unfolding operands_read
+  words_read h i b =
+      rw (each_at (operand_read_at img base) (items_read img) 0 i (omega (arith, each_length (operand_read_at img base) (items_read img) 0)))
+      (operand_most (class_of (kind_read_at img (0 + i))) (form_read_at img (0 + i)) (0 + i) h)

@@ -8,36 +8,36 @@ use native.Mathlib.Omega.{arith}
 use borrow.Author.Tests.{le-ltb}
 use lib.ListN.{length, get_or, take, drop}
 use lib.Seq.{take_at}
-use Rattle.cell.specs.Memory.{Bytewise, cellCount}
+use Rattle.cell.specs.Memory.{Bytewise, cell_count}
 use Rattle.cell.specs.Refusals.{judge, unaligned}
 use Rattle.cell.specs.declared.Judged.{Judged}
 use Rattle.cell.specs.declared.Judged.TheVariants as judged
 use Rattle.cell.specs.declared.Refusal.TheVariants as refusal
-use Rattle.cell.proofs.JudgementLaws.{both-pass, refusal-some}
-use Rattle.pack_layout.specs.Listing.{Listing, listed, judgedArrays}
-use Rattle.pack_layout.specs.Packing.{image, imageCells, judgedPlace, Legal}
+use Rattle.cell.proofs.JudgementLaws.{both_pass, refusal_some}
+use Rattle.pack_layout.specs.Listing.{Listing, listed, judged_arrays}
+use Rattle.pack_layout.specs.Packing.{image, image_cells, judged_place, Legal}
 use Rattle.pack_layout.specs.Output.{bytes_of, written}
-use Rattle.pack_layout.specs.Reading.{cells_of, itemsRead, kindsRead, operandsRead, listingRead}
+use Rattle.pack_layout.specs.Reading.{cells_of, items_read, kinds_read, operands_read, listing_read}
 use Rattle.pack_layout.specs.Unpacking.{taken}
-use Rattle.pack_layout.proofs.Output.{bytes-length}
-use Rattle.pack_layout.proofs.Unpacking.{Packs, packs-is, kinds-again, operands-again, taken-again}
-use Rattle.pack_prepare.proofs.Checking.{arrays-checked}
-use Rattle.pack_refusals.specs.Judgement.{judgeOrder, judgePack}
+use Rattle.pack_layout.proofs.Output.{bytes_length}
+use Rattle.pack_layout.proofs.Unpacking.{Packs, packs_is, kinds_again, operands_again, taken_again}
+use Rattle.pack_prepare.proofs.Checking.{arrays_checked}
+use Rattle.pack_refusals.specs.Judgement.{judge_order, judge_pack}
 use Rattle.packer.specs.declared.Packed.TheVariants as packed
-use Rattle.packer.specs.Pack.{PackResult, packedTo, packIf, packOf}
+use Rattle.packer.specs.Pack.{PackResult, packed_to, pack_if, pack_of}
 use Rattle.unpacker.specs.declared.Unpacked.TheVariants as unpacked
-use Rattle.unpack_judging.specs.Judgement.{bytesOutOfPlace, judgePlace, judgeArrays}
+use Rattle.unpack_judging.specs.Judgement.{bytes_out_of_place, judge_place, judge_arrays}
 use Rattle.unpack_writing.specs.Writing.{over}
-use Rattle.unpacker.specs.Judgement.{judgeRead, judgeUnpack}
-use Rattle.unpacker.specs.Unpack.{UnpackResult, unpackedTo, unpackIf, unpackOf}
-use Rattle.unpack_comparing.proofs.Comparing.{cells-of, packs-size, pack-passes}
-use Rattle.unpacker.proofs.Recovering.{passed-taken, passed-items, kinds-length, operands-length}
-use Rattle.unpack_laws.specs.Claims.{Words, image_of, ReadsBack, PacksAgain, OneListing, Packed, byPack, TakenExactly}
-use Rattle.unpack_laws.proofs.Cells.{words-read}
+use Rattle.unpacker.specs.Judgement.{judge_read, judge_unpack}
+use Rattle.unpacker.specs.Unpack.{UnpackResult, unpacked_to, unpack_if, unpack_of}
+use Rattle.unpack_comparing.proofs.Comparing.{cells_of_lem, packs_size, pack_passes}
+use Rattle.unpacker.proofs.Recovering.{passed_taken, passed_items, kinds_length, operands_length}
+use Rattle.unpack_laws.specs.Claims.{Words, image_of, ReadsBack, PacksAgain, OneListing, Packed, by_pack, TakenExactly}
+use Rattle.unpack_laws.proofs.Cells.{words_read}
 
 -- a packing that answered 0: a legal listing, and the bytes of its image
 record Made (order : ℕ) (kinds operands : List ℕ) (base : ℕ) (p : PackResult) : Type 0 where
-  known : judgeOrder order ≡ judged.Passed
+  known : judge_order order ≡ judged.Passed
   equal : length operands ≡ length kinds
   legal : Legal base (listed kinds operands)
   bytes : image_of p ≡ bytes_of order (image base (listed kinds operands))
@@ -46,157 +46,157 @@ module _ (order : ℕ) (kinds operands : List ℕ) (base : ℕ) (out : List ℕ)
   abbrev l : Listing
   l = listed kinds operands
 
-  made_of : (j : Judged) → j ≡ judgePack order kinds operands base (length out) → (packIf j order base l out).number ≡ 0
-      → Made order kinds operands base (packIf j order base l out)
-  unfolding judgePack
-  made_of (judged.Refused r) e q = absurd (refusal-some r q)
+  made_of : (j : Judged) → j ≡ judge_pack order kinds operands base (length out) → (pack_if j order base l out).number ≡ 0
+      → Made order kinds operands base (pack_if j order base l out)
+  unfolding judge_pack
+  made_of (judged.Refused r) e q = absurd (refusal_some r q)
   made_of judged.Passed e q =
-      let s = both-pass (judgeOrder order) _ (sym e) in
-      let t = both-pass (judgedArrays kinds operands) _ s.1 in
-      let u = both-pass (judgedPlace base (imageCells l)) _ t.1 in
-      let ok = arrays-checked kinds operands t.0 in
+      let s = both_pass (judge_order order) _ (sym e) in
+      let t = both_pass (judged_arrays kinds operands) _ s.1 in
+      let u = both_pass (judged_place base (image_cells l)) _ t.1 in
+      let ok = arrays_checked kinds operands t.0 in
       record {
         known = s.0;
         equal = ok.equal;
         legal = record { input = ok.input; state = u.0; cell = λ i h. words i (omega (arith, ok.equal)) };
         bytes =
-            take_at (bytes_of order (image base l)) (drop (4 * length (image base l)) out) (4 * imageCells l)
-            (bytes-length order (image base l) ∙ ap (λ (n : ℕ). 4 * n) (cells-of base l));
+            take_at (bytes_of order (image base l)) (drop (4 * length (image base l)) out) (4 * image_cells l)
+            (bytes_length order (image base l) ∙ ap (λ (n : ℕ). 4 * n) (cells_of_lem base l));
       }
 
-  made : (packOf order kinds operands base out).number ≡ 0 → Made order kinds operands base (packOf order kinds operands base out)
-  unfolding packOf
-  made q = made_of (judgePack order kinds operands base (length out)) refl q
+  made : (pack_of order kinds operands base out).number ≡ 0 → Made order kinds operands base (pack_of order kinds operands base out)
+  unfolding pack_of
+  made q = made_of (judge_pack order kinds operands base (length out)) refl q
 
 -- the bytes of a legal listing's image are not refused
-module _ (order base : ℕ) (kinds operands : List ℕ) (known : judgeOrder order ≡ judged.Passed) (equal : length operands ≡ length kinds)
+module _ (order base : ℕ) (kinds operands : List ℕ) (known : judge_order order ≡ judged.Passed) (equal : length operands ≡ length kinds)
     (ok : Legal base (listed kinds operands)) where
   abbrev stored : List ℕ
   stored = bytes_of order (image base (listed kinds operands))
 
-  size : length stored ≡ 4 * imageCells (listed kinds operands)
-  size = bytes-length order (image base (listed kinds operands)) ∙ ap (λ (n : ℕ). 4 * n) (cells-of base (listed kinds operands))
+  size : length stored ≡ 4 * image_cells (listed kinds operands)
+  size = bytes_length order (image base (listed kinds operands)) ∙ ap (λ (n : ℕ). 4 * n) (cells_of_lem base (listed kinds operands))
 
-  read-passes : judgeRead order base stored ≡ judged.Passed
-  unfolding judgeRead judgePlace
-  read-passes =
-      let q : judge (unaligned base ∷ bytesOutOfPlace base (length stored) ∷ []) ≡ judged.Passed =
-      ap (λ (n : ℕ). judge (unaligned base ∷ bytesOutOfPlace base n ∷ [])) size ∙ ok.state
+  read_passes : judge_read order base stored ≡ judged.Passed
+  unfolding judge_read judge_place
+  read_passes =
+      let q : judge (unaligned base ∷ bytes_out_of_place base (length stored) ∷ []) ≡ judged.Passed =
+      ap (λ (n : ℕ). judge (unaligned base ∷ bytes_out_of_place base n ∷ [])) size ∙ ok.state
       in
-      rw (known, q, taken-again order base kinds operands equal ok)
+      rw (known, q, taken_again order base kinds operands equal ok)
 
-  items-are : itemsRead (cells_of order stored) ≡ length kinds
-  items-are = sym (kinds-length (cells_of order stored)) ∙ ap length (kinds-again order base kinds operands equal ok)
+  items_are : items_read (cells_of order stored) ≡ length kinds
+  items_are = sym (kinds_length (cells_of order stored)) ∙ ap length (kinds_again order base kinds operands equal ok)
 
   unpacks : (ks xs : List ℕ) → length kinds ≤ length ks → length operands ≤ length xs
-      → unpackOf order stored base ks xs ≡ unpackedTo (over kinds ks) (over operands xs) (unpacked.Items (length kinds))
-  unfolding unpackOf judgeUnpack judgeArrays
+      → unpack_of order stored base ks xs ≡ unpacked_to (over kinds ks) (over operands xs) (unpacked.Items (length kinds))
+  unfolding unpack_of judge_unpack judge_arrays
   unpacks ks xs h b =
       rw (
-        read-passes,
-        items-are,
+        read_passes,
+        items_are,
         le-ltb (length ks) (length kinds) h,
         le-ltb (length xs) (length kinds) (omega arith),
-        kinds-again order base kinds operands equal ok,
-        operands-again order base kinds operands equal ok,
+        kinds_again order base kinds operands equal ok,
+        operands_again order base kinds operands equal ok,
       )
 
-pub reads-back : ReadsBack
-reads-back order kinds operands base out ks xs words e h b =
+pub reads_back : ReadsBack
+reads_back order kinds operands base out ks xs words e h b =
     let m = made order kinds operands base out words e in
-    ap (λ (s : List ℕ). unpackOf order s base ks xs) m.bytes ∙ unpacks order base kinds operands m.known m.equal m.legal ks xs h b
+    ap (λ (s : List ℕ). unpack_of order s base ks xs) m.bytes ∙ unpacks order base kinds operands m.known m.equal m.legal ks xs h b
 
-pub one-listing : OneListing
-one-listing order base kinds operands out kinds2 operands2 out2 words words2 e e2 same =
+pub one_listing : OneListing
+one_listing order base kinds operands out kinds2 operands2 out2 words words2 e e2 same =
     let m = made order kinds operands base out words e in
     let m2 = made order kinds2 operands2 base out2 words2 e2 in
     let q : bytes_of order (image base (listed kinds operands)) ≡ bytes_of order (image base (listed kinds2 operands2)) = sym m.bytes ∙ same ∙ m2.bytes in (
-      sym (kinds-again order base kinds operands m.equal m.legal) ∙ ap (λ (s : List ℕ). kindsRead (cells_of order s)) q
-          ∙ kinds-again order base kinds2 operands2 m2.equal m2.legal,
-      sym (operands-again order base kinds operands m.equal m.legal) ∙ ap (λ (s : List ℕ). operandsRead (cells_of order s) base) q
-          ∙ operands-again order base kinds2 operands2 m2.equal m2.legal,
+      sym (kinds_again order base kinds operands m.equal m.legal) ∙ ap (λ (s : List ℕ). kinds_read (cells_of order s)) q
+          ∙ kinds_again order base kinds2 operands2 m2.equal m2.legal,
+      sym (operands_again order base kinds operands m.equal m.legal) ∙ ap (λ (s : List ℕ). operands_read (cells_of order s) base) q
+          ∙ operands_again order base kinds2 operands2 m2.equal m2.legal,
     )
 
 -- an image that is not refused, packed from what is read
-module _ (order base : ℕ) (s : List ℕ) (pass : judgeRead order base s ≡ judged.Passed) where
+module _ (order base : ℕ) (s : List ℕ) (pass : judge_read order base s ≡ judged.Passed) where
   abbrev img : List ℕ
   img = cells_of order s
 
-  packs : Packs order base (listingRead img base) s
-  packs = packs-is order base (listingRead img base) s (passed-taken order base s pass)
+  packs : Packs order base (listing_read img base) s
+  packs = packs_is order base (listing_read img base) s (passed_taken order base s pass)
 
-  packs-there : (out : List ℕ) → length s ≤ length out
-      → packOf order (kindsRead img) (operandsRead img base) base out ≡ packedTo (s ++ drop (length s) out) (packed.Cells (cellCount (length s / 4)))
-  unfolding packOf judgeRead
-  packs-there out h =
-      let p = both-pass (judgePlace order base (length s)) _ pass in
-      let n = packs-size order base (listingRead img base) s packs in
-      let k : 4 * length (image base (listingRead img base)) ≡ length s = ap (λ (m : ℕ). 4 * m) (cells-of base (listingRead img base)) ∙ sym n in
-      let c : imageCells (listingRead img base) ≡ length s / 4 = omega arith in
-      rw (pack-passes order base (kindsRead img) (operandsRead img base) s (operands-length img base ∙ sym (kinds-length img)) p.0 packs (length out) h)
-      (ap₂ (λ (t : List ℕ) (m : ℕ). packedTo t (packed.Cells (cellCount m)))
+  packs_there : (out : List ℕ) → length s ≤ length out
+      → pack_of order (kinds_read img) (operands_read img base) base out ≡ packed_to (s ++ drop (length s) out) (packed.Cells (cell_count (length s / 4)))
+  unfolding pack_of judge_read
+  packs_there out h =
+      let p = both_pass (judge_place order base (length s)) _ pass in
+      let n = packs_size order base (listing_read img base) s packs in
+      let k : 4 * length (image base (listing_read img base)) ≡ length s = ap (λ (m : ℕ). 4 * m) (cells_of_lem base (listing_read img base)) ∙ sym n in
+      let c : image_cells (listing_read img base) ≡ length s / 4 = omega arith in
+      rw (pack_passes order base (kinds_read img) (operands_read img base) s (operands_length img base ∙ sym (kinds_length img)) p.0 packs (length out) h)
+      (ap₂ (λ (t : List ℕ) (m : ℕ). packed_to t (packed.Cells (cell_count m)))
       (ap₂ (λ (t : List ℕ) (m : ℕ). t ++ drop m out) packs.bytes k) c)
 
 -- an unpacking that answered 0
-unpacked-of : (order : ℕ) (s : List ℕ) (base : ℕ) (ks xs : List ℕ) (j : Judged) → (unpackIf j (kindsRead (cells_of order s)) (operandsRead (cells_of order s) base) ks xs).number ≡ 0
+unpacked_of : (order : ℕ) (s : List ℕ) (base : ℕ) (ks xs : List ℕ) (j : Judged) → (unpack_if j (kinds_read (cells_of order s)) (operands_read (cells_of order s) base) ks xs).number ≡ 0
     → (j ≡ judged.Passed)
-unpacked-of order s base ks xs judged.Passed e = refl
-unpacked-of order s base ks xs (judged.Refused r) e = absurd (refusal-some r e)
+unpacked_of order s base ks xs judged.Passed e = refl
+unpacked_of order s base ks xs (judged.Refused r) e = absurd (refusal_some r e)
 
-pub packs-again : PacksAgain
-unfolding unpackOf judgeUnpack
-packs-again order s base ks xs out e h =
-    let q = unpacked-of order s base ks xs (judgeUnpack order base s (length ks) (length xs)) e in
-    let p = (both-pass (judgeRead order base s) _ q).0 in
+pub packs_again : PacksAgain
+unfolding unpack_of judge_unpack
+packs_again order s base ks xs out e h =
+    let q = unpacked_of order s base ks xs (judge_unpack order base s (length ks) (length xs)) e in
+    let p = (both_pass (judge_read order base s) _ q).0 in
     let img = cells_of order s in
     rw (
       q,
-      take_at (kindsRead img) (drop (length (kindsRead img)) ks) (length (kindsRead img)) refl,
-      take_at (operandsRead img base) (drop (length (operandsRead img base)) xs) (length (kindsRead img)) (operands-length img base ∙ sym (kinds-length img)),
+      take_at (kinds_read img) (drop (length (kinds_read img)) ks) (length (kinds_read img)) refl,
+      take_at (operands_read img base) (drop (length (operands_read img base)) xs) (length (kinds_read img)) (operands_length img base ∙ sym (kinds_length img)),
     )
-    (packs-there order base s p out h)
+    (packs_there order base s p out h)
 
 -- the operands that were written are cells
-pub words-again : (order : ℕ) (s : List ℕ) (base : ℕ) (ks xs : List ℕ) → Bytewise s → (unpackOf order s base ks xs).number ≡ 0
-    → Words (take (unpackOf order s base ks xs).count (unpackOf order s base ks xs).operands)
-unfolding unpackOf judgeUnpack
-words-again order s base ks xs low e =
-    let q = unpacked-of order s base ks xs (judgeUnpack order base s (length ks) (length xs)) e in
-    let p = (both-pass (judgeRead order base s) _ q).0 in
+pub words_again : (order : ℕ) (s : List ℕ) (base : ℕ) (ks xs : List ℕ) → Bytewise s → (unpack_of order s base ks xs).number ≡ 0
+    → Words (take (unpack_of order s base ks xs).count (unpack_of order s base ks xs).operands)
+unfolding unpack_of judge_unpack
+words_again order s base ks xs low e =
+    let q = unpacked_of order s base ks xs (judge_unpack order base s (length ks) (length xs)) e in
+    let p = (both_pass (judge_read order base s) _ q).0 in
     let img = cells_of order s in
-    rw (q, take_at (operandsRead img base) (drop (length (operandsRead img base)) xs) (length (kindsRead img)) (operands-length img base ∙ sym (kinds-length img)))
-    (words-read order base s low (omega (arith, passed-items order base s p)))
+    rw (q, take_at (operands_read img base) (drop (length (operands_read img base)) xs) (length (kinds_read img)) (operands_length img base ∙ sym (kinds_length img)))
+    (words_read order base s low (omega (arith, passed_items order base s p)))
 
 -- bytes that were packed are not refused, and bytes that are not refused were packed
-packed-passes : (order base : ℕ) (s : List ℕ) → Packed order base s → judgeRead order base s ≡ judged.Passed
-packed-passes order base _ (byPack kinds operands out words e) =
+packed_passes : (order base : ℕ) (s : List ℕ) → Packed order base s → judge_read order base s ≡ judged.Passed
+packed_passes order base _ (by_pack kinds operands out words e) =
     let m = made order kinds operands base out words e in
-    ap (judgeRead order base) m.bytes ∙ read-passes order base kinds operands m.known m.equal m.legal
+    ap (judge_read order base) m.bytes ∙ read_passes order base kinds operands m.known m.equal m.legal
 
-passes-packed : (order base : ℕ) (s : List ℕ) → Bytewise s → judgeRead order base s ≡ judged.Passed → Packed order base s
-passes-packed order base s low pass =
+passes_packed : (order base : ℕ) (s : List ℕ) → Bytewise s → judge_read order base s ≡ judged.Passed → Packed order base s
+passes_packed order base s low pass =
     let img = cells_of order s in
-    let e = packs-there order base s pass s (omega arith) in
-    let n = packs-size order base (listingRead img base) s (packs order base s pass) in
-    let q : image_of (packOf order (kindsRead img) (operandsRead img base) base s) ≡ s =
+    let e = packs_there order base s pass s (omega arith) in
+    let n = packs_size order base (listing_read img base) s (packs order base s pass) in
+    let q : image_of (pack_of order (kinds_read img) (operands_read img base) base s) ≡ s =
     ap image_of e ∙ take_at s (drop (length s) s) (4 * (length s / 4)) (omega arith)
     in
-    let p : Packed order base (image_of (packOf order (kindsRead img) (operandsRead img base) base s)) =
-    byPack (kindsRead img) (operandsRead img base) s (words-read order base s low (omega (arith, passed-items order base s pass)))
+    let p : Packed order base (image_of (pack_of order (kinds_read img) (operands_read img base) base s)) =
+    by_pack (kinds_read img) (operands_read img base) s (words_read order base s low (omega (arith, passed_items order base s pass)))
     (ap (λ (r : PackResult). r.number) e)
     in
     rw q at p
 
-pub taken-exactly : TakenExactly
-unfolding judgeRead
-taken-exactly =
+pub taken_exactly : TakenExactly
+unfolding judge_read
+taken_exactly =
     record {
-      taken = packed-passes;
-      only = passes-packed;
-      others = λ order base s low place h. none order base s place (λ t. h (passes-packed order base s low t)) (taken order base s) refl;
+      taken = packed_passes;
+      only = passes_packed;
+      others = λ order base s low place h. none order base s place (λ t. h (passes_packed order base s low t)) (taken order base s) refl;
     }
   where
-    none : (order base : ℕ) (s : List ℕ) → judgePlace order base (length s) ≡ judged.Passed → (judgeRead order base s ≡ judged.Passed → ⊥)
-        → (b : Bool) → taken order base s ≡ b → judgeRead order base s ≡ judged.Refused refusal.NoListing
+    none : (order base : ℕ) (s : List ℕ) → judge_place order base (length s) ≡ judged.Passed → (judge_read order base s ≡ judged.Passed → ⊥)
+        → (b : Bool) → taken order base s ≡ b → judge_read order base s ≡ judged.Refused refusal.NoListing
     none order base s place h true e = absurd (h (rw (place, e)))
     none order base s place h false e = rw (place, e)

@@ -1,6 +1,6 @@
 -- Rows on images, worked on paper from document 02, (h), and document 01, Listings. Arrays are lent with 5Ah in every place.
 use Rattle.std.specs.Prelude.{◌≡◌, List, [], ◌∷◌, ◌++◌, map, ℕ, ◌+◌, ◌-◌, ◌^◌, replicate, length}
-use Rattle.unpacker.specs.Unpack.{unpackOf}
+use Rattle.unpacker.specs.Unpack.{unpack_of}
 
 abbrev pub lent : ℕ → List ℕ
 lent size = replicate size 0x5A
@@ -69,8 +69,8 @@ small x = x ∷ 0 ∷ 0 ∷ 0 ∷ []
 abbrev pub rule : List ℕ
 rule = (0x53 ∷ 2 ∷ 0 ∷ 0 ∷ []) ++ (0x53 ∷ 3 ∷ 0 ∷ 0 ∷ []) ++ (0x1E ∷ 0x55 ∷ 0 ∷ 0 ∷ [])
 
-abbrev pub takenRows : List Row
-takenRows =
+abbrev pub taken_rows : List Row
+taken_rows =
     taken 0 0x10 rule (0x52 ∷ 0x52 ∷ 0x1E ∷ 0x55 ∷ []) (2 ∷ 3 ∷ 0 ∷ 0 ∷ [])
     -- the same in the other byte order, and at another base: it has no branch
     ∷ taken 1 0x40 ((0 ∷ 0 ∷ 2 ∷ 0x53 ∷ []) ++ (0 ∷ 0 ∷ 3 ∷ 0x53 ∷ []) ++ (0 ∷ 0 ∷ 0x55 ∷ 0x1E ∷ []))
@@ -86,8 +86,8 @@ takenRows =
     ∷ taken 0 0x10 (small 0x46 ++ small 0x55) (0x46 ∷ 0x55 ∷ []) (0 ∷ 0 ∷ [])
     ∷ []
 
-abbrev pub refusedRows : List Row
-refusedRows =
+abbrev pub refused_rows : List Row
+refused_rows =
     -- -4116: a 00h byte between two items of a cell
     refused 4116 0 0x10 (0x1E ∷ 0 ∷ 0x55 ∷ 0 ∷ [])
     -- a literal in a cell of its own, although 2 fits the three bytes left
@@ -125,10 +125,10 @@ refusedRows =
 
 abbrev pub Holds : List Row → Type 0
 Holds rows =
-    (map (λ r. (unpackOf r.order r.image r.base (lent r.room) (lent r.places)).number) rows ≡ map (λ r. r.number) rows)
-    × (map (λ r. (unpackOf r.order r.image r.base (lent r.room) (lent r.places)).count) rows ≡ map (λ r. r.count) rows)
-    × (map (λ r. (unpackOf r.order r.image r.base (lent r.room) (lent r.places)).kinds) rows ≡ map (λ r. r.kinds) rows)
-    × (map (λ r. (unpackOf r.order r.image r.base (lent r.room) (lent r.places)).operands) rows ≡ map (λ r. r.operands) rows)
+    (map (λ r. (unpack_of r.order r.image r.base (lent r.room) (lent r.places)).number) rows ≡ map (λ r. r.number) rows)
+    × (map (λ r. (unpack_of r.order r.image r.base (lent r.room) (lent r.places)).count) rows ≡ map (λ r. r.count) rows)
+    × (map (λ r. (unpack_of r.order r.image r.base (lent r.room) (lent r.places)).kinds) rows ≡ map (λ r. r.kinds) rows)
+    × (map (λ r. (unpack_of r.order r.image r.base (lent r.room) (lent r.places)).operands) rows ≡ map (λ r. r.operands) rows)
 
 abbrev pub RowsHold : Type 0
-RowsHold = Holds takenRows × Holds refusedRows
+RowsHold = Holds taken_rows × Holds refused_rows

@@ -1,8 +1,8 @@
 // All items of an image.
 ghost use Rattle.std.specs.Prelude.{◌≡◌, ℕ, ◌/◌, ◌≤◌, ◌<◌, length, get_or};
-ghost use Rattle.pack_layout.specs.Reading.{cells_of, itemsRead};
-ghost use Rattle.unpack_items.specs.Readers.{readerOf};
-ghost use Rattle.unpack_reading.specs.Arrays.{firstNoted, Filled};
+ghost use Rattle.pack_layout.specs.Reading.{cells_of, items_read};
+ghost use Rattle.unpack_items.specs.Readers.{reader_of};
+ghost use Rattle.unpack_reading.specs.Arrays.{first_noted, Filled};
 
 use cell::{Address, CellCount};
 use pack_layout::MOST_ITEMS;
@@ -12,7 +12,7 @@ use unpack_items::item::{at_cell, behind_item, read_item};
 // Notes the item that begins a cell.
 fn note_first(firsts: &mut [u16], r: Reader, i: usize)
     requires { (r.at.0 < length firsts.old) × (i < 4096) }
-    ensures { firsts.new ≡ firstNoted (readerOf r) firsts.old i }
+    ensures { firsts.new ≡ first_noted (reader_of r) firsts.old i }
 {
     if r.first {
         let c = r.at.0 as usize;
@@ -31,7 +31,7 @@ pub fn read_items(
 ) -> usize
     requires kinds_len { (length kinds.old ≡ 4096) × (length held.old ≡ 4096) × (length firsts.old ≡ length image.now / 4) }
     requires by_index { (c : ℕ) → c < length firsts.old → get_or firsts.old c 0 ≡ 4096 }
-    ensures value { result ≡ itemsRead (cells_of order image.now) }
+    ensures value { result ≡ items_read (cells_of order image.now) }
     ensures filled { result ≤ 4096 → Filled (cells_of order image.now) base.0 kinds.new held.new firsts.new result }
 {
     let size = firsts.len();

@@ -1,7 +1,7 @@
 // The items that branches lead to.
 ghost use Rattle.std.specs.Prelude.{◌≡◌, ℕ, ◌<◌, length, get_or};
-ghost use Rattle.pack_layout.specs.Kinds.{classOf};
-ghost use Rattle.unpack_reading.specs.Arrays.{itemIn, operandIn};
+ghost use Rattle.pack_layout.specs.Kinds.{class_of};
+ghost use Rattle.unpack_reading.specs.Arrays.{item_in, operand_in};
 
 use crate::NO_ITEM;
 use cell::Address;
@@ -11,7 +11,7 @@ use pack_layout::ItemNumber;
 
 // The item that begins the cell at an address.
 fn item_at(firsts: &[u16], base: Address, a: Address) -> ItemNumber
-    ensures { result.0 ≡ itemIn base.0 firsts.now a.0 }
+    ensures { result.0 ≡ item_in base.0 firsts.now a.0 }
 {
     let d = subtract(a.0, base.0);
     if d % 4 != 0 {
@@ -28,7 +28,7 @@ fn item_at(firsts: &[u16], base: Address, a: Address) -> ItemNumber
 pub fn find_targets(kinds: &[u8], operands: &mut [u32], firsts: &[u16], base: Address)
     requires { length operands.old ≡ length kinds.now }
     ensures operands_len_unchanged { length operands.new ≡ length operands.old }
-    ensures by_index { (j : ℕ) → j < length operands.old → get_or operands.new j 0 ≡ operandIn (classOf (get_or kinds.now j 0)) base.0 firsts.now (get_or operands.old j 0) }
+    ensures by_index { (j : ℕ) → j < length operands.old → get_or operands.new j 0 ≡ operand_in (class_of (get_or kinds.now j 0)) base.0 firsts.now (get_or operands.old j 0) }
 {
     let n = operands.len();
     let mut i: usize = 0;

@@ -20,5 +20,5 @@ copied_on from to i h b =
 pub copied_all : (from to : List ℕ) → copied from to (length from) ≡ over from to
 copied_all from to = ap₂ (λ (s : List ℕ) (n : ℕ). s ++ drop n to) (take-length from) (zero-add (length from))
 
-pub copied-length : (from to : List ℕ) (i : ℕ) → i ≤ length from → length from ≤ length to → length (copied from to i) ≡ length to
-copied-length from to i h b = length-paste to 0 from i (omega arith) h
+pub copied_length : (from to : List ℕ) (i : ℕ) → i ≤ length from → length from ≤ length to → length (copied from to i) ≡ length to
+copied_length from to i h b = length-paste to 0 from i (omega arith) h

@@ -8,12 +8,12 @@ use lib.Dec.{ltb}
 use Rattle.cell.specs.declared.Refusal.TheVariants as refusal
 use Rattle.cell.specs.declared.Judged.TheVariants as judged
 use Rattle.cell.proofs.BooleanLaws.{neither}
-use Rattle.cell.proofs.JudgementLaws.{one-clear}
-use Rattle.unpack_judging.specs.Judgement.{judgeArrays}
+use Rattle.cell.proofs.JudgementLaws.{one_clear}
+use Rattle.unpack_judging.specs.Judgement.{judge_arrays}
 
 -- arrays that are not refused have room
-pub arrays-room : (n k x : ℕ) → judgeArrays n k x ≡ judged.Passed → (n ≤ k) × (n ≤ x)
-unfolding judgeArrays
-arrays-room n k x e =
-    let p = neither (ltb k n) (ltb x n) (one-clear (ltb k n || ltb x n) refusal.ShortOutput judged.Passed e).0 in
+pub arrays_room : (n k x : ℕ) → judge_arrays n k x ≡ judged.Passed → (n ≤ k) × (n ≤ x)
+unfolding judge_arrays
+arrays_room n k x e =
+    let p = neither (ltb k n) (ltb x n) (one_clear (ltb k n || ltb x n) refusal.ShortOutput judged.Passed e).0 in
     (ltb-false k n p.0, ltb-false x n p.1)

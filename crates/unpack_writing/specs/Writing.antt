@@ -7,6 +7,6 @@ use Rattle.cell.specs.declared.Judged.TheVariants.{Passed, Refused}
 abbrev pub over : List ℕ → List ℕ → List ℕ
 over xs l = xs ++ drop (length xs) l
 
-abbrev pub overIf : Judged → List ℕ → List ℕ → List ℕ
-overIf Passed xs l = over xs l
-overIf (Refused r) xs l = l
+abbrev pub over_if : Judged → List ℕ → List ℕ → List ℕ
+over_if Passed xs l = over xs l
+over_if (Refused r) xs l = l

@@ -1,7 +1,7 @@
 // A listing, written to the first places of lent arrays.
 ghost use Rattle.std.specs.Prelude.{◌≡◌, ◌≤◌, length};
 ghost use Rattle.unpack_judging.specs.Judgement as judgement;
-ghost use Rattle.unpack_writing.specs.Writing.{over, overIf};
+ghost use Rattle.unpack_writing.specs.Writing.{over, over_if};
 
 use cell::Judged;
 use unpack_judging::judgement::judge_arrays;
@@ -33,8 +33,8 @@ fn copy_operands(from: &[u32], to: &mut [u32])
 // Writes the kinds ks and the operands xs of a listing, unless an array is too short.
 pub fn write_listing(ks: &[u8], xs: &[u32], kinds: &mut [u8], operands: &mut [u32]) -> Judged
     requires { (length xs.now ≡ length ks.now) × (length ks.now ≤ 4096) }
-    ensures value { result ≡ judgement.judgeArrays (length ks.now) (length kinds.old) (length operands.old) }
-    ensures kinds_after { (kinds.new ≡ overIf result ks.now kinds.old) × (operands.new ≡ overIf result xs.now operands.old) }
+    ensures value { result ≡ judgement.judge_arrays (length ks.now) (length kinds.old) (length operands.old) }
+    ensures kinds_after { (kinds.new ≡ over_if result ks.now kinds.old) × (operands.new ≡ over_if result xs.now operands.old) }
 {
     let j = judge_arrays(ks.len() as u32, kinds.len(), operands.len());
     let Judged::Passed = j else {

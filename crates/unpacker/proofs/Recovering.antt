@@ -17,35 +17,35 @@ use Rattle.cell.specs.declared.Refusal.TheVariants as refusal
 use Rattle.cell.specs.declared.Judged.{Judged}
 use Rattle.cell.specs.declared.Judged.TheVariants as judged
 use Rattle.cell.proofs.BooleanLaws.{neither}
-use Rattle.cell.proofs.JudgementLaws.{both-pass, one-clear}
+use Rattle.cell.proofs.JudgementLaws.{both_pass, one_clear}
 use Rattle.pack_layout.specs.declared.Class.{Class}
-use Rattle.pack_layout.specs.declared.Class.TheVariants.{Plain as plain, Literal as literal, Branch as branch, NoKind as noKind}
-use Rattle.pack_layout.specs.Kinds.{classOf}
+use Rattle.pack_layout.specs.declared.Class.TheVariants.{Plain as plain, Literal as literal, Branch as branch, NoKind as no_kind}
+use Rattle.pack_layout.specs.Kinds.{class_of}
 use Rattle.pack_layout.specs.Listing.{listed}
-use Rattle.pack_layout.specs.Reading.{each, cells_of, reader, itemsFrom, itemsRead, first_at, kindReadAt, held_at, operandOf, operandReadAt, kindsRead, operandsRead, listingRead}
-use Rattle.pack_layout.specs.Unpacking.{packsTo, taken}
+use Rattle.pack_layout.specs.Reading.{each, cells_of, reader, items_from, items_read, first_at, kind_read_at, held_at, operand_of, operand_read_at, kinds_read, operands_read, listing_read}
+use Rattle.pack_layout.specs.Unpacking.{packs_to, taken}
 use Rattle.pack_layout.proofs.Listing.{some_item}
-use Rattle.pack_layout.proofs.Reading.{each-length, each-is}
-use Rattle.pack_layout.proofs.Unpacking.{Packs, packs-is}
-use Rattle.pack_prepare.proofs.Checking.{cells-most}
-use Rattle.pack_refusals.specs.Judgement.{judgeOrder}
-use Rattle.unpack_judging.specs.Judgement.{bytesOutOfPlace, judgePlace}
-use Rattle.unpack_comparing.proofs.Comparing.{packs-size}
-use Rattle.unpack_reading.specs.Arrays.{itemIn, operandIn, Filled}
-use Rattle.unpack_reading.proofs.Finding.{item-is}
+use Rattle.pack_layout.proofs.Reading.{each_length, each_is}
+use Rattle.pack_layout.proofs.Unpacking.{Packs, packs_is}
+use Rattle.pack_prepare.proofs.Checking.{cells_most}
+use Rattle.pack_refusals.specs.Judgement.{judge_order}
+use Rattle.unpack_judging.specs.Judgement.{bytes_out_of_place, judge_place}
+use Rattle.unpack_comparing.proofs.Comparing.{packs_size}
+use Rattle.unpack_reading.specs.Arrays.{item_in, operand_in, Filled}
+use Rattle.unpack_reading.proofs.Finding.{item_is}
 use Rattle.unpacker.specs.declared.Unpacked.TheVariants as unpacked
-use Rattle.unpacker.specs.Judgement.{judgeRead}
-use Rattle.unpacker.specs.Unpack.{readIf, Recovered}
+use Rattle.unpacker.specs.Judgement.{judge_read}
+use Rattle.unpacker.specs.Unpack.{read_if, Recovered}
 
 -- every item read begins inside the image
-items-inside : (img : List ℕ) (k i j : ℕ) → i ≤ j → j < itemsFrom img k i → (reader img j).at < length img
-unfolding itemsFrom
-items-inside img zero i j a b = absurd (omega arith)
-items-inside img (suc k) i j a b =
-    go (leb (length img) (reader img i).at) refl b (dec_lt i j) (λ l c. items-inside img k (suc i) j l c)
+items_inside : (img : List ℕ) (k i j : ℕ) → i ≤ j → j < items_from img k i → (reader img j).at < length img
+unfolding items_from
+items_inside img zero i j a b = absurd (omega arith)
+items_inside img (suc k) i j a b =
+    go (leb (length img) (reader img i).at) refl b (dec_lt i j) (λ l c. items_inside img k (suc i) j l c)
   where
-    go : (t : Bool) → leb (length img) (reader img i).at ≡ t → j < if t i (itemsFrom img k (suc i)) → Dec (i < j)
-        → (i < j → j < itemsFrom img k (suc i) → (reader img j).at < length img) → (reader img j).at < length img
+    go : (t : Bool) → leb (length img) (reader img i).at ≡ t → j < if t i (items_from img k (suc i)) → Dec (i < j)
+        → (i < j → j < items_from img k (suc i) → (reader img j).at < length img) → (reader img j).at < length img
     go true e b d f = absurd (omega arith)
     go false e b (yes l) f = f l b
     go false e b (no l) f = let q : i ≡ j = omega arith in rw (← q) (leb-false (length img) (reader img i).at e)
@@ -55,156 +55,156 @@ pub part : (n : ℕ) → n - 0 ≡ n
 part n = omega arith
 
 -- the first m places of an array that holds one number throughout
-pub fresh-length : (k m x : ℕ) → m ≤ k → length (take (m - 0) (replicate k x)) ≡ m
-fresh-length k m x h = rw (part m) (length-take-le m (replicate k x) (rw (length-replicate k x) h))
+pub fresh_length : (k m x : ℕ) → m ≤ k → length (take (m - 0) (replicate k x)) ≡ m
+fresh_length k m x h = rw (part m) (length-take-le m (replicate k x) (rw (length-replicate k x) h))
 
 pub fresh_at : (k m x : ℕ) → m ≤ k → (c : ℕ) → c < length (take (m - 0) (replicate k x)) → get_or (take (m - 0) (replicate k x)) c 0 ≡ x
 fresh_at k m x h c b =
-    let l : c < m = omega (arith, fresh-length k m x h) in
+    let l : c < m = omega (arith, fresh_length k m x h) in
     rw (part m) (get_or-take m (replicate k x) c 0 l ∙ get_or-replicate k c x 0 (omega arith))
 
 pub found_in : (base n : ℕ) (kinds held firsts operands : List ℕ) → n ≤ length held
     → ((j : ℕ) → j < length (take (n - 0) held)
-    → get_or operands j 0 ≡ operandIn (classOf (get_or (take (n - 0) kinds) j 0)) base firsts (get_or (take (n - 0) held) j 0))
-    → (j : ℕ) → j < n → get_or operands j 0 ≡ operandIn (classOf (get_or kinds j 0)) base firsts (get_or held j 0)
+    → get_or operands j 0 ≡ operand_in (class_of (get_or (take (n - 0) kinds) j 0)) base firsts (get_or (take (n - 0) held) j 0))
+    → (j : ℕ) → j < n → get_or operands j 0 ≡ operand_in (class_of (get_or kinds j 0)) base firsts (get_or held j 0)
 found_in base n kinds held firsts operands b f j h =
     f j (rw (part n, length-take-le n held b) h)
-    ∙ ap₂ (λ (k x : ℕ). operandIn (classOf k) base firsts x)
+    ∙ ap₂ (λ (k x : ℕ). operand_in (class_of k) base firsts x)
     (ap (λ (m : ℕ). get_or (take m kinds) j 0) (part n) ∙ get_or-take n kinds j 0 h)
     (ap (λ (m : ℕ). get_or (take m held) j 0) (part n) ∙ get_or-take n held j 0 h)
 
-pub kinds-length : (img : List ℕ) → length (kindsRead img) ≡ itemsRead img
-unfolding kindsRead
-kinds-length img = each-length (kindReadAt img) (itemsRead img) 0
+pub kinds_length : (img : List ℕ) → length (kinds_read img) ≡ items_read img
+unfolding kinds_read
+kinds_length img = each_length (kind_read_at img) (items_read img) 0
 
-pub operands-length : (img : List ℕ) (base : ℕ) → length (operandsRead img base) ≡ itemsRead img
-unfolding operandsRead
-operands-length img base = each-length (operandReadAt img base) (itemsRead img) 0
+pub operands_length : (img : List ℕ) (base : ℕ) → length (operands_read img base) ≡ items_read img
+unfolding operands_read
+operands_length img base = each_length (operand_read_at img base) (items_read img) 0
 
 module _ (order base : ℕ) (s : List ℕ) where
   abbrev img : List ℕ
   img = cells_of order s
 
   -- an image that is taken has at most 4,096 items and 32,768 bytes
-  taken-items : taken order base s ≡ true → itemsRead img ≤ 4096
-  taken-items e =
-      let p = packs-is order base (listingRead img base) s e in
-      omega (arith, (some_item (listingRead img base) p.input).1, kinds-length img)
+  taken_items : taken order base s ≡ true → items_read img ≤ 4096
+  taken_items e =
+      let p = packs_is order base (listing_read img base) s e in
+      omega (arith, (some_item (listing_read img base) p.input).1, kinds_length img)
 
-  taken-bytes : taken order base s ≡ true → length s ≤ 32768
-  taken-bytes e =
-      let p = packs-is order base (listingRead img base) s e in
-      let q = cells-most (kindsRead img) (operandsRead img base) (record { equal = operands-length img base ∙ sym (kinds-length img); input = p.input }) in
-      omega (arith, packs-size order base (listingRead img base) s p, q)
+  taken_bytes : taken order base s ≡ true → length s ≤ 32768
+  taken_bytes e =
+      let p = packs_is order base (listing_read img base) s e in
+      let q = cells_most (kinds_read img) (operands_read img base) (record { equal = operands_length img base ∙ sym (kinds_length img); input = p.input }) in
+      omega (arith, packs_size order base (listing_read img base) s p, q)
 
   -- what is not refused is taken
-  pub passed-taken : judgeRead order base s ≡ judged.Passed → taken order base s ≡ true
-  unfolding judgeRead
-  passed-taken e =
-      let p = both-pass (judgePlace order base (length s)) _ e in
-      not-false (taken order base s) (one-clear (not (taken order base s)) refusal.NoListing judged.Passed p.1).0
+  pub passed_taken : judge_read order base s ≡ judged.Passed → taken order base s ≡ true
+  unfolding judge_read
+  passed_taken e =
+      let p = both_pass (judge_place order base (length s)) _ e in
+      not-false (taken order base s) (one_clear (not (taken order base s)) refusal.NoListing judged.Passed p.1).0
 
-  pub passed-items : judgeRead order base s ≡ judged.Passed → itemsRead img ≤ 4096
-  passed-items e = taken-items (passed-taken e)
+  pub passed_items : judge_read order base s ≡ judged.Passed → items_read img ≤ 4096
+  passed_items e = taken_items (passed_taken e)
 
   not_taken : (b : Bool) → taken order base s ≡ b → (taken order base s ≡ true → ⊥) → b ≡ false
   not_taken true e h = absurd (h e)
   not_taken false e h = refl
 
   -- order or place refused
-  pub turned-back : (r : Refusal) (n : ℕ) (kinds operands : List ℕ) → judgePlace order base (length s) ≡ judged.Refused r
-      → (unpacked.Refused r ≡ readIf (judgeRead order base s) n) × Recovered order base s kinds operands
-  unfolding judgeRead
-  turned-back r n kinds operands e =
-      let q : judgeRead order base s ≡ judged.Refused r = rw e in (
+  pub turned_back : (r : Refusal) (n : ℕ) (kinds operands : List ℕ) → judge_place order base (length s) ≡ judged.Refused r
+      → (unpacked.Refused r ≡ read_if (judge_read order base s) n) × Recovered order base s kinds operands
+  unfolding judge_read
+  turned_back r n kinds operands e =
+      let q : judge_read order base s ≡ judged.Refused r = rw e in (
         rw q,
         record {
-          kinds-front = λ p. absurd (let z : ◌≡◌ {A = ℕ} 0 1 = cc in omega arith);
-          operands-front = λ p. absurd (let z : ◌≡◌ {A = ℕ} 0 1 = cc in omega arith);
+          kinds_front = λ p. absurd (let z : ◌≡◌ {A = ℕ} 0 1 = cc in omega arith);
+          operands_front = λ p. absurd (let z : ◌≡◌ {A = ℕ} 0 1 = cc in omega arith);
         },
       )
 
-  module _ (place : judgePlace order base (length s) ≡ judged.Passed) where
+  module _ (place : judge_place order base (length s) ≡ judged.Passed) where
     -- refused, and no promise on the arrays
     pub none : taken order base s ≡ false → (n : ℕ) (kinds operands : List ℕ)
-        → (unpacked.Refused refusal.NoListing ≡ readIf (judgeRead order base s) n) × Recovered order base s kinds operands
-    unfolding judgeRead
+        → (unpacked.Refused refusal.NoListing ≡ read_if (judge_read order base s) n) × Recovered order base s kinds operands
+    unfolding judge_read
     none e n kinds operands =
-        let q : judgeRead order base s ≡ judged.Refused refusal.NoListing = rw (place, e) in (
+        let q : judge_read order base s ≡ judged.Refused refusal.NoListing = rw (place, e) in (
           rw q,
           record {
-            kinds-front = λ p. absurd (let z : ◌≡◌ {A = ℕ} 0 1 = cc in omega arith);
-            operands-front = λ p. absurd (let z : ◌≡◌ {A = ℕ} 0 1 = cc in omega arith);
+            kinds_front = λ p. absurd (let z : ◌≡◌ {A = ℕ} 0 1 = cc in omega arith);
+            operands_front = λ p. absurd (let z : ◌≡◌ {A = ℕ} 0 1 = cc in omega arith);
           },
         )
 
-    pub too_many : (n : ℕ) (kinds operands : List ℕ) → n ≡ itemsRead img → 4096 < n
-        → (unpacked.Refused refusal.NoListing ≡ readIf (judgeRead order base s) (itemsRead img)) × Recovered order base s kinds operands
+    pub too_many : (n : ℕ) (kinds operands : List ℕ) → n ≡ items_read img → 4096 < n
+        → (unpacked.Refused refusal.NoListing ≡ read_if (judge_read order base s) (items_read img)) × Recovered order base s kinds operands
     too_many n kinds operands e h =
-        none (not_taken (taken order base s) refl (λ t. omega (arith, taken-items t))) (itemsRead img) kinds operands
+        none (not_taken (taken order base s) refl (λ t. omega (arith, taken_items t))) (items_read img) kinds operands
 
     pub too_long : (kinds operands : List ℕ) → 32768 < length s
-        → (unpacked.Refused refusal.NoListing ≡ readIf (judgeRead order base s) (itemsRead img)) × Recovered order base s kinds operands
+        → (unpacked.Refused refusal.NoListing ≡ read_if (judge_read order base s) (items_read img)) × Recovered order base s kinds operands
     too_long kinds operands h =
-        none (not_taken (taken order base s) refl (λ t. omega (arith, taken-bytes t))) (itemsRead img) kinds operands
+        none (not_taken (taken order base s) refl (λ t. omega (arith, taken_bytes t))) (items_read img) kinds operands
 
     below : base + length s ≤ 16777216
-    unfolding judgePlace
+    unfolding judge_place
     below =
-        let p = both-pass (judgeOrder order) (judge (unaligned base ∷ bytesOutOfPlace base (length s) ∷ [])) place in
-        let q = one-clear (unaligned base).applies refusal.Unaligned _ p.1 in
-        let t = one-clear (bytesOutOfPlace base (length s)).applies refusal.Base judged.Passed q.1 in
+        let p = both_pass (judge_order order) (judge (unaligned base ∷ bytes_out_of_place base (length s) ∷ [])) place in
+        let q = one_clear (unaligned base).applies refusal.Unaligned _ p.1 in
+        let t = one_clear (bytes_out_of_place base (length s)).applies refusal.Base judged.Passed q.1 in
         ltb-false 16777216 (base + length s) (neither (ltb base 0x10) (ltb 16777216 (base + length s)) t.0).1
 
     -- arrays as the reading filled them: the first n kinds, and the operands once the targets are found
-    module _ (n : ℕ) (kinds held firsts operands : List ℕ) (count : n ≡ itemsRead img) (filled : Filled img base kinds held firsts n)
+    module _ (n : ℕ) (kinds held firsts operands : List ℕ) (count : n ≡ items_read img) (filled : Filled img base kinds held firsts n)
         (kinds-room : n ≤ length kinds) (size : length operands ≡ n) (firsts-size : length firsts ≡ length img) (cells : length img ≡ length s / 4)
         (words : (j : ℕ) → get_or held j 0 < 2 ^ 32)
-        (found : (j : ℕ) → j < n → get_or operands j 0 ≡ operandIn (classOf (get_or kinds j 0)) base firsts (get_or held j 0)) where
-      kinds-are : take n kinds ≡ kindsRead img
-      unfolding kindsRead
-      kinds-are =
-          each-is (kindReadAt img) n (take n kinds) (length-take-le n kinds kinds-room) (λ j h. get_or-take n kinds j 0 h ∙ filled.kind j h)
-          ∙ ap (λ (k : ℕ). each (kindReadAt img) k 0) count
+        (found : (j : ℕ) → j < n → get_or operands j 0 ≡ operand_in (class_of (get_or kinds j 0)) base firsts (get_or held j 0)) where
+      kinds_are : take n kinds ≡ kinds_read img
+      unfolding kinds_read
+      kinds_are =
+          each_is (kind_read_at img) n (take n kinds) (length-take-le n kinds kinds-room) (λ j h. get_or-take n kinds j 0 h ∙ filled.kind j h)
+          ∙ ap (λ (k : ℕ). each (kind_read_at img) k 0) count
 
       -- the array gives the item that is read
-      item-there : (a : ℕ) → a < 2 ^ 32 → itemIn base firsts a ≡ first_at img base (itemsRead img) a
-      unfolding itemsRead
-      item-there a h =
-          item-is img base n firsts a filled.first
-          (λ j b. omega (arith, items-inside img 4097 0 j (omega arith) (omega (arith, count)), firsts-size))
+      item_there : (a : ℕ) → a < 2 ^ 32 → item_in base firsts a ≡ first_at img base (items_read img) a
+      unfolding items_read
+      item_there a h =
+          item_is img base n firsts a filled.first
+          (λ j b. omega (arith, items_inside img 4097 0 j (omega arith) (omega (arith, count)), firsts-size))
           (omega (arith, below, firsts-size, cells)) h
           ∙ ap (λ (k : ℕ). first_at img base k a) count
 
-      operand-of : (c : Class) (x : ℕ) → x < 2 ^ 32 → operandIn c base firsts x ≡ operandOf img base c x
-      operand-of plain x h = refl
-      operand-of literal x h = refl
-      operand-of branch x h = item-there x h
-      operand-of noKind x h = refl
+      operand_of_lem : (c : Class) (x : ℕ) → x < 2 ^ 32 → operand_in c base firsts x ≡ operand_of img base c x
+      operand_of_lem plain x h = refl
+      operand_of_lem literal x h = refl
+      operand_of_lem branch x h = item_there x h
+      operand_of_lem no_kind x h = refl
 
-      operands-are : operands ≡ operandsRead img base
-      unfolding operandsRead
-      operands-are =
-          each-is (operandReadAt img base) n operands size
-          (λ j h. found j h ∙ operand-of (classOf (get_or kinds j 0)) (get_or held j 0) (words j)
-          ∙ ap₂ (λ (k x : ℕ). operandOf img base (classOf k) x) (filled.kind j h) (filled.value j h))
-          ∙ ap (λ (k : ℕ). each (operandReadAt img base) k 0) count
+      operands_are : operands ≡ operands_read img base
+      unfolding operands_read
+      operands_are =
+          each_is (operand_read_at img base) n operands size
+          (λ j h. found j h ∙ operand_of_lem (class_of (get_or kinds j 0)) (get_or held j 0) (words j)
+          ∙ ap₂ (λ (k x : ℕ). operand_of img base (class_of k) x) (filled.kind j h) (filled.value j h))
+          ∙ ap (λ (k : ℕ). each (operand_read_at img base) k 0) count
 
-      judged-so : (b : Bool) → b ≡ packsTo order base (listed (take n kinds) operands) s → taken order base s ≡ b
-      judged-so b e = ap₂ (λ (k x : List ℕ). packsTo order base (listed k x) s) (sym kinds-are) (sym operands-are) ∙ sym e
+      judged_so : (b : Bool) → b ≡ packs_to order base (listed (take n kinds) operands) s → taken order base s ≡ b
+      judged_so b e = ap₂ (λ (k x : List ℕ). packs_to order base (listed k x) s) (sym kinds_are) (sym operands_are) ∙ sym e
 
-      pub differs : false ≡ packsTo order base (listed (take n kinds) operands) s → (kinds2 operands2 : List ℕ)
-          → (unpacked.Refused refusal.NoListing ≡ readIf (judgeRead order base s) (itemsRead img)) × Recovered order base s kinds2 operands2
-      differs e kinds2 operands2 = none (judged-so false e) (itemsRead img) kinds2 operands2
+      pub differs : false ≡ packs_to order base (listed (take n kinds) operands) s → (kinds2 operands2 : List ℕ)
+          → (unpacked.Refused refusal.NoListing ≡ read_if (judge_read order base s) (items_read img)) × Recovered order base s kinds2 operands2
+      differs e kinds2 operands2 = none (judged_so false e) (items_read img) kinds2 operands2
 
-      pub agrees : true ≡ packsTo order base (listed (take n kinds) operands) s → (rest : List ℕ)
-          → (unpacked.Items n ≡ readIf (judgeRead order base s) (itemsRead img)) × Recovered order base s kinds (operands ++ rest)
-      unfolding judgeRead
+      pub agrees : true ≡ packs_to order base (listed (take n kinds) operands) s → (rest : List ℕ)
+          → (unpacked.Items n ≡ read_if (judge_read order base s) (items_read img)) × Recovered order base s kinds (operands ++ rest)
+      unfolding judge_read
       agrees e rest =
-          let q : judgeRead order base s ≡ judged.Passed = rw (place, judged-so true e) in (
+          let q : judge_read order base s ≡ judged.Passed = rw (place, judged_so true e) in (
             rw (q, count),
             record {
-              kinds-front = λ p. ap (λ (k : ℕ). take k kinds) (sym count) ∙ kinds-are;
-              operands-front = λ p. take_at operands rest (itemsRead img) (size ∙ count) ∙ operands-are;
+              kinds_front = λ p. ap (λ (k : ℕ). take k kinds) (sym count) ∙ kinds_are;
+              operands_front = λ p. take_at operands rest (items_read img) (size ∙ count) ∙ operands_are;
             },
           )

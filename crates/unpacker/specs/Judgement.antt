@@ -3,16 +3,16 @@ use Rattle.std.specs.Prelude.{not, List, [], ◌∷◌, ℕ, length}
 use Rattle.cell.specs.Refusals.{Ground, judge, after}
 use Rattle.cell.specs.declared.Refusal.TheVariants.{NoListing}
 use Rattle.cell.specs.declared.Judged.{Judged}
-use Rattle.pack_layout.specs.Reading.{cells_of, itemsRead}
+use Rattle.pack_layout.specs.Reading.{cells_of, items_read}
 use Rattle.pack_layout.specs.Unpacking.{taken}
-use Rattle.unpack_judging.specs.Judgement.{judgePlace, judgeArrays}
+use Rattle.unpack_judging.specs.Judgement.{judge_place, judge_arrays}
 
 -- -4116: no listing packs to these bytes
-abbrev pub noListing : ℕ → ℕ → List ℕ → Ground
-noListing order base s = record { applies = not (taken order base s); refusal = NoListing }
+abbrev pub no_listing : ℕ → ℕ → List ℕ → Ground
+no_listing order base s = record { applies = not (taken order base s); refusal = NoListing }
 
-unfoldable pub judgeRead : ℕ → ℕ → List ℕ → Judged
-judgeRead order base s = after (judgePlace order base (length s)) (judge (noListing order base s ∷ []))
+unfoldable pub judge_read : ℕ → ℕ → List ℕ → Judged
+judge_read order base s = after (judge_place order base (length s)) (judge (no_listing order base s ∷ []))
 
-unfoldable pub judgeUnpack : ℕ → ℕ → List ℕ → ℕ → ℕ → Judged
-judgeUnpack order base s k x = after (judgeRead order base s) (judgeArrays (itemsRead (cells_of order s)) k x)
+unfoldable pub judge_unpack : ℕ → ℕ → List ℕ → ℕ → ℕ → Judged
+judge_unpack order base s k x = after (judge_read order base s) (judge_arrays (items_read (cells_of order s)) k x)

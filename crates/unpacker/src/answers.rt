@@ -7,7 +7,7 @@ use cell::judgement::refusal_number;
 
 // 0, or the refusal's number.
 pub fn unpack_number(answer: Unpacked) -> u32
-    ensures { result ≡ answers.unpackNumber answer }
+    ensures { result ≡ answers.unpack_number answer }
 {
     match answer {
         Unpacked::Refused(r) => refusal_number(r),
@@ -17,7 +17,7 @@ pub fn unpack_number(answer: Unpacked) -> u32
 
 // The number of items, 0 on a refusal.
 pub fn unpack_count(answer: Unpacked) -> u32
-    ensures { result ≡ answers.unpackCount answer }
+    ensures { result ≡ answers.unpack_count answer }
 {
     match answer {
         Unpacked::Refused(_) => 0,

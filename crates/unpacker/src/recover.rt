@@ -1,11 +1,11 @@
 // The listing of an image, in working arrays.
 ghost use Rattle.std.specs.Prelude.{◌≡◌, ℕ, ◌/◌, ◌<◌, length, get_or};
 ghost use Rattle.cell.specs.declared.Judged.TheVariants.{Passed};
-ghost use Rattle.pack_layout.specs.Kinds.{classOf};
+ghost use Rattle.pack_layout.specs.Kinds.{class_of};
 ghost use Rattle.pack_layout.specs.Listing.{listed};
-ghost use Rattle.pack_layout.specs.Reading.{cells_of, itemsRead};
-ghost use Rattle.pack_layout.specs.Unpacking.{packsTo};
-ghost use Rattle.unpack_reading.specs.Arrays.{operandIn};
+ghost use Rattle.pack_layout.specs.Reading.{cells_of, items_read};
+ghost use Rattle.pack_layout.specs.Unpacking.{packs_to};
+ghost use Rattle.unpack_reading.specs.Arrays.{operand_in};
 ghost use Rattle.unpack_judging.specs.Judgement as place;
 ghost use Rattle.unpacker.specs.Judgement as judgement;
 ghost use Rattle.unpacker.specs.Unpack as answers;
@@ -30,9 +30,9 @@ fn packs_again(
     copy: &mut [u8],
 ) -> bool
     requires operands_len { (length operands.old ≡ length kinds.now) × (length copy.old ≡ length image.now) }
-    requires image_value { place.judgePlace order base.0 (length image.now) ≡ Passed }
-    ensures value { result ≡ packsTo order base.0 (listed kinds.now operands.new) image.now }
-    ensures by_index { (j : ℕ) → j < length operands.old → get_or operands.new j 0 ≡ operandIn (classOf (get_or kinds.now j 0)) base.0 firsts.now (get_or operands.old j 0) }
+    requires image_value { place.judge_place order base.0 (length image.now) ≡ Passed }
+    ensures value { result ≡ packs_to order base.0 (listed kinds.now operands.new) image.now }
+    ensures by_index { (j : ℕ) → j < length operands.old → get_or operands.new j 0 ≡ operand_in (class_of (get_or kinds.now j 0)) base.0 firsts.now (get_or operands.old j 0) }
 {
     find_targets(kinds, operands, firsts, base);
     packs_to(order, base, kinds, operands, image, copy)
@@ -50,8 +50,8 @@ fn recover_in(
 ) -> Unpacked
     requires kinds_len { (length kinds.old ≡ 4096) × (length operands.old ≡ 4096) × (length firsts.old ≡ length image.now / 4) × (length copy.old ≡ length image.now) }
     requires by_index { (c : ℕ) → c < length firsts.old → get_or firsts.old c 0 ≡ 4096 }
-    requires image_value { place.judgePlace order base.0 (length image.now) ≡ Passed }
-    ensures value { result ≡ answers.readIf (judgement.judgeRead order base.0 image.now) (itemsRead (cells_of order image.now)) }
+    requires image_value { place.judge_place order base.0 (length image.now) ≡ Passed }
+    ensures value { result ≡ answers.read_if (judgement.judge_read order base.0 image.now) (items_read (cells_of order image.now)) }
     ensures recovered { answers.Recovered order base.0 image.now kinds.new operands.new }
 {
     let n = read_items(order, image, base, kinds, operands, firsts);
@@ -81,7 +81,7 @@ pub fn recover(
     operands: &mut [u32],
 ) -> Unpacked
     requires { (length kinds.old ≡ 4096) × (length operands.old ≡ 4096) }
-    ensures value { result ≡ answers.readIf (judgement.judgeRead order base.0 image.now) (itemsRead (cells_of order image.now)) }
+    ensures value { result ≡ answers.read_if (judgement.judge_read order base.0 image.now) (items_read (cells_of order image.now)) }
     ensures recovered { answers.Recovered order base.0 image.now kinds.new operands.new }
 {
     match judge_place(order, base, image.len()) {

@@ -12,7 +12,7 @@ use unpack_writing::arrays::write_listing;
 
 // An unpacking into arrays of some lengths.
 pub fn judge_unpack(order: u8, image: &[u8], base: Address, kinds: usize, operands: usize) -> Judged
-    ensures { result ≡ judgement.judgeUnpack order base.0 image.now kinds operands }
+    ensures { result ≡ judgement.judge_unpack order base.0 image.now kinds operands }
 {
     let mut ks = [0u8; MOST_ITEMS];
     let mut xs = [0u32; MOST_ITEMS];
@@ -33,7 +33,7 @@ fn unpack_in(
     operands: &mut [u32],
 ) -> Unpacked
     requires { (length ks.old ≡ 4096) × (length xs.old ≡ 4096) }
-    ensures { answers.unpackedTo kinds.new operands.new result ≡ answers.unpackOf order image.now base.0 kinds.old operands.old }
+    ensures { answers.unpacked_to kinds.new operands.new result ≡ answers.unpack_of order image.now base.0 kinds.old operands.old }
 {
     match recover(order, image, base, ks, xs) {
         Unpacked::Refused(r) => Unpacked::Refused(r),
@@ -54,7 +54,7 @@ pub fn unpack(
     kinds: &mut [u8],
     operands: &mut [u32],
 ) -> Unpacked
-    ensures { answers.unpackedTo kinds.new operands.new result ≡ answers.unpackOf order image.now base.0 kinds.old operands.old }
+    ensures { answers.unpacked_to kinds.new operands.new result ≡ answers.unpack_of order image.now base.0 kinds.old operands.old }
 {
     let mut ks = [0u8; MOST_ITEMS];
     let mut xs = [0u32; MOST_ITEMS];

@@ -1,19 +1,19 @@
 -- The rows on counting loops (document 02, (e)), for a byte order: one cycle of (+LOOP)I in a cell at 20h that leads to 1Ch, its step on the data stack at
 -- 200h, index and limit on the return stack at 300h.
 use Rattle.std.specs.Prelude.{List, [], ◌∷◌, ℕ, ◌-◌, ◌^◌}
-use Rattle.cell.specs.Memory.{storeCell}
-use Rattle.machine.specs.Places.{noTable}
-use Rattle.areas.specs.Areas.{noAreas, filed}
-use Rattle.processor.specs.Answers.{CycleAnswer, cycleAnswer}
+use Rattle.cell.specs.Memory.{store_cell}
+use Rattle.machine.specs.Places.{no_table}
+use Rattle.areas.specs.Areas.{no_areas, filed}
+use Rattle.processor.specs.Answers.{CycleAnswer, cycle_answer}
 use Rattle.worked.specs.Rows.{Row, numbers, lists}
 use Rattle.worked.specs.Processor.{blank}
 
 abbrev pub counting : ℕ → ℕ → ℕ → ℕ → List ℕ
-counting order index limit step = storeCell order (storeCell order (storeCell order blank 0x304 limit) 0x300 index) 0x200 step
+counting order index limit step = store_cell order (store_cell order (store_cell order blank 0x304 limit) 0x300 index) 0x200 step
 
 abbrev pub stepped : ℕ → ℕ → ℕ → ℕ → CycleAnswer
 stepped order index limit step =
-    cycleAnswer order noTable (counting order index limit step) (filed noAreas (record { ep = 0x24; a = 0xFFFFFE4F; sp = 0x200; rp = 0x300 }))
+    cycle_answer order no_table (counting order index limit step) (filed no_areas (record { ep = 0x24; a = 0xFFFFFE4F; sp = 0x200; rp = 0x300 }))
 
 -- the loop ends: index and limit are dropped, nothing is written, and the next cell follows
 abbrev pub ends : ℕ → ℕ → ℕ → ℕ → Row
@@ -32,11 +32,11 @@ continues order index limit step new =
     numbers c.registers.registers.ep 0x20
     ∷ numbers c.registers.registers.sp 0x204
     ∷ numbers c.registers.registers.rp 0x300
-    ∷ lists c.memory (storeCell order (counting order index limit step) 0x300 new)
+    ∷ lists c.memory (store_cell order (counting order index limit step) 0x300 new)
     ∷ []
 
-abbrev pub countingRows : ℕ → List Row
-countingRows order =
+abbrev pub counting_rows : ℕ → List Row
+counting_rows order =
     -- the two cases of the document: from 7FFFFFFFh by 1, to the limits 80000000h and 0
     ends order 0x7FFFFFFF 0x80000000 1 ∷ continues order 0x7FFFFFFF 0 1 0x80000000 ∷
     -- up by 4: past a limit two steps away, and to one

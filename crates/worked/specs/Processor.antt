@@ -1,10 +1,10 @@
 -- The rows on the processor, for a byte order.
 use Rattle.std.specs.Prelude.{List, [], ◌∷◌, ℕ, ◌-◌, ◌^◌, replicate}
-use Rattle.cell.specs.Memory.{cell_at, storeCell}
-use Rattle.machine.specs.Places.{noTable}
-use Rattle.areas.specs.Areas.{noAreas, filed}
-use Rattle.processor_start.specs.Answers.{StartAnswer, startAnswer}
-use Rattle.processor.specs.Answers.{CycleAnswer, cycleAnswer}
+use Rattle.cell.specs.Memory.{cell_at, store_cell}
+use Rattle.machine.specs.Places.{no_table}
+use Rattle.areas.specs.Areas.{no_areas, filed}
+use Rattle.processor_start.specs.Answers.{StartAnswer, start_answer}
+use Rattle.processor.specs.Answers.{CycleAnswer, cycle_answer}
 use Rattle.worked.specs.Rows.{Row, numbers, lists}
 
 -- a memory of 400h bytes, all 0
@@ -13,11 +13,11 @@ blank = replicate 0x400 0
 
 -- -7 and 2 on the data stack at 300h
 abbrev pub operands : ℕ → List ℕ
-operands order = storeCell order (storeCell order blank 0x304 (2 ^ 32 - 7)) 0x300 2
+operands order = store_cell order (store_cell order blank 0x304 (2 ^ 32 - 7)) 0x300 2
 
 -- one cycle
 abbrev pub after : ℕ → List ℕ → ℕ → ℕ → CycleAnswer
-after order m opcode sp = cycleAnswer order noTable m (filed noAreas (record { ep = 0x10; a = opcode; sp = sp; rp = 0x400 }))
+after order m opcode sp = cycle_answer order no_table m (filed no_areas (record { ep = 0x10; a = opcode; sp = sp; rp = 0x400 }))
 
 -- what stands below the top of the data stack at 300h, and on top
 abbrev pub pair : ℕ → List ℕ → ℕ → ℕ → Row
@@ -25,13 +25,13 @@ pair order m x y = numbers (cell_at order m 0x304) x ∷ numbers (cell_at order 
 
 -- R> at 10h, started there, and its first cycle
 abbrev pub started : ℕ → StartAnswer
-started order = startAnswer order noAreas noTable (storeCell order blank 0x10 0x0D) 0x10 0x20
+started order = start_answer order no_areas no_table (store_cell order blank 0x10 0x0D) 0x10 0x20
 
 abbrev pub popped : ℕ → CycleAnswer
-popped order = cycleAnswer order noTable (started order).memory (started order).registers
+popped order = cycle_answer order no_table (started order).memory (started order).registers
 
-abbrev pub processorRows : ℕ → List Row
-processorRows order =
+abbrev pub processor_rows : ℕ → List Row
+processor_rows order =
     -- -7 2 /MOD: 1 and -4
     pair order (after order (operands order) 0x28 0x300).memory 1 (2 ^ 32 - 4) ∷
     -- S/REM: -1 and -3

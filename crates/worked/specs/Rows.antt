@@ -19,10 +19,10 @@ abbrev pub holds : Claim → Bool
 holds (numbers x y) = eqb x y
 holds (lists xs ys) = same xs ys
 
-abbrev pub rowHolds : Row → Bool
-rowHolds [] = true
-rowHolds (c ∷ cs) = holds c && rowHolds cs
+abbrev pub row_holds : Row → Bool
+row_holds [] = true
+row_holds (c ∷ cs) = holds c && row_holds cs
 
-unfoldable pub tableHolds : List Row → Bool
-tableHolds [] = true
-tableHolds (r ∷ rs) = rowHolds r && tableHolds rs
+unfoldable pub table_holds : List Row → Bool
+table_holds [] = true
+table_holds (r ∷ rs) = row_holds r && table_holds rs

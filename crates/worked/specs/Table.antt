@@ -1,17 +1,17 @@
 -- All rows: those on the processor, on counting loops, on stack areas, on tables and on the run in both byte orders.
 use Rattle.std.specs.Prelude.{List, ◌++◌}
 use Rattle.worked.specs.Rows.{Row}
-use Rattle.worked.specs.Processor.{processorRows}
-use Rattle.worked.specs.Counting.{countingRows}
-use Rattle.worked.specs.Areas.{areaRows}
-use Rattle.worked.specs.Tables.{tableRows}
-use Rattle.worked.specs.Packing.{packingRows, runRows}
-use Rattle.worked.specs.Modules.{moduleRows}
+use Rattle.worked.specs.Processor.{processor_rows}
+use Rattle.worked.specs.Counting.{counting_rows}
+use Rattle.worked.specs.Areas.{area_rows}
+use Rattle.worked.specs.Tables.{table_rows}
+use Rattle.worked.specs.Packing.{packing_rows, run_rows}
+use Rattle.worked.specs.Modules.{module_rows}
 
 abbrev pub table : List Row
 table =
-    processorRows 0
-    ++ (processorRows 1
-    ++ (countingRows 0
-    ++ (countingRows 1
-    ++ (areaRows 0 ++ (areaRows 1 ++ (tableRows 0 ++ (tableRows 1 ++ (packingRows ++ (runRows 0 ++ (runRows 1 ++ moduleRows))))))))))
+    processor_rows 0
+    ++ (processor_rows 1
+    ++ (counting_rows 0
+    ++ (counting_rows 1
+    ++ (area_rows 0 ++ (area_rows 1 ++ (table_rows 0 ++ (table_rows 1 ++ (packing_rows ++ (run_rows 0 ++ (run_rows 1 ++ module_rows))))))))))

@@ -4,15 +4,15 @@ use borrow.Author.Rules.{rules}
 use Rattle.list_telling.proofs.judge_lent.Statement.{statement}
 use Rattle.list_telling.proofs.judge_lent.Tie as tie
 
-with-room-requires : tie.Need-with-room-requires
-with-room-requires c κs = search rules
+with_room_requires : tie.Need-with-room-requires
+with_room_requires c κs = search rules
 
-with-room-requires-2 : tie.Need-with-room-requires-2
-with-room-requires-2 c κs = search rules
+with_room_requires_2 : tie.Need-with-room-requires-2
+with_room_requires_2 c κs = search rules
 
 returns : tie.Need-returns
-unfolding telling.judgeLent
-returns c = rw (← c.before.with-room.ensures) c.with-room2.ensures
+unfolding telling.judge_lent
+returns c = rw (← c.before.with_room_lem.ensures) c.with-room2.ensures
 
-pub judge-lent-spec : {M : Type 1} → statement M
-judge-lent-spec = tie.close (tie.spec with-room-requires with-room-requires-2 returns)
+pub judge_lent_spec : {M : Type 1} → statement M
+judge_lent_spec = tie.close (tie.spec with_room_requires with_room_requires_2 returns)

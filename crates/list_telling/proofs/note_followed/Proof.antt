@@ -3,17 +3,17 @@ use borrow.Author.Rules.{rules}
 use Rattle.list_telling.proofs.note_followed.Statement.{statement}
 use Rattle.list_telling.proofs.note_followed.Tie as tie
 
-enum-known-answer : tie.Need-enum-known-answer
-enum-known-answer c = search rules
+enum_known_answer : tie.Need-enum-known-answer
+enum_known_answer c = search rules
 
-refusal-number-requires : tie.Need-refusal-number-requires
-refusal-number-requires c κs = search rules
+refusal_number_requires : tie.Need-refusal-number-requires
+refusal_number_requires c κs = search rules
 
-enum-known-answer-2 : tie.Need-enum-known-answer-2
-enum-known-answer-2 c = search rules
+enum_known_answer_2 : tie.Need-enum-known-answer-2
+enum_known_answer_2 c = search rules
 
-note-run-requires : tie.Need-note-run-requires
-note-run-requires c κs = rw c.before.before.before.answer2.given.1 at c.before.before.before.before.before.before.before.requires
+note_run_requires : tie.Need-note-run-requires
+note_run_requires c κs = rw c.before.before.before.answer2.given.1 at c.before.before.before.before.before.before.before.requires
 
 returns : tie.Need-returns
 returns c = rw (c.before.before.answer.given.1, c.refusal-number.ensures)
@@ -21,21 +21,21 @@ returns c = rw (c.before.before.answer.given.1, c.refusal-number.ensures)
 same_length : tie.Need-same-length
 same_length c = search rules
 
-same-length-2 : tie.Need-same-length-2
-same-length-2 c = search rules
+same_length_2 : tie.Need-same-length-2
+same_length_2 c = search rules
 
-returns-2 : tie.Need-returns-2
-returns-2 c = rw c.before.before.before.before.before.before.before.before.answer2.given.1 c.before.before.before.before.note-run.ensures
+returns_2 : tie.Need-returns-2
+returns_2 c = rw c.before.before.before.before.before.before.before.before.answer2.given.1 c.before.before.before.before.note-run.ensures
 
-pub note-followed-spec : {M : Type 1} → statement M
-note-followed-spec =
+pub note_followed_spec : {M : Type 1} → statement M
+note_followed_spec =
     tie.close
     (tie.spec
-    enum-known-answer
-    refusal-number-requires
-    enum-known-answer-2
-    note-run-requires
+    enum_known_answer
+    refusal_number_requires
+    enum_known_answer_2
+    note_run_requires
     returns
     same_length
-    same-length-2
-    returns-2)
+    same_length_2
+    returns_2)

@@ -7,20 +7,20 @@ use native.Mathlib.Omega.{arith}
 use mathlib.Core.List.{[], ◌∷◌}
 use lib.Seq.{sets-eq}
 
-slice-write-lent : tie.Need-slice-write-lent
-slice-write-lent c = search rules
+slice_write_lent : tie.Need-slice-write-lent
+slice_write_lent c = search rules
 
-slice-write-lent-2 : tie.Need-slice-write-lent-2
-slice-write-lent-2 c = simp length-set (omega arith)
+slice_write_lent_2 : tie.Need-slice-write-lent-2
+slice_write_lent_2 c = simp length-set (omega arith)
 
-slice-write-lent-3 : tie.Need-slice-write-lent-3
-slice-write-lent-3 c = simp length-set (omega arith)
+slice_write_lent_3 : tie.Need-slice-write-lent-3
+slice_write_lent_3 c = simp length-set (omega arith)
 
-slice-write-lent-4 : tie.Need-slice-write-lent-4
-slice-write-lent-4 c = simp length-set (omega arith)
+slice_write_lent_4 : tie.Need-slice-write-lent-4
+slice_write_lent_4 c = simp length-set (omega arith)
 
-slice-write-lent-5 : tie.Need-slice-write-lent-5
-slice-write-lent-5 c = search rules
+slice_write_lent_5 : tie.Need-slice-write-lent-5
+slice_write_lent_5 c = search rules
 
 same_length : tie.Need-same-length
 same_length c = search rules
@@ -28,14 +28,14 @@ same_length c = search rules
 returns : tie.Need-returns
 returns c = let a = c.args in sets-eq (a.p ∷ a.q ∷ a.r ∷ a.s ∷ a.t ∷ []) a.lent.now 0 c.requires
 
-pub write-five-spec : {M : Type 1} → statement M
-write-five-spec =
+pub write_five_spec : {M : Type 1} → statement M
+write_five_spec =
     tie.close
     (tie.spec
-    slice-write-lent
-    slice-write-lent-2
-    slice-write-lent-3
-    slice-write-lent-4
-    slice-write-lent-5
+    slice_write_lent
+    slice_write_lent_2
+    slice_write_lent_3
+    slice_write_lent_4
+    slice_write_lent_5
     same_length
     returns)

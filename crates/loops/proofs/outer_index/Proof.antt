@@ -5,40 +5,40 @@ use Rattle.loops.proofs.outer_index.Tie as tie
 use Rattle.instruction.specs.Plain as plain
 use mathlib.Core.Path.{◌∙◌, sym, ap}
 
-fetch-return-requires : tie.Need-fetch-return-requires
-fetch-return-requires c κs = search rules
+fetch_return_requires : tie.Need-fetch-return-requires
+fetch_return_requires c κs = search rules
 
 enum_told : tie.Need-enum-told
 enum_told c = search rules
 
-enum-told-2 : tie.Need-enum-told-2
-enum-told-2 c = search rules
+enum_told_2 : tie.Need-enum-told-2
+enum_told_2 c = search rules
 
-fail-one-requires : tie.Need-fail-one-requires
-fail-one-requires c κs = (_, c.enum-told2.given.1)
+fail_one_requires : tie.Need-fail-one-requires
+fail_one_requires c κs = (_, c.enum-told2.given.1)
 
 returns : tie.Need-returns
 unfolding plain.plain_of
 returns c = simp (sym c.before.before.before.fetch-return.ensures ∙ c.before.enum-told2.given.1) (c.fail-one.ensures ∙ ap plain.failed c.before.enum-told2.given.1)
 
-add-requires : tie.Need-add-requires
-add-requires c κs = search rules
+add_requires : tie.Need-add-requires
+add_requires c κs = search rules
 
-fetch-return-requires-2 : tie.Need-fetch-return-requires-2
-fetch-return-requires-2 c κs = search rules
+fetch_return_requires_2 : tie.Need-fetch-return-requires-2
+fetch_return_requires_2 c κs = search rules
 
-enum-told-3 : tie.Need-enum-told-3
-enum-told-3 c = search rules
+enum_told_3 : tie.Need-enum-told-3
+enum_told_3 c = search rules
 
-enum-told-4 : tie.Need-enum-told-4
-enum-told-4 c = search rules
+enum_told_4 : tie.Need-enum-told-4
+enum_told_4 c = search rules
 
-fail-one-requires-2 : tie.Need-fail-one-requires-2
-fail-one-requires-2 c κs = (_, c.enum-told4.given.1)
+fail_one_requires_2 : tie.Need-fail-one-requires-2
+fail_one_requires_2 c κs = (_, c.enum-told4.given.1)
 
-returns-2 : tie.Need-returns-2
+returns_2 : tie.Need-returns-2
 unfolding plain.plain_of
-returns-2 c =
+returns_2 c =
     simp (
       sym c.before.before.before.before.before.before.before.fetch-return.ensures ∙ c.before.before.before.before.before.enum_told.given.1,
       rw
@@ -46,24 +46,24 @@ returns-2 c =
     )
     (c.fail-one2.ensures ∙ ap plain.failed c.before.enum-told4.given.1)
 
-add-requires-2 : tie.Need-add-requires-2
-add-requires-2 c κs = search rules
+add_requires_2 : tie.Need-add-requires-2
+add_requires_2 c κs = search rules
 
-fetch-return-requires-3 : tie.Need-fetch-return-requires-3
-fetch-return-requires-3 c κs = search rules
+fetch_return_requires_3 : tie.Need-fetch-return-requires-3
+fetch_return_requires_3 c κs = search rules
 
-enum-known-got3 : tie.Need-enum-known-got3
-enum-known-got3 c = search rules
+enum_known_got3 : tie.Need-enum-known-got3
+enum_known_got3 c = search rules
 
-enum-told-5 : tie.Need-enum-told-5
-enum-told-5 c = search rules
+enum_told_5 : tie.Need-enum-told-5
+enum_told_5 c = search rules
 
-fail-one-requires-3 : tie.Need-fail-one-requires-3
-fail-one-requires-3 c κs = (_, c.enum-told5.given.1)
+fail_one_requires_3 : tie.Need-fail-one-requires-3
+fail_one_requires_3 c κs = (_, c.enum-told5.given.1)
 
-returns-3 : tie.Need-returns-3
+returns_3 : tie.Need-returns-3
 unfolding plain.plain_of
-returns-3 c =
+returns_3 c =
     simp (
       sym c.before.before.before.before.before.before.before.before.before.before.before.fetch-return.ensures ∙
           c.before.before.before.before.before.before.before.before.before.enum_told.given.1,
@@ -75,12 +75,12 @@ returns-3 c =
     )
     (c.fail-one3.ensures ∙ ap plain.failed c.before.enum-told5.given.1)
 
-push-requires : tie.Need-push-requires
-push-requires c κs = search rules
+push_requires : tie.Need-push-requires
+push_requires c κs = search rules
 
-returns-4 : tie.Need-returns-4
+returns_4 : tie.Need-returns-4
 unfolding plain.plain_of
-returns-4 c =
+returns_4 c =
     simp (
       sym c.before.before.before.before.before.before.before.before.before.before.before.before.fetch-return.ensures ∙
           c.before.before.before.before.before.before.before.before.before.before.enum_told.given.1,
@@ -92,26 +92,26 @@ returns-4 c =
           c.before.before.before.before.fetch-return3.ensures ∙ c.before.before.got3.given.1),
     ) c.push.ensures
 
-pub outer-index-spec : {M : Type 1} → statement M
-outer-index-spec =
+pub outer_index_spec : {M : Type 1} → statement M
+outer_index_spec =
     tie.close
     (tie.spec
-    fetch-return-requires
+    fetch_return_requires
     enum_told
-    enum-told-2
-    fail-one-requires
+    enum_told_2
+    fail_one_requires
     returns
-    add-requires
-    fetch-return-requires-2
-    enum-told-3
-    enum-told-4
-    fail-one-requires-2
-    returns-2
-    add-requires-2
-    fetch-return-requires-3
-    enum-known-got3
-    enum-told-5
-    fail-one-requires-3
-    returns-3
-    push-requires
-    returns-4)
+    add_requires
+    fetch_return_requires_2
+    enum_told_3
+    enum_told_4
+    fail_one_requires_2
+    returns_2
+    add_requires_2
+    fetch_return_requires_3
+    enum_known_got3
+    enum_told_5
+    fail_one_requires_3
+    returns_3
+    push_requires
+    returns_4)

@@ -5,40 +5,40 @@ use Rattle.loops.proofs.start_loop.Tie as tie
 use Rattle.instruction.specs.Plain as plain
 use mathlib.Core.Path.{◌∙◌, sym, ap}
 
-fetch-data-requires : tie.Need-fetch-data-requires
-fetch-data-requires c κs = search rules
+fetch_data_requires : tie.Need-fetch-data-requires
+fetch_data_requires c κs = search rules
 
-enum-known-got : tie.Need-enum-known-got
-enum-known-got c = search rules
+enum_known_got : tie.Need-enum-known-got
+enum_known_got c = search rules
 
 enum_told : tie.Need-enum-told
 enum_told c = search rules
 
-fail-two-returns-requires : tie.Need-fail-two-returns-requires
-fail-two-returns-requires c κs = (_, c.enum_told.given.1)
+fail_two_returns_requires : tie.Need-fail-two-returns-requires
+fail_two_returns_requires c κs = (_, c.enum_told.given.1)
 
 returns : tie.Need-returns
 unfolding plain.plain_of
 returns c = simp (sym c.before.before.before.fetch-data.ensures ∙ c.before.enum_told.given.1) (c.fail-two-returns.ensures ∙ ap plain.failed c.before.enum_told.given.1)
 
-add-requires : tie.Need-add-requires
-add-requires c κs = search rules
+add_requires : tie.Need-add-requires
+add_requires c κs = search rules
 
-fetch-data-requires-2 : tie.Need-fetch-data-requires-2
-fetch-data-requires-2 c κs = search rules
+fetch_data_requires_2 : tie.Need-fetch-data-requires-2
+fetch_data_requires_2 c κs = search rules
 
-enum-known-got2 : tie.Need-enum-known-got2
-enum-known-got2 c = search rules
+enum_known_got2 : tie.Need-enum-known-got2
+enum_known_got2 c = search rules
 
-enum-told-2 : tie.Need-enum-told-2
-enum-told-2 c = search rules
+enum_told_2 : tie.Need-enum-told-2
+enum_told_2 c = search rules
 
-fail-two-returns-requires-2 : tie.Need-fail-two-returns-requires-2
-fail-two-returns-requires-2 c κs = (_, c.enum-told2.given.1)
+fail_two_returns_requires_2 : tie.Need-fail-two-returns-requires-2
+fail_two_returns_requires_2 c κs = (_, c.enum-told2.given.1)
 
-returns-2 : tie.Need-returns-2
+returns_2 : tie.Need-returns-2
 unfolding plain.plain_of
-returns-2 c =
+returns_2 c =
     simp (
       sym c.before.before.before.before.before.before.before.before.fetch-data.ensures ∙
           c.before.before.before.before.before.before.got.given.1,
@@ -46,21 +46,21 @@ returns-2 c =
           c.before.before.before.fetch-data2.ensures ∙ c.before.enum-told2.given.1),
     ) (c.fail-two-returns2.ensures ∙ ap plain.failed c.before.enum-told2.given.1)
 
-add-requires-2 : tie.Need-add-requires-2
-add-requires-2 c κs = search rules
+add_requires_2 : tie.Need-add-requires-2
+add_requires_2 c κs = search rules
 
-subtract-requires : tie.Need-subtract-requires
-subtract-requires c κs = search rules
+subtract_requires : tie.Need-subtract-requires
+subtract_requires c κs = search rules
 
-subtract-requires-2 : tie.Need-subtract-requires-2
-subtract-requires-2 c κs = search rules
+subtract_requires_2 : tie.Need-subtract-requires-2
+subtract_requires_2 c κs = search rules
 
-subtract-requires-3 : tie.Need-subtract-requires-3
-subtract-requires-3 c κs = search rules
+subtract_requires_3 : tie.Need-subtract-requires-3
+subtract_requires_3 c κs = search rules
 
-returns-3 : tie.Need-returns-3
+returns_3 : tie.Need-returns-3
 unfolding plain.plain_of
-returns-3 c =
+returns_3 c =
     simp (
       sym c.before.before.before.before.before.before.before.before.before.before.before.before.fetch-data.ensures ∙
           c.before.before.before.before.before.before.before.before.before.before.got.given.1,
@@ -74,23 +74,23 @@ returns-3 c =
       c.subtract3.ensures,
     )
 
-pub start-loop-spec : {M : Type 1} → statement M
-start-loop-spec =
+pub start_loop_spec : {M : Type 1} → statement M
+start_loop_spec =
     tie.close
     (tie.spec
-    fetch-data-requires
-    enum-known-got
+    fetch_data_requires
+    enum_known_got
     enum_told
-    fail-two-returns-requires
+    fail_two_returns_requires
     returns
-    add-requires
-    fetch-data-requires-2
-    enum-known-got2
-    enum-told-2
-    fail-two-returns-requires-2
-    returns-2
-    add-requires-2
-    subtract-requires
-    subtract-requires-2
-    subtract-requires-3
-    returns-3)
+    add_requires
+    fetch_data_requires_2
+    enum_known_got2
+    enum_told_2
+    fail_two_returns_requires_2
+    returns_2
+    add_requires_2
+    subtract_requires
+    subtract_requires_2
+    subtract_requires_3
+    returns_3)

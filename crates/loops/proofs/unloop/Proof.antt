@@ -5,40 +5,40 @@ use Rattle.loops.proofs.unloop.Tie as tie
 use Rattle.instruction.specs.Plain as plain
 use mathlib.Core.Path.{◌∙◌, sym, ap}
 
-fetch-return-requires : tie.Need-fetch-return-requires
-fetch-return-requires c κs = search rules
+fetch_return_requires : tie.Need-fetch-return-requires
+fetch_return_requires c κs = search rules
 
 enum_told : tie.Need-enum-told
 enum_told c = search rules
 
-enum-told-2 : tie.Need-enum-told-2
-enum-told-2 c = search rules
+enum_told_2 : tie.Need-enum-told-2
+enum_told_2 c = search rules
 
-fail-none-requires : tie.Need-fail-none-requires
-fail-none-requires c κs = (_, c.enum-told2.given.1)
+fail_none_requires : tie.Need-fail-none-requires
+fail_none_requires c κs = (_, c.enum-told2.given.1)
 
 returns : tie.Need-returns
 unfolding plain.plain_of
 returns c = simp (sym c.before.before.before.fetch-return.ensures ∙ c.before.enum-told2.given.1) (c.fail-none.ensures ∙ ap plain.failed c.before.enum-told2.given.1)
 
-add-requires : tie.Need-add-requires
-add-requires c κs = search rules
+add_requires : tie.Need-add-requires
+add_requires c κs = search rules
 
-fetch-return-requires-2 : tie.Need-fetch-return-requires-2
-fetch-return-requires-2 c κs = search rules
+fetch_return_requires_2 : tie.Need-fetch-return-requires-2
+fetch_return_requires_2 c κs = search rules
 
-enum-told-3 : tie.Need-enum-told-3
-enum-told-3 c = search rules
+enum_told_3 : tie.Need-enum-told-3
+enum_told_3 c = search rules
 
-enum-told-4 : tie.Need-enum-told-4
-enum-told-4 c = search rules
+enum_told_4 : tie.Need-enum-told-4
+enum_told_4 c = search rules
 
-fail-none-requires-2 : tie.Need-fail-none-requires-2
-fail-none-requires-2 c κs = (_, c.enum-told4.given.1)
+fail_none_requires_2 : tie.Need-fail-none-requires-2
+fail_none_requires_2 c κs = (_, c.enum-told4.given.1)
 
-returns-2 : tie.Need-returns-2
+returns_2 : tie.Need-returns-2
 unfolding plain.plain_of
-returns-2 c =
+returns_2 c =
     simp (
       sym c.before.before.before.before.before.before.before.fetch-return.ensures ∙ c.before.before.before.before.before.enum_told.given.1,
       rw
@@ -46,12 +46,12 @@ returns-2 c =
     )
     (c.fail-none2.ensures ∙ ap plain.failed c.before.enum-told4.given.1)
 
-add-requires-2 : tie.Need-add-requires-2
-add-requires-2 c κs = search rules
+add_requires_2 : tie.Need-add-requires-2
+add_requires_2 c κs = search rules
 
-returns-3 : tie.Need-returns-3
+returns_3 : tie.Need-returns-3
 unfolding plain.plain_of
-returns-3 c =
+returns_3 c =
     simp (
       sym c.before.before.before.before.before.before.before.fetch-return.ensures ∙ c.before.before.before.before.before.enum_told.given.1,
       rw
@@ -60,20 +60,20 @@ returns-3 c =
       c.add2.ensures,
     )
 
-pub unloop-spec : {M : Type 1} → statement M
-unloop-spec =
+pub unloop_spec : {M : Type 1} → statement M
+unloop_spec =
     tie.close
     (tie.spec
-    fetch-return-requires
+    fetch_return_requires
     enum_told
-    enum-told-2
-    fail-none-requires
+    enum_told_2
+    fail_none_requires
     returns
-    add-requires
-    fetch-return-requires-2
-    enum-told-3
-    enum-told-4
-    fail-none-requires-2
-    returns-2
-    add-requires-2
-    returns-3)
+    add_requires
+    fetch_return_requires_2
+    enum_told_3
+    enum_told_4
+    fail_none_requires_2
+    returns_2
+    add_requires_2
+    returns_3)

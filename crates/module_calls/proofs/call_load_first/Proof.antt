@@ -7,36 +7,36 @@ use mathlib.Core.Path.{◌∙◌, sym}
 use Rattle.module_calls.proofs.call_load_first.Statement.{statement}
 use Rattle.module_calls.proofs.call_load_first.Tie as tie
 
-judge-load-requires : tie.Need-judge-load-requires
-judge-load-requires c κs = search rules
+judge_load_requires : tie.Need-judge-load-requires
+judge_load_requires c κs = search rules
 
-with-room-requires : tie.Need-with-room-requires
-with-room-requires c κs = search rules
+with_room_requires : tie.Need-with-room-requires
+with_room_requires c κs = search rules
 
-enum-known-n : tie.Need-enum-known-n
-enum-known-n c = search rules
+enum_known_n : tie.Need-enum-known-n
+enum_known_n c = search rules
 
-refusal-number-requires : tie.Need-refusal-number-requires
-refusal-number-requires c κs = search rules
+refusal_number_requires : tie.Need-refusal-number-requires
+refusal_number_requires c κs = search rules
 
 enum_told : tie.Need-enum-told
 enum_told c = search rules
 
-load-first-requires : tie.Need-load-first-requires
-load-first-requires c κs = search rules
+load_first_requires : tie.Need-load-first-requires
+load_first_requires c κs = search rules
 
-note-loaded-requires : tie.Need-note-loaded-requires
-note-loaded-requires c κs =
+note_loaded_requires : tie.Need-note-loaded-requires
+note_loaded_requires c κs =
     (roomy c.before.before.before.before.before.before.before.before.judge-load.result (length
     c.before.before.before.before.before.before.before.before.before.before.before.before.args.out.now) 1 (sym
-    c.before.before.before.before.before.before.before.with-room.ensures ∙ c.before.before.before.before.before.enum_told.given.1)).room
+    c.before.before.before.before.before.before.before.with_room_lem.ensures ∙ c.before.before.before.before.before.enum_told.given.1)).room
 
 returns : tie.Need-returns
-unfolding modules.loadFirstCall
+unfolding modules.load_first_call
 returns c =
     rw (
       ← c.before.before.before.before.before.judge-load.ensures,
-      sym c.before.before.before.before.with-room.ensures ∙
+      sym c.before.before.before.before.with_room_lem.ensures ∙
           c.before.before.n.given.1,
       c.refusal-number.ensures,
     )
@@ -44,34 +44,34 @@ returns c =
 same_length : tie.Need-same-length
 same_length c = search rules
 
-same-length-2 : tie.Need-same-length-2
-same-length-2 c = search rules
+same_length_2 : tie.Need-same-length-2
+same_length_2 c = search rules
 
-returns-2 : tie.Need-returns-2
-unfolding modules.loadFirstCall
-returns-2 c =
+returns_2 : tie.Need-returns-2
+unfolding modules.load_first_call
+returns_2 c =
     rw (
       ← c.before.before.before.before.before.before.before.before.before.before.before.judge-load.ensures,
       sym
-          c.before.before.before.before.before.before.before.before.before.before.with-room.ensures ∙
+          c.before.before.before.before.before.before.before.before.before.before.with_room_lem.ensures ∙
           c.before.before.before.before.before.before.before.before.enum_told.given.1,
       ←
           c.before.before.before.before.before.before.load-first.ensures,
       ← c.before.before.note-loaded.ensures,
     )
 
-pub call-load-first-spec : {M : Type 1} → statement M
-call-load-first-spec =
+pub call_load_first_spec : {M : Type 1} → statement M
+call_load_first_spec =
     tie.close
     (tie.spec
-    judge-load-requires
-    with-room-requires
-    enum-known-n
-    refusal-number-requires
+    judge_load_requires
+    with_room_requires
+    enum_known_n
+    refusal_number_requires
     enum_told
-    load-first-requires
-    note-loaded-requires
+    load_first_requires
+    note_loaded_requires
     returns
     same_length
-    same-length-2
-    returns-2)
+    same_length_2
+    returns_2)

@@ -7,36 +7,36 @@ use mathlib.Core.Path.{◌∙◌, sym}
 use Rattle.module_calls.proofs.call_save.Statement.{statement}
 use Rattle.module_calls.proofs.call_save.Tie as tie
 
-judge-save-requires : tie.Need-judge-save-requires
-judge-save-requires c κs = search rules
+judge_save_requires : tie.Need-judge-save-requires
+judge_save_requires c κs = search rules
 
-with-room-requires : tie.Need-with-room-requires
-with-room-requires c κs = search rules
+with_room_requires : tie.Need-with-room-requires
+with_room_requires c κs = search rules
 
-enum-known-n : tie.Need-enum-known-n
-enum-known-n c = search rules
+enum_known_n : tie.Need-enum-known-n
+enum_known_n c = search rules
 
-refusal-number-requires : tie.Need-refusal-number-requires
-refusal-number-requires c κs = search rules
+refusal_number_requires : tie.Need-refusal-number-requires
+refusal_number_requires c κs = search rules
 
 enum_told : tie.Need-enum-told
 enum_told c = search rules
 
-save-object-requires : tie.Need-save-object-requires
-save-object-requires c κs = search rules
+save_object_requires : tie.Need-save-object-requires
+save_object_requires c κs = search rules
 
-note-saved-requires : tie.Need-note-saved-requires
-note-saved-requires c κs =
+note_saved_requires : tie.Need-note-saved-requires
+note_saved_requires c κs =
     (roomy c.before.before.before.before.before.before.before.before.judge-save.result (length
     c.before.before.before.before.before.before.before.before.before.before.before.before.args.out.now) 1 (sym
-    c.before.before.before.before.before.before.before.with-room.ensures ∙ c.before.before.before.before.before.enum_told.given.1)).room
+    c.before.before.before.before.before.before.before.with_room_lem.ensures ∙ c.before.before.before.before.before.enum_told.given.1)).room
 
 returns : tie.Need-returns
-unfolding modules.saveCall
+unfolding modules.save_call
 returns c =
     rw (
       ← c.before.before.before.before.before.judge-save.ensures,
-      sym c.before.before.before.before.with-room.ensures ∙
+      sym c.before.before.before.before.with_room_lem.ensures ∙
           c.before.before.n.given.1,
       c.refusal-number.ensures,
     )
@@ -44,34 +44,34 @@ returns c =
 same_length : tie.Need-same-length
 same_length c = search rules
 
-same-length-2 : tie.Need-same-length-2
-same-length-2 c = search rules
+same_length_2 : tie.Need-same-length-2
+same_length_2 c = search rules
 
-returns-2 : tie.Need-returns-2
-unfolding modules.saveCall
-returns-2 c =
+returns_2 : tie.Need-returns-2
+unfolding modules.save_call
+returns_2 c =
     rw (
       ← c.before.before.before.before.before.before.before.before.before.before.before.judge-save.ensures,
       sym
-          c.before.before.before.before.before.before.before.before.before.before.with-room.ensures ∙
+          c.before.before.before.before.before.before.before.before.before.before.with_room_lem.ensures ∙
           c.before.before.before.before.before.before.before.before.enum_told.given.1,
       ←
           c.before.before.before.before.before.before.save-object.ensures,
       ← c.before.before.note-saved.ensures,
     )
 
-pub call-save-spec : {M : Type 1} → statement M
-call-save-spec =
+pub call_save_spec : {M : Type 1} → statement M
+call_save_spec =
     tie.close
     (tie.spec
-    judge-save-requires
-    with-room-requires
-    enum-known-n
-    refusal-number-requires
+    judge_save_requires
+    with_room_requires
+    enum_known_n
+    refusal_number_requires
     enum_told
-    save-object-requires
-    note-saved-requires
+    save_object_requires
+    note_saved_requires
     returns
     same_length
-    same-length-2
-    returns-2)
+    same_length_2
+    returns_2)

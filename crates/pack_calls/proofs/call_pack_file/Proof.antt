@@ -7,36 +7,36 @@ use Rattle.lent_arrays.proofs.LendingLaws.{roomy}
 use Rattle.calls.specs.Listings as listings
 use mathlib.Core.Path.{◌∙◌, sym}
 
-judge-pack-file-requires : tie.Need-judge-pack-file-requires
-judge-pack-file-requires c κs = search rules
+judge_pack_file_requires : tie.Need-judge-pack-file-requires
+judge_pack_file_requires c κs = search rules
 
-with-room-requires : tie.Need-with-room-requires
-with-room-requires c κs = search rules
+with_room_requires : tie.Need-with-room-requires
+with_room_requires c κs = search rules
 
-enum-known-n : tie.Need-enum-known-n
-enum-known-n c = search rules
+enum_known_n : tie.Need-enum-known-n
+enum_known_n c = search rules
 
-refusal-number-requires : tie.Need-refusal-number-requires
-refusal-number-requires c κs = search rules
+refusal_number_requires : tie.Need-refusal-number-requires
+refusal_number_requires c κs = search rules
 
 enum_told : tie.Need-enum-told
 enum_told c = search rules
 
-pack-file-requires : tie.Need-pack-file-requires
-pack-file-requires c κs = search rules
+pack_file_requires : tie.Need-pack-file-requires
+pack_file_requires c κs = search rules
 
-note-packed-requires : tie.Need-note-packed-requires
-note-packed-requires c κs =
+note_packed_requires : tie.Need-note-packed-requires
+note_packed_requires c κs =
     (roomy c.before.before.before.before.before.before.before.before.judge-pack-file.result (length
     c.before.before.before.before.before.before.before.before.before.before.before.before.args.out.now) 1 (sym
-    c.before.before.before.before.before.before.before.with-room.ensures ∙ c.before.before.before.before.before.enum_told.given.1)).room
+    c.before.before.before.before.before.before.before.with_room_lem.ensures ∙ c.before.before.before.before.before.enum_told.given.1)).room
 
 returns : tie.Need-returns
-unfolding listings.packFileCall
+unfolding listings.pack_file_call
 returns c =
     rw (
       ← c.before.before.before.before.before.judge-pack-file.ensures,
-      sym c.before.before.before.before.with-room.ensures ∙
+      sym c.before.before.before.before.with_room_lem.ensures ∙
           c.before.before.n.given.1,
       c.refusal-number.ensures,
     )
@@ -44,34 +44,34 @@ returns c =
 same_length : tie.Need-same-length
 same_length c = search rules
 
-same-length-2 : tie.Need-same-length-2
-same-length-2 c = search rules
+same_length_2 : tie.Need-same-length-2
+same_length_2 c = search rules
 
-returns-2 : tie.Need-returns-2
-unfolding listings.packFileCall
-returns-2 c =
+returns_2 : tie.Need-returns-2
+unfolding listings.pack_file_call
+returns_2 c =
     rw (
       ← c.before.before.before.before.before.before.before.before.before.before.before.judge-pack-file.ensures,
       sym
-          c.before.before.before.before.before.before.before.before.before.before.with-room.ensures ∙
+          c.before.before.before.before.before.before.before.before.before.before.with_room_lem.ensures ∙
           c.before.before.before.before.before.before.before.before.enum_told.given.1,
       ←
           c.before.before.before.before.before.before.pack-file.ensures,
       ← c.before.before.note-packed.ensures,
     )
 
-pub call-pack-file-spec : {M : Type 1} → statement M
-call-pack-file-spec =
+pub call_pack_file_spec : {M : Type 1} → statement M
+call_pack_file_spec =
     tie.close
     (tie.spec
-    judge-pack-file-requires
-    with-room-requires
-    enum-known-n
-    refusal-number-requires
+    judge_pack_file_requires
+    with_room_requires
+    enum_known_n
+    refusal_number_requires
     enum_told
-    pack-file-requires
-    note-packed-requires
+    pack_file_requires
+    note_packed_requires
     returns
     same_length
-    same-length-2
-    returns-2)
+    same_length_2
+    returns_2)

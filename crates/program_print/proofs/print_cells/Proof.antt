@@ -5,51 +5,51 @@ use native.Mathlib.Omega.{arith}
 use borrow.Author.Rules.{rules}
 use Prim.Native.Nat.{◌≤◌, ◌-◌}
 
-abbrev invariant-loop : tie.invariant-loop
-invariant-loop output n i₀ i = i ≤ n
+abbrev invariant_loop : tie.invariant_loop
+invariant_loop output n i₀ i = i ≤ n
 
-abbrev decreases-loop : tie.decreases-loop
-decreases-loop output n i₀ i = n - i
+abbrev decreases_loop : tie.decreases_loop
+decreases_loop output n i₀ i = n - i
 
-cast-n : tie.Need-overflow-cast-n invariant-loop decreases-loop
-cast-n c = search rules
+cast_n : tie.Need-overflow-cast-n invariant_loop decreases_loop
+cast_n c = search rules
 
-loop-holds : tie.Need-loop-init invariant-loop decreases-loop
-loop-holds c = omega arith
+loop_holds : tie.Need-loop-init invariant_loop decreases_loop
+loop_holds c = omega arith
 
-mul-load-at : tie.Need-overflow-mul-load-at invariant-loop decreases-loop
-mul-load-at c = omega arith
+mul_load_at : tie.Need-overflow-mul-load-at invariant_loop decreases_loop
+mul_load_at c = omega arith
 
-load-at-requires : tie.Need-load-at-requires invariant-loop decreases-loop
-load-at-requires c κs = omega arith
+load_at_requires : tie.Need-load-at-requires invariant_loop decreases_loop
+load_at_requires c κs = omega arith
 
-print-cell-requires : tie.Need-print-cell-requires invariant-loop decreases-loop
-print-cell-requires c κs = search rules
+print_cell_requires : tie.Need-print-cell-requires invariant_loop decreases_loop
+print_cell_requires c κs = search rules
 
-add-i : tie.Need-overflow-add-i invariant-loop decreases-loop
-add-i c = omega arith
+add_i : tie.Need-overflow-add-i invariant_loop decreases_loop
+add_i c = omega arith
 
-loop-less : tie.Need-loop-smaller invariant-loop decreases-loop
-loop-less c = omega arith
+loop_less : tie.Need-loop-smaller invariant_loop decreases_loop
+loop_less c = omega arith
 
-loop-again : tie.Need-loop-preserved invariant-loop decreases-loop
-loop-again c = omega arith
+loop_again : tie.Need-loop-preserved invariant_loop decreases_loop
+loop_again c = omega arith
 
-returns : tie.Need-returns invariant-loop decreases-loop
+returns : tie.Need-returns invariant_loop decreases_loop
 returns c = search rules
 
-pub print-cells-spec : {M : Type 1} → statement M
-print-cells-spec =
+pub print_cells_spec : {M : Type 1} → statement M
+print_cells_spec =
     tie.close
     (tie.spec
-    invariant-loop
-    decreases-loop
-    cast-n
-    loop-holds
-    mul-load-at
-    load-at-requires
-    print-cell-requires
-    add-i
-    loop-less
-    loop-again
+    invariant_loop
+    decreases_loop
+    cast_n
+    loop_holds
+    mul_load_at
+    load_at_requires
+    print_cell_requires
+    add_i
+    loop_less
+    loop_again
     returns)

@@ -2,39 +2,39 @@ use borrow.Author.Rules.{rules}
 use Rattle.program_print.proofs.print_packed.Statement.{statement}
 use Rattle.program_print.proofs.print_packed.Tie as tie
 
-pack-number-requires : tie.Need-pack-number-requires
-pack-number-requires c κs = search rules
+pack_number_requires : tie.Need-pack-number-requires
+pack_number_requires c κs = search rules
 
-pack-count-requires : tie.Need-pack-count-requires
-pack-count-requires c κs = search rules
+pack_count_requires : tie.Need-pack-count-requires
+pack_count_requires c κs = search rules
 
-print-cells-requires : tie.Need-print-cells-requires
-print-cells-requires c κs = rw c.pack-count.ensures c.before.before.before.before.requires
+print_cells_requires : tie.Need-print-cells-requires
+print_cells_requires c κs = rw c.pack-count.ensures c.before.before.before.before.requires
 
-print-number-requires : tie.Need-print-number-requires
-print-number-requires c κs = search rules
+print_number_requires : tie.Need-print-number-requires
+print_number_requires c κs = search rules
 
-slice-aggregate-write-all : tie.Need-slice-aggregate-write-all
-slice-aggregate-write-all c = search rules
+slice_aggregate_write_all : tie.Need-slice-aggregate-write-all
+slice_aggregate_write_all c = search rules
 
-write-all-requires : tie.Need-write-all-requires
-write-all-requires c κs = search rules
+write_all_requires : tie.Need-write-all-requires
+write_all_requires c κs = search rules
 
 returns : tie.Need-returns
 returns c = search rules
 
-returns-2 : tie.Need-returns-2
-returns-2 c = search rules
+returns_2 : tie.Need-returns-2
+returns_2 c = search rules
 
-pub print-packed-spec : {M : Type 1} → statement M
-print-packed-spec =
+pub print_packed_spec : {M : Type 1} → statement M
+print_packed_spec =
     tie.close
     (tie.spec
-    pack-number-requires
-    pack-count-requires
-    print-cells-requires
-    print-number-requires
-    slice-aggregate-write-all
-    write-all-requires
+    pack_number_requires
+    pack_count_requires
+    print_cells_requires
+    print_number_requires
+    slice_aggregate_write_all
+    write_all_requires
     returns
-    returns-2)
+    returns_2)

@@ -5,40 +5,40 @@ use Rattle.stack_order.proofs.minus_rot.Tie as tie
 use Rattle.instruction.specs.Plain as plain
 use mathlib.Core.Path.{◌∙◌, sym, ap}
 
-fetch-data-requires : tie.Need-fetch-data-requires
-fetch-data-requires c κs = search rules
+fetch_data_requires : tie.Need-fetch-data-requires
+fetch_data_requires c κs = search rules
 
-enum-known-got : tie.Need-enum-known-got
-enum-known-got c = search rules
+enum_known_got : tie.Need-enum-known-got
+enum_known_got c = search rules
 
 enum_told : tie.Need-enum-told
 enum_told c = search rules
 
-fail-three-requires : tie.Need-fail-three-requires
-fail-three-requires c κs = (_, c.enum_told.given.1)
+fail_three_requires : tie.Need-fail-three-requires
+fail_three_requires c κs = (_, c.enum_told.given.1)
 
 returns : tie.Need-returns
 unfolding plain.plain_of
 returns c = simp (sym c.before.before.before.fetch-data.ensures ∙ c.before.enum_told.given.1) (c.fail-three.ensures ∙ ap plain.failed c.before.enum_told.given.1)
 
-add-requires : tie.Need-add-requires
-add-requires c κs = search rules
+add_requires : tie.Need-add-requires
+add_requires c κs = search rules
 
-fetch-data-requires-2 : tie.Need-fetch-data-requires-2
-fetch-data-requires-2 c κs = search rules
+fetch_data_requires_2 : tie.Need-fetch-data-requires-2
+fetch_data_requires_2 c κs = search rules
 
-enum-known-got2 : tie.Need-enum-known-got2
-enum-known-got2 c = search rules
+enum_known_got2 : tie.Need-enum-known-got2
+enum_known_got2 c = search rules
 
-enum-told-2 : tie.Need-enum-told-2
-enum-told-2 c = search rules
+enum_told_2 : tie.Need-enum-told-2
+enum_told_2 c = search rules
 
-fail-three-requires-2 : tie.Need-fail-three-requires-2
-fail-three-requires-2 c κs = (_, c.enum-told2.given.1)
+fail_three_requires_2 : tie.Need-fail-three-requires-2
+fail_three_requires_2 c κs = (_, c.enum-told2.given.1)
 
-returns-2 : tie.Need-returns-2
+returns_2 : tie.Need-returns-2
 unfolding plain.plain_of
-returns-2 c =
+returns_2 c =
     simp (
       sym c.before.before.before.before.before.before.before.before.fetch-data.ensures ∙
           c.before.before.before.before.before.before.got.given.1,
@@ -47,24 +47,24 @@ returns-2 c =
     ) (c.fail-three2.ensures ∙ ap plain.failed
     c.before.enum-told2.given.1)
 
-add-requires-2 : tie.Need-add-requires-2
-add-requires-2 c κs = search rules
+add_requires_2 : tie.Need-add-requires-2
+add_requires_2 c κs = search rules
 
-fetch-data-requires-3 : tie.Need-fetch-data-requires-3
-fetch-data-requires-3 c κs = search rules
+fetch_data_requires_3 : tie.Need-fetch-data-requires-3
+fetch_data_requires_3 c κs = search rules
 
-enum-known-got3 : tie.Need-enum-known-got3
-enum-known-got3 c = search rules
+enum_known_got3 : tie.Need-enum-known-got3
+enum_known_got3 c = search rules
 
-enum-told-3 : tie.Need-enum-told-3
-enum-told-3 c = search rules
+enum_told_3 : tie.Need-enum-told-3
+enum_told_3 c = search rules
 
-fail-three-requires-3 : tie.Need-fail-three-requires-3
-fail-three-requires-3 c κs = (_, c.enum-told3.given.1)
+fail_three_requires_3 : tie.Need-fail-three-requires-3
+fail_three_requires_3 c κs = (_, c.enum-told3.given.1)
 
-returns-3 : tie.Need-returns-3
+returns_3 : tie.Need-returns-3
 unfolding plain.plain_of
-returns-3 c =
+returns_3 c =
     simp (
       sym c.before.before.before.before.before.before.before.before.before.before.before.before.before.fetch-data.ensures ∙
           c.before.before.before.before.before.before.before.before.before.before.before.got.given.1,
@@ -75,15 +75,15 @@ returns-3 c =
     )
     (c.fail-three3.ensures ∙ ap plain.failed c.before.enum-told3.given.1)
 
-add-requires-3 : tie.Need-add-requires-3
-add-requires-3 c κs = search rules
+add_requires_3 : tie.Need-add-requires-3
+add_requires_3 c κs = search rules
 
-add-requires-4 : tie.Need-add-requires-4
-add-requires-4 c κs = search rules
+add_requires_4 : tie.Need-add-requires-4
+add_requires_4 c κs = search rules
 
-returns-4 : tie.Need-returns-4
+returns_4 : tie.Need-returns-4
 unfolding plain.plain_of
-returns-4 c =
+returns_4 c =
     simp (
       sym c.before.before.before.before.before.before.before.before.before.before.before.before.before.before.before.fetch-data.ensures ∙
           c.before.before.before.before.before.before.before.before.before.before.before.before.before.got.given.1,
@@ -99,27 +99,27 @@ returns-4 c =
       c.add4.ensures,
     )
 
-pub minus-rot-spec : {M : Type 1} → statement M
-minus-rot-spec =
+pub minus_rot_spec : {M : Type 1} → statement M
+minus_rot_spec =
     tie.close
     (tie.spec
-    fetch-data-requires
-    enum-known-got
+    fetch_data_requires
+    enum_known_got
     enum_told
-    fail-three-requires
+    fail_three_requires
     returns
-    add-requires
-    fetch-data-requires-2
-    enum-known-got2
-    enum-told-2
-    fail-three-requires-2
-    returns-2
-    add-requires-2
-    fetch-data-requires-3
-    enum-known-got3
-    enum-told-3
-    fail-three-requires-3
-    returns-3
-    add-requires-3
-    add-requires-4
-    returns-4)
+    add_requires
+    fetch_data_requires_2
+    enum_known_got2
+    enum_told_2
+    fail_three_requires_2
+    returns_2
+    add_requires_2
+    fetch_data_requires_3
+    enum_known_got3
+    enum_told_3
+    fail_three_requires_3
+    returns_3
+    add_requires_3
+    add_requires_4
+    returns_4)

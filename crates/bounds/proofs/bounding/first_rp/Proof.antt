@@ -4,17 +4,17 @@ use borrow.Author.Rules.{rules}
 use Rattle.bounds.proofs.bounding.first_rp.Statement.{statement}
 use Rattle.bounds.proofs.bounding.first_rp.Tie as tie
 
-is-none-requires : tie.Need-is-none-requires
-is-none-requires c κs = search rules
+is_none_requires : tie.Need-is-none-requires
+is_none_requires c κs = search rules
 
-cast-result : tie.Need-overflow-cast-result
-cast-result c = search rules
+cast_result : tie.Need-overflow-cast-result
+cast_result c = search rules
 
 returns : tie.Need-returns
 returns c = rw (sym c.before.is_none.ensures ∙ c.if1.true)
 
-returns-2 : tie.Need-returns-2
-returns-2 c = rw (sym c.before.before.before.is_none.ensures ∙ c.before.before.if1.false)
+returns_2 : tie.Need-returns-2
+returns_2 c = rw (sym c.before.before.before.is_none.ensures ∙ c.before.before.if1.false)
 
-pub first-rp-spec : {M : Type 1} → statement M
-first-rp-spec = tie.close (tie.spec is-none-requires cast-result returns returns-2)
+pub first_rp_spec : {M : Type 1} → statement M
+first_rp_spec = tie.close (tie.spec is_none_requires cast_result returns returns_2)

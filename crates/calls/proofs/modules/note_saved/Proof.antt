@@ -3,17 +3,17 @@ use borrow.Author.Rules.{rules}
 use Rattle.calls.proofs.modules.note_saved.Statement.{statement}
 use Rattle.calls.proofs.modules.note_saved.Tie as tie
 
-enum-known-answer : tie.Need-enum-known-answer
-enum-known-answer c = search rules
+enum_known_answer : tie.Need-enum-known-answer
+enum_known_answer c = search rules
 
-refusal-number-requires : tie.Need-refusal-number-requires
-refusal-number-requires c κs = search rules
+refusal_number_requires : tie.Need-refusal-number-requires
+refusal_number_requires c κs = search rules
 
-enum-known-answer-2 : tie.Need-enum-known-answer-2
-enum-known-answer-2 c = search rules
+enum_known_answer_2 : tie.Need-enum-known-answer-2
+enum_known_answer_2 c = search rules
 
-write-one-requires : tie.Need-write-one-requires
-write-one-requires c κs = search rules
+write_one_requires : tie.Need-write-one-requires
+write_one_requires c κs = search rules
 
 returns : tie.Need-returns
 returns c = rw (c.before.before.answer.given.1, c.refusal-number.ensures)
@@ -21,17 +21,17 @@ returns c = rw (c.before.before.answer.given.1, c.refusal-number.ensures)
 same_length : tie.Need-same-length
 same_length c = search rules
 
-returns-2 : tie.Need-returns-2
-returns-2 c = rw (c.before.before.before.before.before.answer2.given.1, c.before.before.write-one.ensures)
+returns_2 : tie.Need-returns-2
+returns_2 c = rw (c.before.before.before.before.before.answer2.given.1, c.before.before.write-one.ensures)
 
-pub note-saved-spec : {M : Type 1} → statement M
-note-saved-spec =
+pub note_saved_spec : {M : Type 1} → statement M
+note_saved_spec =
     tie.close
     (tie.spec
-    enum-known-answer
-    refusal-number-requires
-    enum-known-answer-2
-    write-one-requires
+    enum_known_answer
+    refusal_number_requires
+    enum_known_answer_2
+    write_one_requires
     returns
     same_length
-    returns-2)
+    returns_2)

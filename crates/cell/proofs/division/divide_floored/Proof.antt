@@ -3,25 +3,25 @@ use Rattle.cell.proofs.division.divide_floored.Statement.{statement}
 use Rattle.cell.proofs.division.divide_floored.Tie as tie
 use Rattle.cell.specs.Division as division
 
-divide-symmetric-requires : tie.Need-divide-symmetric-requires
-divide-symmetric-requires c κs = search rules
+divide_symmetric_requires : tie.Need-divide-symmetric-requires
+divide_symmetric_requires c κs = search rules
 
 returns : tie.Need-returns
-unfolding division.flooredOf
+unfolding division.floored_of
 returns c = rw (← c.before.before.divide-symmetric.ensures) (simp (eq-eqb _ _ c.if1.true))
 
-is-apart-requires : tie.Need-is-apart-requires
-is-apart-requires c κs = search rules
+is_apart_requires : tie.Need-is-apart-requires
+is_apart_requires c κs = search rules
 
-subtract-requires : tie.Need-subtract-requires
-subtract-requires c κs = search rules
+subtract_requires : tie.Need-subtract-requires
+subtract_requires c κs = search rules
 
-add-requires : tie.Need-add-requires
-add-requires c κs = search rules
+add_requires : tie.Need-add-requires
+add_requires c κs = search rules
 
-returns-2 : tie.Need-returns-2
-unfolding division.flooredOf
-returns-2 c =
+returns_2 : tie.Need-returns-2
+unfolding division.floored_of
+returns_2 c =
     rw (← c.before.before.before.before.before.before.divide-symmetric.ensures) (simp (
       ne_eqb _ _ c.before.before.before.before.if1.false,
       sym
@@ -30,18 +30,18 @@ returns-2 c =
       c.add.ensures,
     ))
 
-returns-3 : tie.Need-returns-3
-unfolding division.flooredOf
-returns-3 c = rw (← c.before.before.before.before.divide-symmetric.ensures) (simp (ne_eqb _ _ c.before.before.if1.false, sym c.before.is-apart.ensures ∙ c.if2.false))
+returns_3 : tie.Need-returns-3
+unfolding division.floored_of
+returns_3 c = rw (← c.before.before.before.before.divide-symmetric.ensures) (simp (ne_eqb _ _ c.before.before.if1.false, sym c.before.is-apart.ensures ∙ c.if2.false))
 
-pub divide-floored-spec : {M : Type 1} → statement M
-divide-floored-spec =
+pub divide_floored_spec : {M : Type 1} → statement M
+divide_floored_spec =
     tie.close
     (tie.spec
-    divide-symmetric-requires
+    divide_symmetric_requires
     returns
-    is-apart-requires
-    subtract-requires
-    add-requires
-    returns-2
-    returns-3)
+    is_apart_requires
+    subtract_requires
+    add_requires
+    returns_2
+    returns_3)

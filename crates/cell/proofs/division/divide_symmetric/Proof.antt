@@ -1,32 +1,32 @@
 use Rattle.std.proofs.Common.{rules}
 use Rattle.cell.proofs.division.divide_symmetric.Statement.{statement}
 use Rattle.cell.proofs.division.divide_symmetric.Tie as tie
-use Rattle.cell.proofs.NumberLaws.{magnitude-pos}
+use Rattle.cell.proofs.NumberLaws.{magnitude_pos}
 use Rattle.cell.specs.Division as division
 
-magnitude-requires : tie.Need-magnitude-requires
-magnitude-requires c κs = search rules
+magnitude_requires : tie.Need-magnitude-requires
+magnitude_requires c κs = search rules
 
-magnitude-requires-2 : tie.Need-magnitude-requires-2
-magnitude-requires-2 c κs = search rules
+magnitude_requires_2 : tie.Need-magnitude-requires-2
+magnitude_requires_2 c κs = search rules
 
-is-apart-requires : tie.Need-is-apart-requires
-is-apart-requires c κs = search rules
+is_apart_requires : tie.Need-is-apart-requires
+is_apart_requires c κs = search rules
 
-div-with-sign : tie.Need-nonzero-div-with-sign
-div-with-sign c = rw c.before.magnitude2.ensures (magnitude-pos c.before.before.before.args.b (search rules) (search rules))
+div_with_sign : tie.Need-nonzero-div-with-sign
+div_with_sign c = rw c.before.magnitude2.ensures (magnitude_pos c.before.before.before.args.b (search rules) (search rules))
 
-with-sign-requires : tie.Need-with-sign-requires
-with-sign-requires c κs = search rules
+with_sign_requires : tie.Need-with-sign-requires
+with_sign_requires c κs = search rules
 
-rem-with-sign : tie.Need-nonzero-rem-with-sign
-rem-with-sign c = rw c.before.before.magnitude2.ensures (magnitude-pos c.before.before.before.before.args.b (search rules) (search rules))
+rem_with_sign : tie.Need-nonzero-rem-with-sign
+rem_with_sign c = rw c.before.before.magnitude2.ensures (magnitude_pos c.before.before.before.before.args.b (search rules) (search rules))
 
-with-sign-requires-2 : tie.Need-with-sign-requires-2
-with-sign-requires-2 c κs = search rules
+with_sign_requires_2 : tie.Need-with-sign-requires-2
+with_sign_requires_2 c κs = search rules
 
 returns : tie.Need-returns
-unfolding division.symmetricOf
+unfolding division.symmetric_of
 returns c =
     simp (
       c.with-sign2.ensures,
@@ -36,15 +36,15 @@ returns c =
       c.before.before.before.before.magnitude.ensures,
     )
 
-pub divide-symmetric-spec : {M : Type 1} → statement M
-divide-symmetric-spec =
+pub divide_symmetric_spec : {M : Type 1} → statement M
+divide_symmetric_spec =
     tie.close
     (tie.spec
-    magnitude-requires
-    magnitude-requires-2
-    is-apart-requires
-    div-with-sign
-    with-sign-requires
-    rem-with-sign
-    with-sign-requires-2
+    magnitude_requires
+    magnitude_requires_2
+    is_apart_requires
+    div_with_sign
+    with_sign_requires
+    rem_with_sign
+    with_sign_requires_2
     returns)

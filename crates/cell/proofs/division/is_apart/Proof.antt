@@ -7,8 +7,8 @@ use borrow.Author.Tests.{lt-leb}
 returns : tie.Need-returns
 returns c = simp (le-leb _ _ c.if1.true) (lt_not_le 0x80000000 c.before.args.b)
 
-returns-2 : tie.Need-returns-2
-returns-2 c = simp (lt-leb _ _ c.if1.false)
+returns_2 : tie.Need-returns-2
+returns_2 c = simp (lt-leb _ _ c.if1.false)
 
-pub is-apart-spec : {M : Type 1} → statement M
-is-apart-spec = tie.close (tie.spec returns returns-2)
+pub is_apart_spec : {M : Type 1} → statement M
+is_apart_spec = tie.close (tie.spec returns returns_2)

@@ -4,24 +4,24 @@ use Rattle.std.proofs.Common.{le-ltb, lt-ltb, eq-eqb, ne_eqb}
 use Rattle.cell.specs.Refusals as refusals
 
 returns : tie.Need-returns
-unfolding refusals.judgeMachine
+unfolding refusals.judge_machine
 returns c = simp (lt-ltb _ _ c.if1.true)
 
-returns-2 : tie.Need-returns-2
-unfolding refusals.judgeMachine
-returns-2 c = simp (le-ltb _ _ c.before.if1.false, lt-ltb _ _ c.if2.true)
+returns_2 : tie.Need-returns-2
+unfolding refusals.judge_machine
+returns_2 c = simp (le-ltb _ _ c.before.if1.false, lt-ltb _ _ c.if2.true)
 
-returns-3 : tie.Need-returns-3
-unfolding refusals.judgeMachine
-returns-3 c = simp (le-ltb _ _ c.before.before.if1.false, le-ltb _ _ c.before.if2.false, ne_eqb _ _ c.if3.true)
+returns_3 : tie.Need-returns-3
+unfolding refusals.judge_machine
+returns_3 c = simp (le-ltb _ _ c.before.before.if1.false, le-ltb _ _ c.before.if2.false, ne_eqb _ _ c.if3.true)
 
-returns-4 : tie.Need-returns-4
-unfolding refusals.judgeMachine
-returns-4 c = simp (le-ltb _ _ c.before.before.before.if1.false, le-ltb _ _ c.before.before.if2.false, eq-eqb _ _ c.before.if3.false, lt-ltb _ _ c.if4.true)
+returns_4 : tie.Need-returns-4
+unfolding refusals.judge_machine
+returns_4 c = simp (le-ltb _ _ c.before.before.before.if1.false, le-ltb _ _ c.before.before.if2.false, eq-eqb _ _ c.before.if3.false, lt-ltb _ _ c.if4.true)
 
-returns-5 : tie.Need-returns-5
-unfolding refusals.judgeMachine
-returns-5 c = simp (le-ltb _ _ c.before.before.before.if1.false, le-ltb _ _ c.before.before.if2.false, eq-eqb _ _ c.before.if3.false, le-ltb _ _ c.if4.false)
+returns_5 : tie.Need-returns-5
+unfolding refusals.judge_machine
+returns_5 c = simp (le-ltb _ _ c.before.before.before.if1.false, le-ltb _ _ c.before.before.if2.false, eq-eqb _ _ c.before.if3.false, le-ltb _ _ c.if4.false)
 
-pub judge-machine-spec : {M : Type 1} → statement M
-judge-machine-spec = tie.close (tie.spec returns returns-2 returns-3 returns-4 returns-5)
+pub judge_machine_spec : {M : Type 1} → statement M
+judge_machine_spec = tie.close (tie.spec returns returns_2 returns_3 returns_4 returns_5)

@@ -3,12 +3,12 @@ use Rattle.cell.proofs.number.add.Statement.{statement}
 use Rattle.cell.proofs.number.add.Tie as tie
 use Rattle.cell.specs.Number as number
 
-wrapping-add-u32-requires : tie.Need-wrapping-add-u32-requires
-wrapping-add-u32-requires c κs = search rules
+wrapping_add_u32_requires : tie.Need-wrapping-add-u32-requires
+wrapping_add_u32_requires c κs = search rules
 
 returns : tie.Need-returns
 unfolding number.sum
 returns c = c.wrapping-add-u32.ensures
 
 pub add_spec : {M : Type 1} → statement M
-add_spec = tie.close (tie.spec wrapping-add-u32-requires returns)
+add_spec = tie.close (tie.spec wrapping_add_u32_requires returns)

@@ -5,8 +5,8 @@ use Rattle.std.proofs.Common.{eq-eqb, ne_eqb}
 returns : tie.Need-returns
 returns c = simp (eq-eqb _ _ c.if1.true)
 
-returns-2 : tie.Need-returns-2
-returns-2 c = simp (ne_eqb _ _ c.if1.false)
+returns_2 : tie.Need-returns-2
+returns_2 c = simp (ne_eqb _ _ c.if1.false)
 
-pub byte-address-spec : {M : Type 1} → statement M
-byte-address-spec = tie.close (tie.spec returns returns-2)
+pub byte_address_spec : {M : Type 1} → statement M
+byte_address_spec = tie.close (tie.spec returns returns_2)

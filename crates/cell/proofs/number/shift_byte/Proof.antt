@@ -1,16 +1,16 @@
 use Rattle.std.proofs.Common.{rules}
 use Rattle.cell.proofs.number.shift_byte.Statement.{statement}
 use Rattle.cell.proofs.number.shift_byte.Tie as tie
-use Rattle.cell.proofs.NumberLaws.{asr8-is}
+use Rattle.cell.proofs.NumberLaws.{asr8_is}
 
-add-wrapping-sub-u32 : tie.Need-overflow-add-wrapping-sub-u32
-add-wrapping-sub-u32 c = search rules
+add_wrapping_sub_u32 : tie.Need-overflow-add-wrapping-sub-u32
+add_wrapping_sub_u32 c = search rules
 
-wrapping-sub-u32-requires : tie.Need-wrapping-sub-u32-requires
-wrapping-sub-u32-requires c κs = search rules
+wrapping_sub_u32_requires : tie.Need-wrapping-sub-u32-requires
+wrapping_sub_u32_requires c κs = search rules
 
 returns : tie.Need-returns
-returns c = asr8-is c.before.args.a c.wrapping-sub-u32.result (search rules) (search rules) c.wrapping-sub-u32.ensures
+returns c = asr8_is c.before.args.a c.wrapping-sub-u32.result (search rules) (search rules) c.wrapping-sub-u32.ensures
 
-pub shift-byte-spec : {M : Type 1} → statement M
-shift-byte-spec = tie.close (tie.spec add-wrapping-sub-u32 wrapping-sub-u32-requires returns)
+pub shift_byte_spec : {M : Type 1} → statement M
+shift_byte_spec = tie.close (tie.spec add_wrapping_sub_u32 wrapping_sub_u32_requires returns)

@@ -6,8 +6,8 @@ use borrow.Author.Tests.{eq-eqb, ne_eqb}
 returns : tie.Need-returns
 returns c = simp (eq-eqb _ _ c.before.if1.true)
 
-returns-2 : tie.Need-returns-2
-returns-2 c = simp (ne_eqb _ _ c.if1.false)
+returns_2 : tie.Need-returns-2
+returns_2 c = simp (ne_eqb _ _ c.if1.false)
 
-pub is-none-given-spec : {M : Type 1} → statement M
-is-none-given-spec = tie.close (tie.spec returns returns-2)
+pub is_none_given_spec : {M : Type 1} → statement M
+is_none_given_spec = tie.close (tie.spec returns returns_2)

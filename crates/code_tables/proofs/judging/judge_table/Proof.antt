@@ -5,24 +5,24 @@ use Rattle.code_tables.proofs.judging.judge_table.Tie as tie
 use Rattle.code_tables.specs.Tables as tables
 use mathlib.Core.Path.{sym, ◌∙◌}
 
-is-none-given-requires : tie.Need-is-none-given-requires
-is-none-given-requires c κs = search rules
+is_none_given_requires : tie.Need-is-none-given-requires
+is_none_given_requires c κs = search rules
 
 returns : tie.Need-returns
-unfolding tables.judgeTable
+unfolding tables.judge_table
 returns c = simp (sym c.before.is-none-given.ensures ∙ c.if1.true)
 
-is-bad-table-requires : tie.Need-is-bad-table-requires
-is-bad-table-requires c κs = search rules
+is_bad_table_requires : tie.Need-is-bad-table-requires
+is_bad_table_requires c κs = search rules
 
-returns-2 : tie.Need-returns-2
-unfolding tables.judgeTable
-returns-2 c = simp (sym c.before.before.before.is-none-given.ensures ∙ c.before.before.if1.false, sym c.before.is-bad-table.ensures ∙ c.if2.true)
+returns_2 : tie.Need-returns-2
+unfolding tables.judge_table
+returns_2 c = simp (sym c.before.before.before.is-none-given.ensures ∙ c.before.before.if1.false, sym c.before.is-bad-table.ensures ∙ c.if2.true)
 
-returns-3 : tie.Need-returns-3
-unfolding tables.judgeTable
-returns-3 c = simp (sym c.before.before.before.is-none-given.ensures ∙ c.before.before.if1.false, sym c.before.is-bad-table.ensures ∙ c.if2.false)
+returns_3 : tie.Need-returns-3
+unfolding tables.judge_table
+returns_3 c = simp (sym c.before.before.before.is-none-given.ensures ∙ c.before.before.if1.false, sym c.before.is-bad-table.ensures ∙ c.if2.false)
 
-pub judge-table-spec : {M : Type 1} → statement M
-judge-table-spec =
-    tie.close (tie.spec is-none-given-requires returns is-bad-table-requires returns-2 returns-3)
+pub judge_table_spec : {M : Type 1} → statement M
+judge_table_spec =
+    tie.close (tie.spec is_none_given_requires returns is_bad_table_requires returns_2 returns_3)

@@ -6,44 +6,44 @@ use Rattle.commits.proofs.commit.fault_of.Tie as tie
 enum_told : tie.Need-enum-told
 enum_told c = search rules
 
-enum-told-2 : tie.Need-enum-told-2
-enum-told-2 c = search rules
+enum_told_2 : tie.Need-enum-told-2
+enum_told_2 c = search rules
 
-enum-told-3 : tie.Need-enum-told-3
-enum-told-3 c = search rules
+enum_told_3 : tie.Need-enum-told-3
+enum_told_3 c = search rules
 
-enum-told-4 : tie.Need-enum-told-4
-enum-told-4 c = search rules
+enum_told_4 : tie.Need-enum-told-4
+enum_told_4 c = search rules
 
-enum-known-then : tie.Need-enum-known-then
-enum-known-then c = search rules
+enum_known_then : tie.Need-enum-known-then
+enum_known_then c = search rules
 
 returns : tie.Need-returns
 returns c = search rules
 
-returns-2 : tie.Need-returns-2
-returns-2 c = search rules
+returns_2 : tie.Need-returns-2
+returns_2 c = search rules
 
-returns-3 : tie.Need-returns-3
-returns-3 c = search rules
+returns_3 : tie.Need-returns-3
+returns_3 c = search rules
 
-returns-4 : tie.Need-returns-4
-returns-4 c = search rules
+returns_4 : tie.Need-returns-4
+returns_4 c = search rules
 
-returns-5 : tie.Need-returns-5
-returns-5 c = rw c.before.then.given.1
+returns_5 : tie.Need-returns-5
+returns_5 c = rw c.before.then.given.1
 
-pub fault-of-spec : {M : Type 1} → statement M
-fault-of-spec =
+pub fault_of_spec : {M : Type 1} → statement M
+fault_of_spec =
     tie.close
     (tie.spec
     enum_told
-    enum-told-2
-    enum-told-3
-    enum-told-4
-    enum-known-then
+    enum_told_2
+    enum_told_3
+    enum_told_4
+    enum_known_then
     returns
-    returns-2
-    returns-3
-    returns-4
-    returns-5)
+    returns_2
+    returns_3
+    returns_4
+    returns_5)

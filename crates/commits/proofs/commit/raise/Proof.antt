@@ -6,14 +6,14 @@ use Rattle.commits.proofs.commit.raise.Tie as tie
 enum_told : tie.Need-enum-told
 enum_told c = search rules
 
-enum-known-place : tie.Need-enum-known-place
-enum-known-place c = search rules
+enum_known_place : tie.Need-enum-known-place
+enum_known_place c = search rules
 
 returns : tie.Need-returns
 returns c = rw c.enum_told.given.1
 
-returns-2 : tie.Need-returns-2
-returns-2 c = rw c.before.place.given.1
+returns_2 : tie.Need-returns-2
+returns_2 c = rw c.before.place.given.1
 
-pub raise-spec : {M : Type 1} → statement M
-raise-spec = tie.close (tie.spec enum_told enum-known-place returns returns-2)
+pub raise_spec : {M : Type 1} → statement M
+raise_spec = tie.close (tie.spec enum_told enum_known_place returns returns_2)

@@ -11,41 +11,41 @@ enum_told c = search rules
 returns : tie.Need-returns
 returns c = search rules
 
-fetch-requires : tie.Need-fetch-requires
-fetch-requires c κs = search rules
+fetch_requires : tie.Need-fetch-requires
+fetch_requires c κs = search rules
 
-enum-known-got : tie.Need-enum-known-got
-enum-known-got c = search rules
+enum_known_got : tie.Need-enum-known-got
+enum_known_got c = search rules
 
-enum-told-2 : tie.Need-enum-told-2
-enum-told-2 c = search rules
+enum_told_2 : tie.Need-enum-told-2
+enum_told_2 c = search rules
 
-fault-in-requires : tie.Need-fault-in-requires
-fault-in-requires c κs = search rules
+fault_in_requires : tie.Need-fault-in-requires
+fault_in_requires c κs = search rules
 
-returns-2 : tie.Need-returns-2
-unfolding throws.finishOf throws.next_of
-returns-2 c =
+returns_2 : tie.Need-returns-2
+unfolding throws.finish_of throws.next_of
+returns_2 c =
     rw (c.before.before.before.before.before.enum_told.given.1, sym c.before.before.before.fetch.ensures.0 ∙ c.fault-in.ensures)
 
-add-requires : tie.Need-add-requires
-add-requires c κs = search rules
+add_requires : tie.Need-add-requires
+add_requires c κs = search rules
 
-returns-3 : tie.Need-returns-3
-unfolding throws.finishOf throws.next_of
-returns-3 c =
+returns_3 : tie.Need-returns-3
+unfolding throws.finish_of throws.next_of
+returns_3 c =
     rw (c.before.before.before.before.before.before.enum_told.given.1, sym c.before.before.before.before.fetch.ensures.0 ∙ c.before.before.got.given.1, c.add.ensures)
 
-pub fetch-next-spec : {M : Type 1} → statement M
-fetch-next-spec =
+pub fetch_next_spec : {M : Type 1} → statement M
+fetch_next_spec =
     tie.close
     (tie.spec
     enum_told
     returns
-    fetch-requires
-    enum-known-got
-    enum-told-2
-    fault-in-requires
-    returns-2
-    add-requires
-    returns-3)
+    fetch_requires
+    enum_known_got
+    enum_told_2
+    fault_in_requires
+    returns_2
+    add_requires
+    returns_3)

@@ -6,33 +6,33 @@ use Rattle.instruction.specs.Taking as taking
 use Rattle.instruction.specs.Plain as plain
 use mathlib.Core.Path.{◌∙◌, sym, ap}
 
-branch-operand-requires : tie.Need-branch-operand-requires
-branch-operand-requires c κs = search rules
+branch_operand_requires : tie.Need-branch-operand-requires
+branch_operand_requires c κs = search rules
 
-enum-known-got : tie.Need-enum-known-got
-enum-known-got c = search rules
+enum_known_got : tie.Need-enum-known-got
+enum_known_got c = search rules
 
 enum_told : tie.Need-enum-told
 enum_told c = search rules
 
-fail-none-requires : tie.Need-fail-none-requires
-fail-none-requires c κs = (_, c.enum_told.given.1)
+fail_none_requires : tie.Need-fail-none-requires
+fail_none_requires c κs = (_, c.enum_told.given.1)
 
 returns : tie.Need-returns
-unfolding taking.takingOf
-returns c = simp (sym c.before.before.before.branch-operand.ensures ∙ c.before.enum_told.given.1) (c.fail-none.ensures ∙ ap plain.failed c.before.enum_told.given.1)
+unfolding taking.taking_of
+returns c = simp (sym c.before.before.before.branch_operand_lem.ensures ∙ c.before.enum_told.given.1) (c.fail-none.ensures ∙ ap plain.failed c.before.enum_told.given.1)
 
-returns-2 : tie.Need-returns-2
-unfolding taking.takingOf
-returns-2 c = simp (sym c.before.before.before.branch-operand.ensures ∙ c.before.got.given.1)
+returns_2 : tie.Need-returns-2
+unfolding taking.taking_of
+returns_2 c = simp (sym c.before.before.before.branch_operand_lem.ensures ∙ c.before.got.given.1)
 
-pub branch-spec : {M : Type 1} → statement M
-branch-spec =
+pub branch_spec : {M : Type 1} → statement M
+branch_spec =
     tie.close
     (tie.spec
-    branch-operand-requires
-    enum-known-got
+    branch_operand_requires
+    enum_known_got
     enum_told
-    fail-none-requires
+    fail_none_requires
     returns
-    returns-2)
+    returns_2)

@@ -5,55 +5,55 @@ use Rattle.flow.proofs.control.fetch_execute.Tie as tie
 use Rattle.instruction.specs.Plain as plain
 use mathlib.Core.Path.{◌∙◌, sym, ap}
 
-fetch-data-requires : tie.Need-fetch-data-requires
-fetch-data-requires c κs = search rules
+fetch_data_requires : tie.Need-fetch-data-requires
+fetch_data_requires c κs = search rules
 
-enum-known-got : tie.Need-enum-known-got
-enum-known-got c = search rules
+enum_known_got : tie.Need-enum-known-got
+enum_known_got c = search rules
 
 enum_told : tie.Need-enum-told
 enum_told c = search rules
 
-fail-one-requires : tie.Need-fail-one-requires
-fail-one-requires c κs = (_, c.enum_told.given.1)
+fail_one_requires : tie.Need-fail-one-requires
+fail_one_requires c κs = (_, c.enum_told.given.1)
 
 returns : tie.Need-returns
 unfolding plain.plain_of
 returns c = simp (sym c.before.before.before.fetch-data.ensures ∙ c.before.enum_told.given.1) (c.fail-one.ensures ∙ ap plain.failed c.before.enum_told.given.1)
 
-fetch-requires : tie.Need-fetch-requires
-fetch-requires c κs = search rules
+fetch_requires : tie.Need-fetch-requires
+fetch_requires c κs = search rules
 
-enum-known-got2 : tie.Need-enum-known-got2
-enum-known-got2 c = search rules
+enum_known_got2 : tie.Need-enum-known-got2
+enum_known_got2 c = search rules
 
-enum-told-2 : tie.Need-enum-told-2
-enum-told-2 c = search rules
+enum_told_2 : tie.Need-enum-told-2
+enum_told_2 c = search rules
 
-fail-one-requires-2 : tie.Need-fail-one-requires-2
-fail-one-requires-2 c κs = (_, c.enum-told2.given.1)
+fail_one_requires_2 : tie.Need-fail-one-requires-2
+fail_one_requires_2 c κs = (_, c.enum-told2.given.1)
 
-returns-2 : tie.Need-returns-2
+returns_2 : tie.Need-returns-2
 unfolding plain.plain_of
-returns-2 c =
+returns_2 c =
     simp (
       sym c.before.before.before.before.before.before.before.fetch-data.ensures ∙ c.before.before.before.before.before.got.given.1,
       sym
           c.before.before.before.fetch.ensures.1 ∙ c.before.enum-told2.given.1,
     ) (c.fail-one2.ensures ∙ ap plain.failed c.before.enum-told2.given.1)
 
-add-requires : tie.Need-add-requires
-add-requires c κs = search rules
+add_requires : tie.Need-add-requires
+add_requires c κs = search rules
 
-subtract-requires : tie.Need-subtract-requires
-subtract-requires c κs = search rules
+subtract_requires : tie.Need-subtract-requires
+subtract_requires c κs = search rules
 
-subtract-requires-2 : tie.Need-subtract-requires-2
-subtract-requires-2 c κs = search rules
+subtract_requires_2 : tie.Need-subtract-requires-2
+subtract_requires_2 c κs = search rules
 
-returns-3 : tie.Need-returns-3
+returns_3 : tie.Need-returns-3
 unfolding plain.plain_of
-returns-3 c =
+returns_3 c =
     simp (
       sym c.before.before.before.before.before.before.before.before.before.before.fetch-data.ensures ∙
           c.before.before.before.before.before.before.before.before.got.given.1,
@@ -64,21 +64,21 @@ returns-3 c =
       c.subtract2.ensures,
     )
 
-pub fetch-execute-spec : {M : Type 1} → statement M
-fetch-execute-spec =
+pub fetch_execute_spec : {M : Type 1} → statement M
+fetch_execute_spec =
     tie.close
     (tie.spec
-    fetch-data-requires
-    enum-known-got
+    fetch_data_requires
+    enum_known_got
     enum_told
-    fail-one-requires
+    fail_one_requires
     returns
-    fetch-requires
-    enum-known-got2
-    enum-told-2
-    fail-one-requires-2
-    returns-2
-    add-requires
-    subtract-requires
-    subtract-requires-2
-    returns-3)
+    fetch_requires
+    enum_known_got2
+    enum_told_2
+    fail_one_requires_2
+    returns_2
+    add_requires
+    subtract_requires
+    subtract_requires_2
+    returns_3)

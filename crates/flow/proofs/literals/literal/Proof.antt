@@ -6,37 +6,37 @@ use Rattle.instruction.specs.Taking as taking
 use Rattle.instruction.specs.Plain as plain
 use mathlib.Core.Path.{◌∙◌, sym, ap}
 
-literal-operand-requires : tie.Need-literal-operand-requires
-literal-operand-requires c κs = search rules
+literal_operand_requires : tie.Need-literal-operand-requires
+literal_operand_requires c κs = search rules
 
-enum-known-got : tie.Need-enum-known-got
-enum-known-got c = search rules
+enum_known_got : tie.Need-enum-known-got
+enum_known_got c = search rules
 
 enum_told : tie.Need-enum-told
 enum_told c = search rules
 
-fail-one-requires : tie.Need-fail-one-requires
-fail-one-requires c κs = (_, c.enum_told.given.1)
+fail_one_requires : tie.Need-fail-one-requires
+fail_one_requires c κs = (_, c.enum_told.given.1)
 
 returns : tie.Need-returns
-unfolding taking.takingOf
-returns c = simp (sym c.before.before.before.literal-operand.ensures ∙ c.before.enum_told.given.1) (c.fail-one.ensures ∙ ap plain.failed c.before.enum_told.given.1)
+unfolding taking.taking_of
+returns c = simp (sym c.before.before.before.literal_operand_lem.ensures ∙ c.before.enum_told.given.1) (c.fail-one.ensures ∙ ap plain.failed c.before.enum_told.given.1)
 
-push-requires : tie.Need-push-requires
-push-requires c κs = search rules
+push_requires : tie.Need-push-requires
+push_requires c κs = search rules
 
-returns-2 : tie.Need-returns-2
-unfolding taking.takingOf
-returns-2 c = simp (sym c.before.before.before.before.literal-operand.ensures ∙ c.before.before.got.given.1) c.push.ensures
+returns_2 : tie.Need-returns-2
+unfolding taking.taking_of
+returns_2 c = simp (sym c.before.before.before.before.literal_operand_lem.ensures ∙ c.before.before.got.given.1) c.push.ensures
 
-pub literal-spec : {M : Type 1} → statement M
-literal-spec =
+pub literal_spec : {M : Type 1} → statement M
+literal_spec =
     tie.close
     (tie.spec
-    literal-operand-requires
-    enum-known-got
+    literal_operand_requires
+    enum_known_got
     enum_told
-    fail-one-requires
+    fail_one_requires
     returns
-    push-requires
-    returns-2)
+    push_requires
+    returns_2)

@@ -4,14 +4,14 @@ use Rattle.instruction.proofs.shape.fail_three.Statement.{statement}
 use Rattle.instruction.proofs.shape.fail_three.Tie as tie
 use Rattle.instruction.proofs.ShapeLaws.{fails}
 use Rattle.machine.specs.declared.Access.TheVariants.{DataWrite}
-use Rattle.machine.specs.Effects.{cellStore}
+use Rattle.machine.specs.Effects.{cell_store}
 use mathlib.Core.List.{[], ◌∷◌}
 
-failure-requires : tie.Need-failure-requires
-failure-requires c κs = search rules
+failure_requires : tie.Need-failure-requires
+failure_requires c κs = search rules
 
 returns : tie.Need-returns
-returns c = rw c.failure.ensures (fails 0 0 (cellStore DataWrite 0 0 ∷ cellStore DataWrite 0 0 ∷ cellStore DataWrite 0 0 ∷ []) c.before.args.got)
+returns c = rw c.failure.ensures (fails 0 0 (cell_store DataWrite 0 0 ∷ cell_store DataWrite 0 0 ∷ cell_store DataWrite 0 0 ∷ []) c.before.args.got)
 
-pub fail-three-spec : {M : Type 1} → statement M
-fail-three-spec = tie.close (tie.spec failure-requires returns)
+pub fail_three_spec : {M : Type 1} → statement M
+fail_three_spec = tie.close (tie.spec failure_requires returns)

@@ -3,11 +3,11 @@ use borrow.Author.Rules.{rules}
 use Rattle.instruction.proofs.shape.reduce.Statement.{statement}
 use Rattle.instruction.proofs.shape.reduce.Tie as tie
 
-add-requires : tie.Need-add-requires
-add-requires c κs = search rules
+add_requires : tie.Need-add-requires
+add_requires c κs = search rules
 
 returns : tie.Need-returns
 returns c = rw c.add.ensures
 
-pub reduce-spec : {M : Type 1} → statement M
-reduce-spec = tie.close (tie.spec add-requires returns)
+pub reduce_spec : {M : Type 1} → statement M
+reduce_spec = tie.close (tie.spec add_requires returns)

@@ -3,11 +3,11 @@ use borrow.Author.Rules.{rules}
 use Rattle.instruction.proofs.shape.replace_both.Statement.{statement}
 use Rattle.instruction.proofs.shape.replace_both.Tie as tie
 
-add-requires : tie.Need-add-requires
-add-requires c κs = search rules
+add_requires : tie.Need-add-requires
+add_requires c κs = search rules
 
 returns : tie.Need-returns
 returns c = rw c.add.ensures
 
-pub replace-both-spec : {M : Type 1} → statement M
-replace-both-spec = tie.close (tie.spec add-requires returns)
+pub replace_both_spec : {M : Type 1} → statement M
+replace_both_spec = tie.close (tie.spec add_requires returns)

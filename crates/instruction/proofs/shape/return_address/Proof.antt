@@ -6,17 +6,17 @@ use Rattle.instruction.proofs.shape.return_address.Tie as tie
 enum_told : tie.Need-enum-told
 enum_told c = search rules
 
-add-requires : tie.Need-add-requires
-add-requires c κs = search rules
+add_requires : tie.Need-add-requires
+add_requires c κs = search rules
 
-enum-told-2 : tie.Need-enum-told-2
-enum-told-2 c = search rules
+enum_told_2 : tie.Need-enum-told-2
+enum_told_2 c = search rules
 
 returns : tie.Need-returns
 returns c = rw c.before.enum_told.given.1 c.add.ensures
 
-returns-2 : tie.Need-returns-2
-returns-2 c = search rules
+returns_2 : tie.Need-returns-2
+returns_2 c = search rules
 
-pub return-address-spec : {M : Type 1} → statement M
-return-address-spec = tie.close (tie.spec enum_told add-requires enum-told-2 returns returns-2)
+pub return_address_spec : {M : Type 1} → statement M
+return_address_spec = tie.close (tie.spec enum_told add_requires enum_told_2 returns returns_2)

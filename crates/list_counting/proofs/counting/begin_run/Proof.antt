@@ -4,14 +4,14 @@ use borrow.Author.Rules.{rules}
 use Rattle.list_counting.proofs.counting.begin_run.Statement.{statement}
 use Rattle.list_counting.proofs.counting.begin_run.Tie as tie
 
-cast-if1 : tie.Need-overflow-cast-if1
-cast-if1 c = search rules
+cast_if1 : tie.Need-overflow-cast-if1
+cast_if1 c = search rules
 
 returns : tie.Need-returns
 returns c = simp (lt-ltb _ _ c.if1.true)
 
-returns-2 : tie.Need-returns-2
-returns-2 c = simp (le-ltb _ _ c.if1.false)
+returns_2 : tie.Need-returns-2
+returns_2 c = simp (le-ltb _ _ c.if1.false)
 
-pub begin-run-spec : {M : Type 1} → statement M
-begin-run-spec = tie.close (tie.spec cast-if1 returns returns-2)
+pub begin_run_spec : {M : Type 1} → statement M
+begin_run_spec = tie.close (tie.spec cast_if1 returns returns_2)

@@ -10,11 +10,11 @@ opens-cell-requires c κs = search rules
 returns : tie.Need-returns
 returns c = rw (c.before.before.if1.true, sym c.before.opens_cell.ensures ∙ c.if2.true)
 
-returns-2 : tie.Need-returns-2
-returns-2 c = rw (c.before.before.if1.true, sym c.before.opens_cell.ensures ∙ c.if2.false)
+returns_2 : tie.Need-returns-2
+returns_2 c = rw (c.before.before.if1.true, sym c.before.opens_cell.ensures ∙ c.if2.false)
 
-returns-3 : tie.Need-returns-3
-returns-3 c = search rules
+returns_3 : tie.Need-returns-3
+returns_3 c = search rules
 
-pub cycles-at-spec : {M : Type 1} → statement M
-cycles-at-spec = tie.close (tie.spec opens-cell-requires returns returns-2 returns-3)
+pub cycles_at_spec : {M : Type 1} → statement M
+cycles_at_spec = tie.close (tie.spec opens-cell-requires returns returns_2 returns_3)

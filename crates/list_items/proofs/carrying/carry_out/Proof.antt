@@ -1,28 +1,28 @@
 -- `carry_out` meets its contract: the item is found, judged and carried out as the list machine's is.
 use mathlib.Core.Path.{ap, ◌∙◌}
 use native.Mathlib.Omega.{arith}
-use Rattle.list_tables.proofs.TableLaws.{in_rows, is-near, image-near, next-near}
+use Rattle.list_tables.proofs.TableLaws.{in_rows, is_near, image_near, next_near}
 use Rattle.list_counting.specs.Outcomes.{leaves}
-use Rattle.list_items.proofs.CarryLaws.{carry-is}
+use Rattle.list_items.proofs.CarryLaws.{carry_is}
 use borrow.Author.Rules.{rules}
 use Rattle.list_items.proofs.carrying.carry_out.Statement.{statement}
 use Rattle.list_items.proofs.carrying.carry_out.Tie as tie
 
-shape-of-requires : tie.Need-shape-of-requires
-shape-of-requires c κs = search rules
+shape_of_requires : tie.Need-shape-of-requires
+shape_of_requires c κs = search rules
 
-intent-of-requires : tie.Need-intent-of-requires
-intent-of-requires c κs =
+intent_of_requires : tie.Need-intent-of-requires
+intent_of_requires c κs =
     let args = c.before.before.before.before.before.before.before.before.args in let pre =
     c.before.before.before.before.before.before.before.before.requires in (
       omega (arith, pre.0.0.least),
       (
         c.before.shape_of.ensures.fits,
         (
-          is-near
+          is_near
               args.kinds.now args.operands.now args.table.now args.image pre.1.0,
           (
-            image-near args.kinds.now args.operands.now
+            image_near args.kinds.now args.operands.now
                 args.table.now args.image pre.1.0,
             (in_rows args.kinds.now args.operands.now args.table.now args.image pre.1.0
                 args.s.item.0 pre.1.1).0,
@@ -31,18 +31,18 @@ intent-of-requires c κs =
       ),
     )
 
-registers-at-requires : tie.Need-registers-at-requires
-registers-at-requires c κs =
+registers_at_requires : tie.Need-registers-at-requires
+registers_at_requires c κs =
     let args = c.before.before.before.before.before.before.before.before.before.args in let pre =
     c.before.before.before.before.before.before.before.before.before.requires in (
       in_rows args.kinds.now args.operands.now args.table.now
           args.image pre.1.0 args.s.item.0 pre.1.1,
-      next-near args.kinds.now args.operands.now args.table.now args.image pre.1.0
+      next_near args.kinds.now args.operands.now args.table.now args.image pre.1.0
           args.s.item.0 pre.1.1,
     )
 
-perform-requires : tie.Need-perform-requires
-perform-requires c κs =
+perform_requires : tie.Need-perform-requires
+perform_requires c κs =
     let args = c.before.before.before.before.before.before.before.before.before.before.before.args in let pre =
     c.before.before.before.before.before.before.before.before.before.before.before.requires in (
       pre.0.1,
@@ -59,20 +59,20 @@ returns : tie.Need-returns
 returns c =
     let args = c.before.before.before.before.before.before.before.before.before.before.before.before.before.before.args in let pre =
     c.before.before.before.before.before.before.before.before.before.before.before.before.before.before.requires in
-    c.before.before.perform.ensures ∙ ap (leaves args.memory.now) (carry-is args.kinds.now args.operands.now args.table.now args.image
+    c.before.before.perform.ensures ∙ ap (leaves args.memory.now) (carry_is args.kinds.now args.operands.now args.table.now args.image
     pre.1.0 args.machine args.memory.now args.s pre.1.1 pre.0.0
     c.before.before.before.before.before.before.before.shape_of.result
     c.before.before.before.before.before.before.before.shape_of.ensures.effect c.before.before.before.before.before.intent-of.result
     c.before.before.before.before.before.intent-of.ensures c.before.before.before.before.registers-at.result
     c.before.before.before.before.registers-at.ensures)
 
-pub carry-out-spec : {M : Type 1} → statement M
-carry-out-spec =
+pub carry_out_spec : {M : Type 1} → statement M
+carry_out_spec =
     tie.close
     (tie.spec
-    shape-of-requires
-    intent-of-requires
-    registers-at-requires
-    perform-requires
+    shape_of_requires
+    intent_of_requires
+    registers_at_requires
+    perform_requires
     same_length
     returns)

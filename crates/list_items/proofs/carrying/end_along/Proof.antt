@@ -3,26 +3,26 @@ use borrow.Author.Rules.{rules}
 use Rattle.list_items.proofs.carrying.end_along.Statement.{statement}
 use Rattle.list_items.proofs.carrying.end_along.Tie as tie
 
-enum-known-way : tie.Need-enum-known-way
-enum-known-way c = search rules
+enum_known_way : tie.Need-enum-known-way
+enum_known_way c = search rules
 
-end-requires : tie.Need-end-requires
-end-requires c κs = search rules
+end_requires : tie.Need-end-requires
+end_requires c κs = search rules
 
-arrive-requires : tie.Need-arrive-requires
-arrive-requires c κs = search rules
+arrive_requires : tie.Need-arrive-requires
+arrive_requires c κs = search rules
 
-enum-known-way-2 : tie.Need-enum-known-way-2
-enum-known-way-2 c = search rules
+enum_known_way_2 : tie.Need-enum-known-way-2
+enum_known_way_2 c = search rules
 
-end-requires-2 : tie.Need-end-requires-2
-end-requires-2 c κs = search rules
+end_requires_2 : tie.Need-end-requires-2
+end_requires_2 c κs = search rules
 
-arrive-requires-2 : tie.Need-arrive-requires-2
-arrive-requires-2 c κs = search rules
+arrive_requires_2 : tie.Need-arrive-requires-2
+arrive_requires_2 c κs = search rules
 
-enum-known-way-3 : tie.Need-enum-known-way-3
-enum-known-way-3 c = search rules
+enum_known_way_3 : tie.Need-enum-known-way-3
+enum_known_way_3 c = search rules
 
 same_length : tie.Need-same-length
 same_length c = search rules
@@ -30,28 +30,28 @@ same_length c = search rules
 returns : tie.Need-returns
 returns c = rw (c.before.before.before.before.before.before.before.way.given.1, ← c.before.before.before.before.end.ensures, c.arrive.ensures)
 
-same-length-2 : tie.Need-same-length-2
-same-length-2 c = search rules
+same_length_2 : tie.Need-same-length-2
+same_length_2 c = search rules
 
-returns-2 : tie.Need-returns-2
-returns-2 c = rw (c.before.before.before.before.before.before.before.before.way2.given.1, ← c.before.before.before.before.before.end2.ensures, c.arrive2.ensures)
+returns_2 : tie.Need-returns-2
+returns_2 c = rw (c.before.before.before.before.before.before.before.before.way2.given.1, ← c.before.before.before.before.before.end2.ensures, c.arrive2.ensures)
 
-returns-3 : tie.Need-returns-3
-returns-3 c = rw c.before.way3.given.1
+returns_3 : tie.Need-returns-3
+returns_3 c = rw c.before.way3.given.1
 
-pub end-along-spec : {M : Type 1} → statement M
-end-along-spec =
+pub end_along_spec : {M : Type 1} → statement M
+end_along_spec =
     tie.close
     (tie.spec
-    enum-known-way
-    end-requires
-    arrive-requires
-    enum-known-way-2
-    end-requires-2
-    arrive-requires-2
-    enum-known-way-3
+    enum_known_way
+    end_requires
+    arrive_requires
+    enum_known_way_2
+    end_requires_2
+    arrive_requires_2
+    enum_known_way_3
     same_length
     returns
-    same-length-2
-    returns-2
-    returns-3)
+    same_length_2
+    returns_2
+    returns_3)

@@ -5,54 +5,54 @@ use Prim.{tt}
 use native.Mathlib.Omega.{arith}
 use lib.ListN.{length}
 use Rattle.pack_layout.specs.Listing.{listed}
-use Rattle.list_tables.specs.Tables.{opensIn}
-use Rattle.list_tables.proofs.TableLaws.{in_rows, few-items}
-use Rattle.list_items.proofs.RunLaws.{Going, begun-there, from-there, run_past, run-begins, run_ends, run-stops, run-goes-on, cycles-is, few-cycles}
+use Rattle.list_tables.specs.Tables.{opens_in}
+use Rattle.list_tables.proofs.TableLaws.{in_rows, few_items}
+use Rattle.list_items.proofs.RunLaws.{Going, begun_there, from_there, run_past, run_begins, run_ends, run_stops, run_goes_on, cycles_is, few_cycles}
 use Rattle.list_items.proofs.running.run_items.Statement.{statement}
 use Rattle.list_items.proofs.running.run_items.Tie as tie
 
-abbrev invariant-loop : tie.invariant-loop
-invariant-loop machine memory₀ kinds operands table image items ran₀ rest₀ memory ran rest = Going machine image.base.0 (listed kinds operands) memory₀ ran₀.stand items memory ran rest
+abbrev invariant_loop : tie.invariant_loop
+invariant_loop machine memory₀ kinds operands table image items ran₀ rest₀ memory ran rest = Going machine image.base.0 (listed kinds operands) memory₀ ran₀.stand items memory ran rest
 
-abbrev decreases-loop : tie.decreases-loop
-decreases-loop machine memory₀ kinds operands table image items ran₀ rest₀ memory ran rest = rest
+abbrev decreases_loop : tie.decreases_loop
+decreases_loop machine memory₀ kinds operands table image items ran₀ rest₀ memory ran rest = rest
 
-begin-run-requires : tie.Need-begin-run-requires invariant-loop decreases-loop
-begin-run-requires c κs =
-    let args = c.before.before.before.before.args in let pre = c.before.before.before.before.requires in (few-items args.kinds.now args.operands.now
+begin_run_requires : tie.Need-begin-run-requires invariant_loop decreases_loop
+begin_run_requires c κs =
+    let args = c.before.before.before.before.args in let pre = c.before.before.before.before.requires in (few_items args.kinds.now args.operands.now
     args.table.now args.image pre.1).1
 
-is-over-requires : tie.Need-is-over-requires invariant-loop decreases-loop
-is-over-requires c κs = tt
+is_over_requires : tie.Need-is-over-requires invariant_loop decreases_loop
+is_over_requires c κs = tt
 
-returns : tie.Need-returns invariant-loop decreases-loop
+returns : tie.Need-returns invariant_loop decreases_loop
 returns c =
     let args = c.before.before.before.before.before.before.before.args in let pre = c.before.before.before.before.before.before.before.requires in
     run_past args.machine args.image.base.0 (listed args.kinds.now args.operands.now) args.memory.now args.start args.items
-    c.before.before.begin-run.result c.before.before.begin-run.ensures (sym c.before.is-over.ensures ∙ c.if1.true)
+    c.before.before.begin-run.result c.before.before.begin-run.ensures (sym c.before.is_over_lem.ensures ∙ c.if1.true)
 
-loop-holds : tie.Need-loop-init invariant-loop decreases-loop
-loop-holds c =
+loop_holds : tie.Need-loop-init invariant_loop decreases_loop
+loop_holds c =
     let args = c.before.before.before.before.before.before.before.args in let pre = c.before.before.before.before.before.before.before.requires in
-    run-begins args.machine args.image.base.0 (listed args.kinds.now args.operands.now) args.memory.now
-    c.before.before.begin-run.result.stand args.items c.before.before.begin-run.result (begun-there args.machine args.image.base.0
+    run_begins args.machine args.image.base.0 (listed args.kinds.now args.operands.now) args.memory.now
+    c.before.before.begin-run.result.stand args.items c.before.before.begin-run.result (begun_there args.machine args.image.base.0
     (listed args.kinds.now args.operands.now) args.memory.now args.start args.items (length args.kinds.now)
-    c.before.before.begin-run.result c.before.before.begin-run.ensures) (sym c.before.is-over.ensures ∙ c.if1.false)
+    c.before.before.begin-run.result c.before.before.begin-run.ensures) (sym c.before.is_over_lem.ensures ∙ c.if1.false)
 
-cycles-at-requires : tie.Need-cycles-at-requires invariant-loop decreases-loop
-cycles-at-requires c κs =
+cycles_at_requires : tie.Need-cycles-at-requires invariant_loop decreases_loop
+cycles_at_requires c κs =
     let args = c.before.before.before.before.before.before.before.before.before.before.args in let pre =
     c.before.before.before.before.before.before.before.before.before.before.requires in let loop = c.before.before.loop in in_rows args.kinds.now
     args.operands.now args.table.now args.image pre.1 loop.ran.stand.item.0 loop.invariant.item
 
-carry-out-requires : tie.Need-carry-out-requires invariant-loop decreases-loop
-carry-out-requires c κs =
+carry_out_requires : tie.Need-carry-out-requires invariant_loop decreases_loop
+carry_out_requires c κs =
     let args = c.before.before.before.before.before.before.before.before.before.before.before.before.args in let pre =
     c.before.before.before.before.before.before.before.before.before.before.before.before.requires in let loop = c.before.before.before.before.loop
     in (rw loop.inv.long pre.0, (pre.1, loop.inv.item))
 
-count-item-requires : tie.Need-count-item-requires invariant-loop decreases-loop
-count-item-requires c κs =
+count_item_requires : tie.Need-count-item-requires invariant_loop decreases_loop
+count_item_requires c κs =
     let args = c.before.before.before.before.before.before.before.before.before.before.before.before.before.before.before.args in let pre =
     c.before.before.before.before.before.before.before.before.before.before.before.before.before.before.before.requires in let loop =
     c.before.before.before.before.before.before.before.loop in let w =
@@ -60,89 +60,89 @@ count-item-requires c κs =
     let f = loop.inv.few in let h = c.before.before.before.before.before.before.loop-test.true in (
       omega arith,
       omega arith,
-      few-cycles
-          (loop.ran.stand.ran && opensIn args.table.now loop.ran.stand.item.0) _ c.before.before.before.before.cycles-at.ensures,
+      few_cycles
+          (loop.ran.stand.ran && opens_in args.table.now loop.ran.stand.item.0) _ c.before.before.before.before.cycles-at.ensures,
     )
 
-is-over-requires-2 : tie.Need-is-over-requires-2 invariant-loop decreases-loop
-is-over-requires-2 c κs = tt
+is_over_requires_2 : tie.Need-is-over-requires-2 invariant_loop decreases_loop
+is_over_requires_2 c κs = tt
 
-same_length : tie.Need-same-length invariant-loop decreases-loop
+same_length : tie.Need-same-length invariant_loop decreases_loop
 same_length c = c.before.before.before.before.before.carry-out.auto.1.0 ∙ c.before.before.before.before.before.before.before.before.before.before.loop.invariant.long
 
-returns-2 : tie.Need-returns-2 invariant-loop decreases-loop
-returns-2 c =
+returns_2 : tie.Need-returns-2 invariant_loop decreases_loop
+returns_2 c =
     let args =
     c.before.before.before.before.before.before.before.before.before.before.before.before.before.before.before.before.before.before.args in
     let pre =
     c.before.before.before.before.before.before.before.before.before.before.before.before.before.before.before.before.before.before.requires in
-    let loop = c.before.before.before.before.before.before.before.before.before.before.loop in run-stops args.machine args.image.base.0
+    let loop = c.before.before.before.before.before.before.before.before.before.before.loop in run_stops args.machine args.image.base.0
     (listed args.kinds.now args.operands.now) args.memory.now
     c.before.before.before.before.before.before.before.before.before.before.before.before.before.begin-run.result.stand args.items
     loop.memory loop.ran loop.rest loop.invariant c.before.before.before.before.before.before.before.before.before.loop-test.true _
     c.before.before.before.before.before.before.before.cycles-at.result c.before.before.before.before.before.carry-out.result
-    c.before.before.count-item.result (cycles-is args.kinds.now args.operands.now args.table.now args.image pre.1 args.machine
+    c.before.before.count-item.result (cycles_is args.kinds.now args.operands.now args.table.now args.image pre.1 args.machine
     loop.memory loop.ran.stand loop.invariant.item c.before.before.before.before.before.before.before.cycles-at.result
     c.before.before.before.before.before.before.before.cycles-at.ensures) c.before.before.before.before.before.carry-out.ensures
-    c.before.before.count-item.ensures (sym c.before.is-over2.ensures ∙ c.if2.true) ∙ from-there args.machine args.image.base.0 (listed
+    c.before.before.count-item.ensures (sym c.before.is-over2.ensures ∙ c.if2.true) ∙ from_there args.machine args.image.base.0 (listed
     args.kinds.now args.operands.now) args.memory.now args.start args.items
     c.before.before.before.before.before.before.before.before.before.before.before.before.before.begin-run.result
     c.before.before.before.before.before.before.before.before.before.before.before.before.before.begin-run.ensures
 
-sub-rest : tie.Need-overflow-sub-rest invariant-loop decreases-loop
-sub-rest c = omega (arith, c.before.before.before.before.before.before.before.before.before.loop-test.true)
+sub_rest : tie.Need-overflow-sub-rest invariant_loop decreases_loop
+sub_rest c = omega (arith, c.before.before.before.before.before.before.before.before.before.loop-test.true)
 
-loop-less : tie.Need-loop-smaller invariant-loop decreases-loop
-loop-less c = omega (arith, c.before.before.before.before.before.before.before.before.before.loop-test.true)
+loop_less : tie.Need-loop-smaller invariant_loop decreases_loop
+loop_less c = omega (arith, c.before.before.before.before.before.before.before.before.before.loop-test.true)
 
-loop-again : tie.Need-loop-preserved invariant-loop decreases-loop
-loop-again c =
+loop_again : tie.Need-loop-preserved invariant_loop decreases_loop
+loop_again c =
     let args =
     c.before.before.before.before.before.before.before.before.before.before.before.before.before.before.before.before.before.before.args in
     let pre =
     c.before.before.before.before.before.before.before.before.before.before.before.before.before.before.before.before.before.before.requires in
-    let loop = c.before.before.before.before.before.before.before.before.before.before.loop in run-goes-on args.machine args.image.base.0
+    let loop = c.before.before.before.before.before.before.before.before.before.before.loop in run_goes_on args.machine args.image.base.0
     (listed args.kinds.now args.operands.now) args.memory.now
     c.before.before.before.before.before.before.before.before.before.before.before.before.before.begin-run.result.stand args.items
     loop.memory loop.ran loop.rest loop.invariant c.before.before.before.before.before.before.before.before.before.loop-test.true _
     c.before.before.before.before.before.before.before.cycles-at.result c.before.before.before.before.before.carry-out.result
-    c.before.before.count-item.result (cycles-is args.kinds.now args.operands.now args.table.now args.image pre.1 args.machine
+    c.before.before.count-item.result (cycles_is args.kinds.now args.operands.now args.table.now args.image pre.1 args.machine
     loop.memory loop.ran.stand loop.invariant.item c.before.before.before.before.before.before.before.cycles-at.result
     c.before.before.before.before.before.before.before.cycles-at.ensures) c.before.before.before.before.before.carry-out.ensures
-    c.before.before.count-item.ensures c.before.before.before.before.before.carry-out.auto.1.0 (few-cycles (loop.ran.stand.ran && opensIn
+    c.before.before.count-item.ensures c.before.before.before.before.before.carry-out.auto.1.0 (few_cycles (loop.ran.stand.ran && opens_in
     args.table.now loop.ran.stand.item.0) _ c.before.before.before.before.before.before.before.cycles-at.ensures) (sym
     c.before.is-over2.ensures ∙ c.if2.false)
 
-same-length-2 : tie.Need-same-length-2 invariant-loop decreases-loop
-same-length-2 c = c.before.loop.invariant.long
+same_length_2 : tie.Need-same-length-2 invariant_loop decreases_loop
+same_length_2 c = c.before.loop.invariant.long
 
-returns-3 : tie.Need-returns-3 invariant-loop decreases-loop
-returns-3 c =
+returns_3 : tie.Need-returns-3 invariant_loop decreases_loop
+returns_3 c =
     let args = c.before.before.before.before.before.before.before.before.before.args in let pre =
     c.before.before.before.before.before.before.before.before.before.requires in let loop = c.before.loop in run_ends args.machine
     args.image.base.0 (listed args.kinds.now args.operands.now) args.memory.now c.before.before.before.before.begin-run.result.stand
-    args.items loop.memory loop.ran loop.rest loop.invariant c.loop-test.false ∙ from-there args.machine args.image.base.0 (listed
+    args.items loop.memory loop.ran loop.rest loop.invariant c.loop-test.false ∙ from_there args.machine args.image.base.0 (listed
     args.kinds.now args.operands.now) args.memory.now args.start args.items c.before.before.before.before.begin-run.result
     c.before.before.before.before.begin-run.ensures
 
-pub run-items-spec : {M : Type 1} → statement M
-run-items-spec =
+pub run_items_spec : {M : Type 1} → statement M
+run_items_spec =
     tie.close
     (tie.spec
-    invariant-loop
-    decreases-loop
-    begin-run-requires
-    is-over-requires
+    invariant_loop
+    decreases_loop
+    begin_run_requires
+    is_over_requires
     returns
-    loop-holds
-    cycles-at-requires
-    carry-out-requires
-    count-item-requires
-    is-over-requires-2
+    loop_holds
+    cycles_at_requires
+    carry_out_requires
+    count_item_requires
+    is_over_requires_2
     same_length
-    returns-2
-    sub-rest
-    loop-less
-    loop-again
-    same-length-2
-    returns-3)
+    returns_2
+    sub_rest
+    loop_less
+    loop_again
+    same_length_2
+    returns_3)

@@ -6,14 +6,14 @@ use borrow.Author.Rules.{rules}
 use Rattle.list_judging.proofs.finding.is_placed.Statement.{statement}
 use Rattle.list_judging.proofs.finding.is_placed.Tie as tie
 
-is-entry-requires : tie.Need-is-entry-requires
-is-entry-requires c κs = search rules
+is_entry_requires : tie.Need-is-entry-requires
+is_entry_requires c κs = search rules
 
-place-of-requires : tie.Need-place-of-requires
-place-of-requires c κs = search rules
+place_of_requires : tie.Need-place-of-requires
+place_of_requires c κs = search rules
 
-address-at-requires : tie.Need-address-at-requires
-address-at-requires c κs =
+address_at_requires : tie.Need-address-at-requires
+address_at_requires c κs =
     let p = c.before.before.before.before.requires in let q = ap (λ (x : CellCount). x.0) c.place_of.ensures in omega (
       arith,
       q,
@@ -29,9 +29,9 @@ returns c =
       c.before.before.before.place_of.ensures,
     )
 
-returns-2 : tie.Need-returns-2
-returns-2 c = rw (sym c.before.is-entry.ensures ∙ c.if1.false)
+returns_2 : tie.Need-returns-2
+returns_2 c = rw (sym c.before.is-entry.ensures ∙ c.if1.false)
 
-pub is-placed-spec : {M : Type 1} → statement M
-is-placed-spec =
-    tie.close (tie.spec is-entry-requires place-of-requires address-at-requires returns returns-2)
+pub is_placed_spec : {M : Type 1} → statement M
+is_placed_spec =
+    tie.close (tie.spec is_entry_requires place_of_requires address_at_requires returns returns_2)

@@ -6,18 +6,18 @@ use borrow.Author.Rules.{rules}
 use Rattle.list_proposing.proofs.proposing.registers_at.Statement.{statement}
 use Rattle.list_proposing.proofs.proposing.registers_at.Tie as tie
 
-next-of-requires : tie.Need-next-of-requires
-next-of-requires c κs = search rules
+next_of_requires : tie.Need-next-of-requires
+next_of_requires c κs = search rules
 
-address-at-requires : tie.Need-address-at-requires
-address-at-requires c κs = let q = ap (λ (x : CellCount). x.0) c.next_of.ensures in omega (arith, q, c.before.before.before.requires.1)
+address_at_requires : tie.Need-address-at-requires
+address_at_requires c κs = let q = ap (λ (x : CellCount). x.0) c.next_of.ensures in omega (arith, q, c.before.before.before.requires.1)
 
-registers-for-requires : tie.Need-registers-for-requires
-registers-for-requires c κs = search rules
+registers_for_requires : tie.Need-registers-for-requires
+registers_for_requires c κs = search rules
 
 returns : tie.Need-returns
 returns c = rw (c.registers-for.ensures, c.before.address-at.ensures, c.before.before.next_of.ensures)
 
-pub registers-at-spec : {M : Type 1} → statement M
-registers-at-spec =
-    tie.close (tie.spec next-of-requires address-at-requires registers-for-requires returns)
+pub registers_at_spec : {M : Type 1} → statement M
+registers_at_spec =
+    tie.close (tie.spec next_of_requires address_at_requires registers_for_requires returns)

@@ -3,17 +3,17 @@ use borrow.Author.Rules.{rules}
 use Rattle.list_shapes.proofs.judging.check_shape.Statement.{statement}
 use Rattle.list_shapes.proofs.judging.check_shape.Tie as tie
 
-then-of-requires : tie.Need-then-of-requires
-then-of-requires c κs = search rules
+then_of_requires : tie.Need-then-of-requires
+then_of_requires c κs = search rules
 
-fault-of-requires : tie.Need-fault-of-requires
-fault-of-requires c κs = search rules
+fault_of_requires : tie.Need-fault-of-requires
+fault_of_requires c κs = search rules
 
-check-places-requires : tie.Need-check-places-requires
-check-places-requires c κs = search rules
+check_places_requires : tie.Need-check-places-requires
+check_places_requires c κs = search rules
 
-first-bad-requires : tie.Need-first-bad-requires
-first-bad-requires c κs = search rules
+first_bad_requires : tie.Need-first-bad-requires
+first_bad_requires c κs = search rules
 
 returns : tie.Need-returns
 returns c =
@@ -24,7 +24,7 @@ returns c =
       c.before.before.before.then-of.ensures,
     )
 
-pub check-shape-spec : {M : Type 1} → statement M
-check-shape-spec =
+pub check_shape_spec : {M : Type 1} → statement M
+check_shape_spec =
     tie.close
-    (tie.spec then-of-requires fault-of-requires check-places-requires first-bad-requires returns)
+    (tie.spec then_of_requires fault_of_requires check_places_requires first_bad_requires returns)

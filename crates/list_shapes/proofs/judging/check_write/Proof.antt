@@ -6,12 +6,12 @@ use mathlib.Core.Path.{sym, ◌∙◌}
 use Rattle.machine.specs.Commits as commits
 use Rattle.machine.proofs.CommitLaws.{first_good}
 
-check-target-requires : tie.Need-check-target-requires
-check-target-requires c κs = search rules
+check_target_requires : tie.Need-check-target-requires
+check_target_requires c κs = search rules
 
 returns : tie.Need-returns
 unfolding commits.places_of
 returns c = c.check-target.ensures ∙ sym (first_good _)
 
-pub check-write-spec : {M : Type 1} → statement M
-check-write-spec = tie.close (tie.spec check-target-requires returns)
+pub check_write_spec : {M : Type 1} → statement M
+check_write_spec = tie.close (tie.spec check_target_requires returns)

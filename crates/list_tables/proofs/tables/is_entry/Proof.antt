@@ -3,11 +3,11 @@ use borrow.Author.Rules.{rules}
 use Rattle.list_tables.proofs.tables.is_entry.Statement.{statement}
 use Rattle.list_tables.proofs.tables.is_entry.Tie as tie
 
-flags-of-requires : tie.Need-flags-of-requires
-flags-of-requires c κs = search rules
+flags_of_requires : tie.Need-flags-of-requires
+flags_of_requires c κs = search rules
 
 returns : tie.Need-returns
 returns c = rw c.flags_of.ensures
 
-pub is-entry-spec : {M : Type 1} → statement M
-is-entry-spec = tie.close (tie.spec flags-of-requires returns)
+pub is_entry_spec : {M : Type 1} → statement M
+is_entry_spec = tie.close (tie.spec flags_of_requires returns)

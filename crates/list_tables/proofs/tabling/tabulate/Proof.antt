@@ -8,23 +8,23 @@ use lib.ListN.{length, get_or}
 use Rattle.cell.specs.declared.CellCount.{CellCount}
 use Rattle.pack_layout.specs.declared.Class.{Class}
 use Rattle.pack_layout.specs.Listing.{listed}
-use Rattle.pack_layout.specs.Packing.{formOf}
+use Rattle.pack_layout.specs.Packing.{form_of}
 use Rattle.pack_layout.proofs.Listing.{some_item}
 use Rattle.list_tables.specs.Tables.{Rows}
-use Rattle.list_tables.proofs.TableLaws.{left-low, behind-low, all-rows, next_row}
+use Rattle.list_tables.proofs.TableLaws.{left_low, behind_low, all_rows, next_row}
 use Rattle.list_tables.proofs.tabling.tabulate.Statement.{statement}
 use Rattle.list_tables.proofs.tabling.tabulate.Tie as tie
 
-abbrev invariant-loop : tie.invariant-loop
-invariant-loop kinds operands entries marks ats nexts lefts table₀ n i₀ table i = (i ≤ length kinds) × (length table ≡ 4 * length kinds) × Rows (listed kinds operands) table i
+abbrev invariant_loop : tie.invariant_loop
+invariant_loop kinds operands entries marks ats nexts lefts table₀ n i₀ table i = (i ≤ length kinds) × (length table ≡ 4 * length kinds) × Rows (listed kinds operands) table i
 
-abbrev decreases-loop : tie.decreases-loop
-decreases-loop kinds operands entries marks ats nexts lefts table₀ n i₀ table i = length kinds - i
+abbrev decreases_loop : tie.decreases_loop
+decreases_loop kinds operands entries marks ats nexts lefts table₀ n i₀ table i = length kinds - i
 
-loop-holds : tie.Need-loop-init invariant-loop decreases-loop
-loop-holds c = (omega arith, c.before.before.before.before.before.before.before.before.requires.1.1.1.0, λ j h. absurd (omega arith))
+loop_holds : tie.Need-loop-init invariant_loop decreases_loop
+loop_holds c = (omega arith, c.before.before.before.before.before.before.before.before.requires.1.1.1.0, λ j h. absurd (omega arith))
 
-mul_left : tie.Need-overflow-mul-left invariant-loop decreases-loop
+mul_left : tie.Need-overflow-mul-left invariant_loop decreases_loop
 mul_left c =
     omega (
       arith,
@@ -34,25 +34,25 @@ mul_left c =
           c.before.before.before.before.before.before.before.before.before.before.requires.0.input).1,
     )
 
-shared-slice-read-left : tie.Need-shared-slice-read-left invariant-loop decreases-loop
-shared-slice-read-left c = omega (arith, c.before.loop-test.true, c.before.before.before.before.before.before.before.before.before.before.before.requires.1.1.0.2)
+shared_slice_read_left : tie.Need-shared-slice-read-left invariant_loop decreases_loop
+shared_slice_read_left c = omega (arith, c.before.loop-test.true, c.before.before.before.before.before.before.before.before.before.before.before.requires.1.1.0.2)
 
-shared-slice-read-class-of : tie.Need-shared-slice-read-class-of invariant-loop decreases-loop
-shared-slice-read-class-of c = c.before.before.loop-test.true
+shared_slice_read_class_of : tie.Need-shared-slice-read-class-of invariant_loop decreases_loop
+shared_slice_read_class_of c = c.before.before.loop-test.true
 
-class-of-requires : tie.Need-class-of-requires invariant-loop decreases-loop
-class-of-requires c κs = tt
+class_of_requires : tie.Need-class-of-requires invariant_loop decreases_loop
+class_of_requires c κs = tt
 
-shared-slice-read-form-of : tie.Need-shared-slice-read-form-of invariant-loop decreases-loop
-shared-slice-read-form-of c =
+shared_slice_read_form_of : tie.Need-shared-slice-read-form-of invariant_loop decreases_loop
+shared_slice_read_form_of c =
     omega (
       arith,
       c.before.before.before.before.loop-test.true,
       c.before.before.before.before.before.before.before.before.before.before.before.before.before.before.requires.1.0.1,
     )
 
-mul-form-of : tie.Need-overflow-mul-form-of invariant-loop decreases-loop
-mul-form-of c =
+mul_form_of : tie.Need-overflow-mul-form-of invariant_loop decreases_loop
+mul_form_of c =
     omega (
       arith,
       c.before.before.before.before.loop-test.true,
@@ -62,23 +62,23 @@ mul-form-of c =
           c.before.before.before.before.before.before.before.before.before.before.before.before.before.before.requires.0.input).1,
     )
 
-shared-slice-read-form-of-2 : tie.Need-shared-slice-read-form-of-2 invariant-loop decreases-loop
-shared-slice-read-form-of-2 c =
+shared_slice_read_form_of_2 : tie.Need-shared-slice-read-form-of-2 invariant_loop decreases_loop
+shared_slice_read_form_of_2 c =
     omega (
       arith,
       c.before.before.before.before.before.loop-test.true,
       c.before.before.before.before.before.before.before.before.before.before.before.before.before.before.before.requires.0.equal,
     )
 
-form-of-requires : tie.Need-form-of-requires invariant-loop decreases-loop
-form-of-requires c κs =
+form_of_requires : tie.Need-form-of-requires invariant_loop decreases_loop
+form_of_requires c κs =
     let args = c.before.before.before.before.before.before.before.before.before.before.before.before.before.before.before.args in let pre =
-    c.before.before.before.before.before.before.before.before.before.before.before.before.before.before.before.requires in left-low
+    c.before.before.before.before.before.before.before.before.before.before.before.before.before.before.before.requires in left_low
     args.kinds.now args.operands.now args.entries.now args.marks.now args.ats.now args.nexts.now args.lefts.now pre.0
     pre.1.1.1.1.0 pre.1.1.1.1.1.0 pre.1.1.1.1.1.1 c.before.before.before.before.before.before.loop.i
     c.before.before.before.before.before.loop-test.true
 
-mul_next : tie.Need-overflow-mul-next invariant-loop decreases-loop
+mul_next : tie.Need-overflow-mul-next invariant_loop decreases_loop
 mul_next c =
     omega (
       arith,
@@ -89,52 +89,52 @@ mul_next c =
           c.before.before.before.before.before.before.before.before.before.before.before.before.before.before.before.before.requires.0.input).1,
     )
 
-shared-slice-read-next : tie.Need-shared-slice-read-next invariant-loop decreases-loop
-shared-slice-read-next c =
+shared_slice_read_next : tie.Need-shared-slice-read-next invariant_loop decreases_loop
+shared_slice_read_next c =
     omega (
       arith,
       c.before.before.before.before.before.before.before.loop-test.true,
       c.before.before.before.before.before.before.before.before.before.before.before.before.before.before.before.before.before.requires.1.1.0.1,
     )
 
-extra-of-requires : tie.Need-extra-of-requires invariant-loop decreases-loop
-extra-of-requires c κs = tt
+extra_of_requires : tie.Need-extra-of-requires invariant_loop decreases_loop
+extra_of_requires c κs = tt
 
-add-behind : tie.Need-overflow-add-behind invariant-loop decreases-loop
-add-behind c =
+add_behind : tie.Need-overflow-add-behind invariant_loop decreases_loop
+add_behind c =
     let args =
     c.before.before.before.before.before.before.before.before.before.before.before.before.before.before.before.before.before.before.before.args in
     let pre =
     c.before.before.before.before.before.before.before.before.before.before.before.before.before.before.before.before.before.before.before.requires in
     omega (
       arith,
-      behind-low args.kinds.now args.operands.now args.entries.now args.marks.now args.ats.now args.nexts.now
+      behind_low args.kinds.now args.operands.now args.entries.now args.marks.now args.ats.now args.nexts.now
           args.lefts.now pre.0 pre.1.1.1.1.0 pre.1.1.1.1.1.0 pre.1.1.1.1.1.1
           c.before.before.before.before.before.before.before.before.before.before.loop.i
           c.before.before.before.before.before.before.before.before.before.loop-test.true c.before.before.before.form_of.result
-          (c.before.before.before.form_of.ensures ∙ ap (λ (k : Class). formOf k (eqb (get_or args.marks.now
+          (c.before.before.before.form_of.ensures ∙ ap (λ (k : Class). form_of k (eqb (get_or args.marks.now
           c.before.before.before.before.before.before.before.before.before.before.loop.i 0) 1) (get_or args.operands.now
           c.before.before.before.before.before.before.before.before.before.before.loop.i 0) (get_or args.lefts.now
           c.before.before.before.before.before.before.before.before.before.before.loop.i 0)) c.before.before.before.before.before.before.class_of.ensures)
           c.before.extra-of.result.0 (ap (λ (x : CellCount). x.0) c.before.extra-of.ensures),
     )
 
-shared-slice-read-flags-for : tie.Need-shared-slice-read-flags-for invariant-loop decreases-loop
-shared-slice-read-flags-for c =
+shared_slice_read_flags_for : tie.Need-shared-slice-read-flags-for invariant_loop decreases_loop
+shared_slice_read_flags_for c =
     omega (
       arith,
       c.before.before.before.before.before.before.before.before.before.before.loop-test.true,
       c.before.before.before.before.before.before.before.before.before.before.before.before.before.before.before.before.before.before.before.before.requires.1.0.0,
     )
 
-is-short-requires : tie.Need-is-short-requires invariant-loop decreases-loop
-is-short-requires c κs = tt
+is_short_requires : tie.Need-is-short-requires invariant_loop decreases_loop
+is_short_requires c κs = tt
 
-flags-for-requires : tie.Need-flags-for-requires invariant-loop decreases-loop
-flags-for-requires c κs = tt
+flags_for_requires : tie.Need-flags-for-requires invariant_loop decreases_loop
+flags_for_requires c κs = tt
 
-cast-t20 : tie.Need-overflow-cast-t20 invariant-loop decreases-loop
-cast-t20 c =
+cast_t20 : tie.Need-overflow-cast-t20 invariant_loop decreases_loop
+cast_t20 c =
     omega (
       arith,
       c.before.before.before.before.before.before.before.before.before.before.before.before.before.loop-test.true,
@@ -144,8 +144,8 @@ cast-t20 c =
           c.before.before.before.before.before.before.before.before.before.before.before.before.before.before.before.before.before.before.before.before.before.before.before.requires.0.input).1,
     )
 
-mul-t18 : tie.Need-overflow-mul-t18 invariant-loop decreases-loop
-mul-t18 c =
+mul_t18 : tie.Need-overflow-mul-t18 invariant_loop decreases_loop
+mul_t18 c =
     omega (
       arith,
       c.before.before.before.before.before.before.before.before.before.before.before.before.before.loop-test.true,
@@ -155,16 +155,16 @@ mul-t18 c =
           c.before.before.before.before.before.before.before.before.before.before.before.before.before.before.before.before.before.before.before.before.before.before.before.requires.0.input).1,
     )
 
-shared-slice-read-t36 : tie.Need-shared-slice-read-t36 invariant-loop decreases-loop
-shared-slice-read-t36 c =
+shared_slice_read_t36 : tie.Need-shared-slice-read-t36 invariant_loop decreases_loop
+shared_slice_read_t36 c =
     omega (
       arith,
       c.before.before.before.before.before.before.before.before.before.before.before.before.before.before.loop-test.true,
       c.before.before.before.before.before.before.before.before.before.before.before.before.before.before.before.before.before.before.before.before.before.before.before.before.requires.1.1.0.0,
     )
 
-write-row-requires : tie.Need-write-row-requires invariant-loop decreases-loop
-write-row-requires c κs = (
+write_row_requires : tie.Need-write-row-requires invariant_loop decreases_loop
+write_row_requires c κs = (
   omega (
     arith,
     c.before.before.before.before.before.before.before.before.before.before.before.before.before.before.loop-test.true,
@@ -180,14 +180,14 @@ write-row-requires c κs = (
   ),
 )
 
-add-i : tie.Need-overflow-add-i invariant-loop decreases-loop
-add-i c = omega (arith, c.before.before.before.before.before.before.before.before.before.before.before.before.before.before.before.before.before.loop-test.true)
+add_i : tie.Need-overflow-add-i invariant_loop decreases_loop
+add_i c = omega (arith, c.before.before.before.before.before.before.before.before.before.before.before.before.before.before.before.before.before.loop-test.true)
 
-loop-less : tie.Need-loop-smaller invariant-loop decreases-loop
-loop-less c = omega (arith, c.before.before.before.before.before.before.before.before.before.before.before.before.before.before.before.before.before.loop-test.true)
+loop_less : tie.Need-loop-smaller invariant_loop decreases_loop
+loop_less c = omega (arith, c.before.before.before.before.before.before.before.before.before.before.before.before.before.before.before.before.before.loop-test.true)
 
-loop-again : tie.Need-loop-preserved invariant-loop decreases-loop
-loop-again c =
+loop_again : tie.Need-loop-preserved invariant_loop decreases_loop
+loop_again c =
     let args =
     c.before.before.before.before.before.before.before.before.before.before.before.before.before.before.before.before.before.before.before.before.before.before.before.before.before.before.before.args
     in let pre =
@@ -205,7 +205,7 @@ loop-again c =
           c.before.before.before.before.before.before.before.before.before.before.before.before.before.before.before.before.before.before.loop.i
           c.before.before.before.before.before.before.before.before.before.before.before.before.before.before.before.before.before.loop-test.true
           c.before.before.before.before.before.before.before.before.before.before.before.form_of.result
-          (c.before.before.before.before.before.before.before.before.before.before.before.form_of.ensures ∙ ap (λ (k : Class). formOf k (eqb (get_or
+          (c.before.before.before.before.before.before.before.before.before.before.before.form_of.ensures ∙ ap (λ (k : Class). form_of k (eqb (get_or
           args.marks.now
           c.before.before.before.before.before.before.before.before.before.before.before.before.before.before.before.before.before.before.loop.i 0) 1)
           (get_or args.operands.now
@@ -221,44 +221,44 @@ loop-again c =
           c.before.before.before.before.before.before.before.before.before.before.before.before.before.before.before.before.before.before.loop.invariant.2),
     )
 
-same_length : tie.Need-same-length invariant-loop decreases-loop
+same_length : tie.Need-same-length invariant_loop decreases_loop
 same_length c = c.before.loop.invariant.1 ∙ sym c.before.before.before.before.before.before.before.before.before.before.requires.1.1.1.0
 
-returns : tie.Need-returns invariant-loop decreases-loop
+returns : tie.Need-returns invariant_loop decreases_loop
 returns c =
-    all-rows (listed c.before.before.before.before.before.before.before.before.before.before.args.kinds.now
+    all_rows (listed c.before.before.before.before.before.before.before.before.before.before.args.kinds.now
     c.before.before.before.before.before.before.before.before.before.before.args.operands.now) c.before.loop.table c.before.loop.i
     (length c.before.before.before.before.before.before.before.before.before.before.args.kinds.now) c.loop-test.false
     c.before.loop.invariant.2
 
-pub tabulate-spec : {M : Type 1} → statement M
-tabulate-spec =
+pub tabulate_spec : {M : Type 1} → statement M
+tabulate_spec =
     tie.close
     (tie.spec
-    invariant-loop
-    decreases-loop
-    loop-holds
+    invariant_loop
+    decreases_loop
+    loop_holds
     mul_left
-    shared-slice-read-left
-    shared-slice-read-class-of
-    class-of-requires
-    shared-slice-read-form-of
-    mul-form-of
-    shared-slice-read-form-of-2
-    form-of-requires
+    shared_slice_read_left
+    shared_slice_read_class_of
+    class_of_requires
+    shared_slice_read_form_of
+    mul_form_of
+    shared_slice_read_form_of_2
+    form_of_requires
     mul_next
-    shared-slice-read-next
-    extra-of-requires
-    add-behind
-    shared-slice-read-flags-for
-    is-short-requires
-    flags-for-requires
-    cast-t20
-    mul-t18
-    shared-slice-read-t36
-    write-row-requires
-    add-i
-    loop-less
-    loop-again
+    shared_slice_read_next
+    extra_of_requires
+    add_behind
+    shared_slice_read_flags_for
+    is_short_requires
+    flags_for_requires
+    cast_t20
+    mul_t18
+    shared_slice_read_t36
+    write_row_requires
+    add_i
+    loop_less
+    loop_again
     same_length
     returns)

@@ -1,44 +1,44 @@
 use borrow.Author.Rules.{rules}
 use Rattle.machine.proofs.places.check_return_write.Statement.{statement}
 use Rattle.machine.proofs.places.check_return_write.Tie as tie
-use Rattle.machine.proofs.SpanLaws.{found, place-good, place-guarded, place-off, place-outside}
+use Rattle.machine.proofs.SpanLaws.{found, place_good, place_guarded, place_off, place_outside}
 use Rattle.machine.specs.declared.Access.TheVariants.{ReturnWrite}
-use Rattle.machine.specs.Places.{oneCell}
+use Rattle.machine.specs.Places.{one_cell}
 use mathlib.Core.Path.{sym, ◌∙◌}
 
-is-within-requires : tie.Need-is-within-requires
-is-within-requires c κs = search rules
+is_within_requires : tie.Need-is-within-requires
+is_within_requires c κs = search rules
 
-is-guarded-requires : tie.Need-is-guarded-requires
-is-guarded-requires c κs = search rules
+is_guarded_requires : tie.Need-is-guarded-requires
+is_guarded_requires c κs = search rules
 
 returns : tie.Need-returns
 returns c = let a = c.before.before.before.before.args in
     let f = found a.machine.returns a.length a.address.0 c.before.before.before.is_Within.result c.before.before.before.before.requires.returns.ends c.before.before.before.is_Within.ensures c.before.before.if1.true in
-    sym (place-guarded a.machine oneCell ReturnWrite a.length a.address.0 f.inside f.both (rw (sym c.before.is-guarded.ensures ∙ c.if2.true)))
+    sym (place_guarded a.machine one_cell ReturnWrite a.length a.address.0 f.inside f.both (rw (sym c.before.is-guarded.ensures ∙ c.if2.true)))
 
-returns-2 : tie.Need-returns-2
-returns-2 c = let a = c.before.before.before.before.args in
+returns_2 : tie.Need-returns-2
+returns_2 c = let a = c.before.before.before.before.args in
     let f = found a.machine.returns a.length a.address.0 c.before.before.before.is_Within.result c.before.before.before.before.requires.returns.ends c.before.before.before.is_Within.ensures c.before.before.if1.true in
-    sym (place-good a.machine oneCell ReturnWrite a.length a.address.0 f.inside f.both (rw (sym c.before.is-guarded.ensures ∙ c.if2.false)))
+    sym (place_good a.machine one_cell ReturnWrite a.length a.address.0 f.inside f.both (rw (sym c.before.is-guarded.ensures ∙ c.if2.false)))
 
-cast-if3 : tie.Need-overflow-cast-if3
-cast-if3 c = search rules
+cast_if3 : tie.Need-overflow-cast-if3
+cast_if3 c = search rules
 
-returns-3 : tie.Need-returns-3
-returns-3 c = let a = c.before.before.before.before.args in sym (place-off a.machine oneCell ReturnWrite a.length a.address.0 c.if3.true (sym c.before.before.before.is_Within.ensures ∙ c.before.before.if1.false))
+returns_3 : tie.Need-returns-3
+returns_3 c = let a = c.before.before.before.before.args in sym (place_off a.machine one_cell ReturnWrite a.length a.address.0 c.if3.true (sym c.before.before.before.is_Within.ensures ∙ c.before.before.if1.false))
 
-returns-4 : tie.Need-returns-4
-returns-4 c = let a = c.before.before.before.before.args in sym (place-outside a.machine oneCell ReturnWrite a.length a.address.0 c.if3.false)
+returns_4 : tie.Need-returns-4
+returns_4 c = let a = c.before.before.before.before.args in sym (place_outside a.machine one_cell ReturnWrite a.length a.address.0 c.if3.false)
 
-pub check-return-write-spec : {M : Type 1} → statement M
-check-return-write-spec =
+pub check_return_write_spec : {M : Type 1} → statement M
+check_return_write_spec =
     tie.close
     (tie.spec
-    is-within-requires
-    is-guarded-requires
+    is_within_requires
+    is_guarded_requires
     returns
-    returns-2
-    cast-if3
-    returns-3
-    returns-4)
+    returns_2
+    cast_if3
+    returns_3
+    returns_4)

@@ -8,8 +8,8 @@ use mathlib.Core.Path.{◌≡◌}
 returns : tie.Need-returns
 returns c = let a = c.before.before.before.before.before.args in let e : a.table.end.0 - a.table.first.0 ≡ 0 = omega (arith, c.if1.true) in rw e
 
-returns-2 : tie.Need-returns-2
-returns-2 c = search rules
+returns_2 : tie.Need-returns-2
+returns_2 c = search rules
 
-pub guard-spec : {M : Type 1} → statement M
-guard-spec = tie.close (tie.spec returns returns-2)
+pub guard_spec : {M : Type 1} → statement M
+guard_spec = tie.close (tie.spec returns returns_2)

@@ -1,26 +1,26 @@
 use borrow.Author.Rules.{rules}
 use Rattle.machine.proofs.places.is_within.Statement.{statement}
 use Rattle.machine.proofs.places.is_within.Tie as tie
-use Rattle.machine.proofs.SpanLaws.{rotated-within}
+use Rattle.machine.proofs.SpanLaws.{rotated_within}
 
-subtract-requires : tie.Need-subtract-requires
-subtract-requires c κs = search rules
+subtract_requires : tie.Need-subtract-requires
+subtract_requires c κs = search rules
 
-cast-distance : tie.Need-overflow-cast-distance
-cast-distance c = search rules
+cast_distance : tie.Need-overflow-cast-distance
+cast_distance c = search rules
 
-mul-result : tie.Need-overflow-mul-result
-mul-result c = search rules
+mul_result : tie.Need-overflow-mul-result
+mul_result c = search rules
 
-add-result : tie.Need-overflow-add-result
-add-result c = search rules
+add_result : tie.Need-overflow-add-result
+add_result c = search rules
 
-cast-result : tie.Need-overflow-cast-result
-cast-result c = search rules
+cast_result : tie.Need-overflow-cast-result
+cast_result c = search rules
 
 returns : tie.Need-returns
-returns c = let a = c.before.before.args in rw c.before.subtract.ensures (rotated-within a.last.0 a.cells.0 a.address.0 c.before.before.requires.0 c.before.before.requires.1 (search rules) (search rules))
+returns c = let a = c.before.before.args in rw c.before.subtract.ensures (rotated_within a.last.0 a.cells.0 a.address.0 c.before.before.requires.0 c.before.before.requires.1 (search rules) (search rules))
 
-pub is-within-spec : {M : Type 1} → statement M
-is-within-spec =
-    tie.close (tie.spec subtract-requires cast-distance mul-result add-result cast-result returns)
+pub is_within_spec : {M : Type 1} → statement M
+is_within_spec =
+    tie.close (tie.spec subtract_requires cast_distance mul_result add_result cast_result returns)

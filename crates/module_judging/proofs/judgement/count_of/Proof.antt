@@ -2,18 +2,18 @@ use borrow.Author.Rules.{rules}
 use Rattle.module_judging.proofs.judgement.count_of.Statement.{statement}
 use Rattle.module_judging.proofs.judgement.count_of.Tie as tie
 use mathlib.Core.Path.{ap}
-use Rattle.cell.specs.Memory.{cellCount}
+use Rattle.cell.specs.Memory.{cell_count}
 use Rattle.module_judging.specs.Format as format
 
-shared-slice-read-load-at : tie.Need-shared-slice-read-load-at
-shared-slice-read-load-at c = search rules
+shared_slice_read_load_at : tie.Need-shared-slice-read-load-at
+shared_slice_read_load_at c = search rules
 
-load-at-requires : tie.Need-load-at-requires
-load-at-requires c κs = search rules
+load_at_requires : tie.Need-load-at-requires
+load_at_requires c κs = search rules
 
 returns : tie.Need-returns
 unfolding format.count_of
-returns c = ap cellCount c.load_at.ensures
+returns c = ap cell_count c.load_at.ensures
 
-pub count-of-spec : {M : Type 1} → statement M
-count-of-spec = tie.close (tie.spec shared-slice-read-load-at load-at-requires returns)
+pub count_of_spec : {M : Type 1} → statement M
+count_of_spec = tie.close (tie.spec shared_slice_read_load_at load_at_requires returns)

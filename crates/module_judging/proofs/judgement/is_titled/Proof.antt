@@ -5,29 +5,29 @@ use mathlib.Core.Path.{sym}
 use mathlib.Core.Bool.{and-true}
 use borrow.Author.Tests.{eq-eqb, ne_eqb}
 
-shared-slice-read-if1 : tie.Need-shared-slice-read-if1
-shared-slice-read-if1 c = search rules
+shared_slice_read_if1 : tie.Need-shared-slice-read-if1
+shared_slice_read_if1 c = search rules
 
 returns : tie.Need-returns
 returns c = simp (ne_eqb _ _ c.if1.true)
 
-shared-slice-read-if2 : tie.Need-shared-slice-read-if2
-shared-slice-read-if2 c = search rules
+shared_slice_read_if2 : tie.Need-shared-slice-read-if2
+shared_slice_read_if2 c = search rules
 
-returns-2 : tie.Need-returns-2
-returns-2 c = simp (eq-eqb _ _ c.before.before.if1.false, ne_eqb _ _ c.if2.true)
+returns_2 : tie.Need-returns-2
+returns_2 c = simp (eq-eqb _ _ c.before.before.if1.false, ne_eqb _ _ c.if2.true)
 
-shared-slice-read-if3 : tie.Need-shared-slice-read-if3
-shared-slice-read-if3 c = search rules
+shared_slice_read_if3 : tie.Need-shared-slice-read-if3
+shared_slice_read_if3 c = search rules
 
-returns-3 : tie.Need-returns-3
-returns-3 c = simp (eq-eqb _ _ c.before.before.before.before.if1.false, eq-eqb _ _ c.before.before.if2.false, ne_eqb _ _ c.if3.true)
+returns_3 : tie.Need-returns-3
+returns_3 c = simp (eq-eqb _ _ c.before.before.before.before.if1.false, eq-eqb _ _ c.before.before.if2.false, ne_eqb _ _ c.if3.true)
 
-shared-slice-read-if4 : tie.Need-shared-slice-read-if4
-shared-slice-read-if4 c = search rules
+shared_slice_read_if4 : tie.Need-shared-slice-read-if4
+shared_slice_read_if4 c = search rules
 
-returns-4 : tie.Need-returns-4
-returns-4 c =
+returns_4 : tie.Need-returns-4
+returns_4 c =
     simp (
       eq-eqb _ _ c.before.before.before.before.before.before.if1.false,
       eq-eqb _ _ c.before.before.before.before.if2.false,
@@ -36,11 +36,11 @@ returns-4 c =
       ne_eqb _ _ c.if4.true,
     )
 
-shared-slice-read-if5 : tie.Need-shared-slice-read-if5
-shared-slice-read-if5 c = search rules
+shared_slice_read_if5 : tie.Need-shared-slice-read-if5
+shared_slice_read_if5 c = search rules
 
-returns-5 : tie.Need-returns-5
-returns-5 c =
+returns_5 : tie.Need-returns-5
+returns_5 c =
     simp (
       eq-eqb _ _ c.before.before.before.before.before.before.before.before.if1.false,
       eq-eqb _ _
@@ -51,11 +51,11 @@ returns-5 c =
       ne_eqb _ _ c.if5.true,
     )
 
-shared-slice-read-if6 : tie.Need-shared-slice-read-if6
-shared-slice-read-if6 c = search rules
+shared_slice_read_if6 : tie.Need-shared-slice-read-if6
+shared_slice_read_if6 c = search rules
 
-returns-6 : tie.Need-returns-6
-returns-6 c =
+returns_6 : tie.Need-returns-6
+returns_6 c =
     simp (
       eq-eqb _ _ c.before.before.before.before.before.before.before.before.before.before.if1.false,
       eq-eqb _ _
@@ -66,11 +66,11 @@ returns-6 c =
       ne_eqb _ _ c.if6.true,
     )
 
-shared-slice-read-result : tie.Need-shared-slice-read-result
-shared-slice-read-result c = search rules
+shared_slice_read_result : tie.Need-shared-slice-read-result
+shared_slice_read_result c = search rules
 
-returns-7 : tie.Need-returns-7
-returns-7 c =
+returns_7 : tie.Need-returns-7
+returns_7 c =
     rw (
       eq-eqb _ _ c.before.before.before.before.before.before.before.before.before.before.before.if1.false,
       eq-eqb _ _
@@ -83,21 +83,21 @@ returns-7 c =
       eq-eqb _ _ c.before.if6.false,
     ) (sym (and-true _))
 
-pub is-titled-spec : {M : Type 1} → statement M
-is-titled-spec =
+pub is_titled_spec : {M : Type 1} → statement M
+is_titled_spec =
     tie.close
     (tie.spec
-    shared-slice-read-if1
+    shared_slice_read_if1
     returns
-    shared-slice-read-if2
-    returns-2
-    shared-slice-read-if3
-    returns-3
-    shared-slice-read-if4
-    returns-4
-    shared-slice-read-if5
-    returns-5
-    shared-slice-read-if6
-    returns-6
-    shared-slice-read-result
-    returns-7)
+    shared_slice_read_if2
+    returns_2
+    shared_slice_read_if3
+    returns_3
+    shared_slice_read_if4
+    returns_4
+    shared_slice_read_if5
+    returns_5
+    shared_slice_read_if6
+    returns_6
+    shared_slice_read_result
+    returns_7)

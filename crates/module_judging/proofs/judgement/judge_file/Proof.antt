@@ -7,22 +7,22 @@ use Rattle.cell.specs.declared.CellCount.{CellCount}
 use Rattle.module_judging.specs.Grounds as grounds
 
 returns : tie.Need-returns
-unfolding grounds.judgeFile
+unfolding grounds.judge_file
 returns c = simp (lt-ltb _ _ c.if1.true)
 
-is-titled-requires : tie.Need-is-titled-requires
-is-titled-requires c κs = search rules
+is_titled_requires : tie.Need-is-titled-requires
+is_titled_requires c κs = search rules
 
-returns-2 : tie.Need-returns-2
-unfolding grounds.judgeFile
-returns-2 c = simp (le-ltb _ _ c.before.before.if1.false, sym c.before.is-titled.ensures ∙ not-true _ c.if2.true)
+returns_2 : tie.Need-returns-2
+unfolding grounds.judge_file
+returns_2 c = simp (le-ltb _ _ c.before.before.if1.false, sym c.before.is-titled.ensures ∙ not-true _ c.if2.true)
 
-shared-slice-read-if3 : tie.Need-shared-slice-read-if3
-shared-slice-read-if3 c = search rules
+shared_slice_read_if3 : tie.Need-shared-slice-read-if3
+shared_slice_read_if3 c = search rules
 
-returns-3 : tie.Need-returns-3
-unfolding grounds.judgeFile
-returns-3 c =
+returns_3 : tie.Need-returns-3
+unfolding grounds.judge_file
+returns_3 c =
     simp (
       le-ltb _ _ c.before.before.before.before.if1.false,
       sym c.before.before.before.is-titled.ensures ∙ not-false _
@@ -30,9 +30,9 @@ returns-3 c =
       lt-ltb _ _ c.if3.true,
     )
 
-returns-4 : tie.Need-returns-4
-unfolding grounds.judgeFile
-returns-4 c =
+returns_4 : tie.Need-returns-4
+unfolding grounds.judge_file
+returns_4 c =
     simp (
       le-ltb _ _ c.before.before.before.before.before.if1.false,
       sym c.before.before.before.before.is-titled.ensures ∙ not-false _
@@ -41,21 +41,21 @@ returns-4 c =
       lt-ltb _ _ c.if4.true,
     )
 
-count-of-requires : tie.Need-count-of-requires
-count-of-requires c κs = search rules
+count_of_requires : tie.Need-count-of-requires
+count_of_requires c κs = search rules
 
-cast-said : tie.Need-overflow-cast-said
-cast-said c = search rules
+cast_said : tie.Need-overflow-cast-said
+cast_said c = search rules
 
-mul-said : tie.Need-overflow-mul-said
-mul-said c = search rules
+mul_said : tie.Need-overflow-mul-said
+mul_said c = search rules
 
-add-said : tie.Need-overflow-add-said
-add-said c = search rules
+add_said : tie.Need-overflow-add-said
+add_said c = search rules
 
-returns-5 : tie.Need-returns-5
-unfolding grounds.judgeFile
-returns-5 c =
+returns_5 : tie.Need-returns-5
+unfolding grounds.judge_file
+returns_5 c =
     simp (
       le-ltb _ _ c.before.before.before.before.before.before.before.before.if1.false,
       sym
@@ -68,9 +68,9 @@ returns-5 c =
       ne_eqb _ _ c.if5.true,
     )
 
-returns-6 : tie.Need-returns-6
-unfolding grounds.judgeFile
-returns-6 c =
+returns_6 : tie.Need-returns-6
+unfolding grounds.judge_file
+returns_6 c =
     simp (
       le-ltb _ _ c.before.before.before.before.before.before.before.before.if1.false,
       sym
@@ -83,19 +83,19 @@ returns-6 c =
       eq-eqb _ _ c.if5.false,
     )
 
-pub judge-file-spec : {M : Type 1} → statement M
-judge-file-spec =
+pub judge_file_spec : {M : Type 1} → statement M
+judge_file_spec =
     tie.close
     (tie.spec
     returns
-    is-titled-requires
-    returns-2
-    shared-slice-read-if3
-    returns-3
-    returns-4
-    count-of-requires
-    cast-said
-    mul-said
-    add-said
-    returns-5
-    returns-6)
+    is_titled_requires
+    returns_2
+    shared_slice_read_if3
+    returns_3
+    returns_4
+    count_of_requires
+    cast_said
+    mul_said
+    add_said
+    returns_5
+    returns_6)

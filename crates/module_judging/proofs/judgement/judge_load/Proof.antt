@@ -5,69 +5,69 @@ use Rattle.cell.specs.declared.CellCount.{CellCount}
 use Rattle.module_judging.specs.Grounds as grounds
 use native.Mathlib.Omega.{arith}
 use mathlib.Core.Path.{ap, sym, ◌∙◌}
-use Rattle.module_judging.proofs.ConditionLaws.{file-good}
-use Rattle.module_judging.proofs.JudgeLaws.{load-parts}
+use Rattle.module_judging.proofs.ConditionLaws.{file_good}
+use Rattle.module_judging.proofs.JudgeLaws.{load_parts}
 
-judge-machine-requires : tie.Need-judge-machine-requires
-judge-machine-requires c κs = search rules
+judge_machine_requires : tie.Need-judge-machine-requires
+judge_machine_requires c κs = search rules
 
-enum-known-r : tie.Need-enum-known-r
-enum-known-r c = search rules
+enum_known_r : tie.Need-enum-known-r
+enum_known_r c = search rules
 
 enum_told : tie.Need-enum-told
 enum_told c = search rules
 
-judge-file-requires : tie.Need-judge-file-requires
-judge-file-requires c κs = search rules
+judge_file_requires : tie.Need-judge-file-requires
+judge_file_requires c κs = search rules
 
-enum-known-r-2 : tie.Need-enum-known-r-2
-enum-known-r-2 c = search rules
+enum_known_r_2 : tie.Need-enum-known-r-2
+enum_known_r_2 c = search rules
 
-enum-told-2 : tie.Need-enum-told-2
-enum-told-2 c = search rules
+enum_told_2 : tie.Need-enum-told-2
+enum_told_2 c = search rules
 
-count-of-requires : tie.Need-count-of-requires
-count-of-requires c κs = let g = file-good _ (sym c.before.before.judge-file.ensures ∙ c.enum-told2.given.1) in omega (arith, g.whole)
+count_of_requires : tie.Need-count-of-requires
+count_of_requires c κs = let g = file_good _ (sym c.before.before.judge-file.ensures ∙ c.enum-told2.given.1) in omega (arith, g.whole)
 
-judge-place-requires : tie.Need-judge-place-requires
-judge-place-requires c κs = search rules
+judge_place_requires : tie.Need-judge-place-requires
+judge_place_requires c κs = search rules
 
 returns : tie.Need-returns
-returns c = rw (load-parts, sym c.before.before.before.judge-machine.ensures ∙ c.before.r.given.1)
+returns c = rw (load_parts, sym c.before.before.before.judge-machine.ensures ∙ c.before.r.given.1)
 
-returns-2 : tie.Need-returns-2
-returns-2 c =
+returns_2 : tie.Need-returns-2
+returns_2 c =
     rw (
-      load-parts,
+      load_parts,
       sym c.before.before.before.before.before.before.judge-machine.ensures ∙ c.before.before.before.before.enum_told.given.1,
       sym c.before.before.before.judge-file.ensures ∙ c.before.r2.given.1,
     )
 
-returns-3 : tie.Need-returns-3
-returns-3 c =
+returns_3 : tie.Need-returns-3
+returns_3 c =
     rw (
-      load-parts,
+      load_parts,
       sym c.before.before.before.before.before.before.before.judge-machine.ensures ∙
           c.before.before.before.before.before.enum_told.given.1,
       sym c.before.before.before.before.judge-file.ensures ∙
           c.before.before.enum-told2.given.1,
     )
-    (c.judge-place.ensures ∙ ap (λ (x : CellCount). grounds.judgePlace
+    (c.judge-place.ensures ∙ ap (λ (x : CellCount). grounds.judge_place
     c.before.before.before.before.before.before.before.before.before.args.length
     c.before.before.before.before.before.before.before.before.before.args.address.0 x.0) c.before.count_of.ensures)
 
-pub judge-load-spec : {M : Type 1} → statement M
-judge-load-spec =
+pub judge_load_spec : {M : Type 1} → statement M
+judge_load_spec =
     tie.close
     (tie.spec
-    judge-machine-requires
-    enum-known-r
+    judge_machine_requires
+    enum_known_r
     enum_told
-    judge-file-requires
-    enum-known-r-2
-    enum-told-2
-    count-of-requires
-    judge-place-requires
+    judge_file_requires
+    enum_known_r_2
+    enum_told_2
+    count_of_requires
+    judge_place_requires
     returns
-    returns-2
-    returns-3)
+    returns_2
+    returns_3)

@@ -4,80 +4,80 @@ use Rattle.module_loading.proofs.loading.load_first.Tie as tie
 use lib.ListN.{length-drop}
 use native.Mathlib.Omega.{arith}
 use mathlib.Core.Path.{sym, ◌∙◌}
-use Rattle.module_loading.proofs.AnswerLaws.{first-result}
-use Rattle.module_judging.proofs.ConditionLaws.{load-good}
+use Rattle.module_loading.proofs.AnswerLaws.{first_result}
+use Rattle.module_judging.proofs.ConditionLaws.{load_good}
 use Rattle.module_loading.specs.Answers as answers
 
-judge-load-requires : tie.Need-judge-load-requires
-judge-load-requires c κs = search rules
+judge_load_requires : tie.Need-judge-load-requires
+judge_load_requires c κs = search rules
 
-enum-known-r : tie.Need-enum-known-r
-enum-known-r c = search rules
+enum_known_r : tie.Need-enum-known-r
+enum_known_r c = search rules
 
 enum_told : tie.Need-enum-told
 enum_told c = search rules
 
-count-of-requires : tie.Need-count-of-requires
-count-of-requires c κs =
+count_of_requires : tie.Need-count-of-requires
+count_of_requires c κs =
     let x = c.before.before.before.before.before.args in
     let g =
-    load-good x.order x.memory.now x.file.now x.address.0 (sym c.before.before.judge-load.ensures ∙ c.enum_told.given.1) in
+    load_good x.order x.memory.now x.file.now x.address.0 (sym c.before.before.judge-load.ensures ∙ c.enum_told.given.1) in
     omega (arith, g.format.whole)
 
-fewer-requires : tie.Need-fewer-requires
-fewer-requires c κs = search rules
+fewer_requires : tie.Need-fewer-requires
+fewer_requires c κs = search rules
 
-shared-slice-read-copy-cells : tie.Need-shared-slice-read-copy-cells
-shared-slice-read-copy-cells c =
+shared_slice_read_copy_cells : tie.Need-shared-slice-read-copy-cells
+shared_slice_read_copy_cells c =
     let x = c.before.before.before.before.before.before.before.before.args in
     let g =
-    load-good x.order x.memory.now x.file.now x.address.0 (sym c.before.before.before.before.before.judge-load.ensures ∙ c.before.before.before.enum_told.given.1) in
+    load_good x.order x.memory.now x.file.now x.address.0 (sym c.before.before.before.before.before.judge-load.ensures ∙ c.before.before.before.enum_told.given.1) in
     omega (arith, g.format.whole)
 
-code-of-requires : tie.Need-code-of-requires
-code-of-requires c κs =
+code_of_requires : tie.Need-code-of-requires
+code_of_requires c κs =
     let x = c.before.before.before.before.before.before.before.before.args in
     let g =
-    load-good x.order x.memory.now x.file.now x.address.0 (sym c.before.before.before.before.before.judge-load.ensures ∙ c.before.before.before.enum_told.given.1) in
+    load_good x.order x.memory.now x.file.now x.address.0 (sym c.before.before.before.before.before.judge-load.ensures ∙ c.before.before.before.enum_told.given.1) in
     omega (arith, g.format.whole)
 
-copy-cells-requires : tie.Need-copy-cells-requires
-copy-cells-requires c κs =
+copy_cells_requires : tie.Need-copy-cells-requires
+copy_cells_requires c κs =
     let x = c.before.before.before.before.before.before.before.before.before.before.args in
     let g =
-    load-good x.order x.memory.now x.file.now x.address.0 (sym c.before.before.before.before.before.before.before.judge-load.ensures ∙ c.before.before.before.before.before.enum_told.given.1) in
+    load_good x.order x.memory.now x.file.now x.address.0 (sym c.before.before.before.before.before.before.before.judge-load.ensures ∙ c.before.before.before.before.before.enum_told.given.1) in
     rw (c.before.before.before.fewer.ensures, c.before.before.before.before.count_of.ensures, c.before.code_of_lem.ensures) (
       simp length-drop (omega (arith, g.format.whole)),
       omega (arith, g.place.room),
     )
 
 returns : tie.Need-returns
-unfolding answers.loadFirstOf
+unfolding answers.load_first_of
 returns c = rw (sym c.before.before.before.judge-load.ensures ∙ c.before.r.given.1)
 
 same_length : tie.Need-same-length
 same_length c = search rules
 
-returns-2 : tie.Need-returns-2
-returns-2 c =
+returns_2 : tie.Need-returns-2
+returns_2 c =
     let x = c.before.before.before.before.before.before.before.before.before.before.before.before.before.args in
-    first-result x.order x.memory.now x.file.now x.address.0 x.cells.0 c.before.before.before.before.before.before.fewer.result _ _
+    first_result x.order x.memory.now x.file.now x.address.0 x.cells.0 c.before.before.before.before.before.before.fewer.result _ _
     (sym c.before.before.before.before.before.before.before.before.before.before.judge-load.ensures ∙ c.before.before.before.before.before.before.before.before.enum_told.given.1)
     (c.before.before.before.before.before.before.fewer.ensures ∙ rw c.before.before.before.before.before.before.before.count_of.ensures)
     c.before.before.before.before.code_of_lem.ensures c.before.before.copy-cells.ensures
 
-pub load-first-spec : {M : Type 1} → statement M
-load-first-spec =
+pub load_first_spec : {M : Type 1} → statement M
+load_first_spec =
     tie.close
     (tie.spec
-    judge-load-requires
-    enum-known-r
+    judge_load_requires
+    enum_known_r
     enum_told
-    count-of-requires
-    fewer-requires
-    shared-slice-read-copy-cells
-    code-of-requires
-    copy-cells-requires
+    count_of_requires
+    fewer_requires
+    shared_slice_read_copy_cells
+    code_of_requires
+    copy_cells_requires
     returns
     same_length
-    returns-2)
+    returns_2)

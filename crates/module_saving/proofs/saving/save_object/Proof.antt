@@ -7,32 +7,32 @@ use lib.ListN.{length, drop, length-drop}
 use native.Mathlib.Omega.{arith}
 use mathlib.Core.Path.{sym, ◌∙◌}
 use Rattle.cell.specs.Memory as mem
-use Rattle.module_saving.proofs.AnswerLaws.{save-result}
-use Rattle.module_judging.proofs.ConditionLaws.{save-good}
+use Rattle.module_saving.proofs.AnswerLaws.{save_result}
+use Rattle.module_judging.proofs.ConditionLaws.{save_good}
 use Rattle.module_saving.specs.Answers as answers
 
-judge-save-requires : tie.Need-judge-save-requires
-judge-save-requires c κs = search rules
+judge_save_requires : tie.Need-judge-save-requires
+judge_save_requires c κs = search rules
 
-enum-known-r : tie.Need-enum-known-r
-enum-known-r c = search rules
+enum_known_r : tie.Need-enum-known-r
+enum_known_r c = search rules
 
 enum_told : tie.Need-enum-told
 enum_told c = search rules
 
-write-header-requires : tie.Need-write-header-requires
-write-header-requires c κs =
-    let g = save-good c.before.before.before.before.before.before.args.order c.before.before.before.before.before.before.args.memory.now
+write_header_requires : tie.Need-write-header-requires
+write_header_requires c κs =
+    let g = save_good c.before.before.before.before.before.before.args.order c.before.before.before.before.before.before.args.memory.now
     c.before.before.before.before.before.before.args.address.0 c.before.before.before.before.before.before.args.cells.0
     c.before.before.before.before.before.before.args.output.now (sym c.before.before.before.judge-save.ensures ∙
     c.before.enum_told.given.1) in omega (arith, g.room)
 
-cast-at : tie.Need-overflow-cast-at
-cast-at c = search rules
+cast_at : tie.Need-overflow-cast-at
+cast_at c = search rules
 
-sub-copy-at : tie.Need-overflow-sub-copy-at
-sub-copy-at c =
-    let g = save-good c.before.before.before.before.before.before.before.before.before.before.args.order
+sub_copy_at : tie.Need-overflow-sub-copy-at
+sub_copy_at c =
+    let g = save_good c.before.before.before.before.before.before.before.before.before.before.args.order
     c.before.before.before.before.before.before.before.before.before.before.args.memory.now
     c.before.before.before.before.before.before.before.before.before.before.args.address.0
     c.before.before.before.before.before.before.before.before.before.before.args.cells.0
@@ -40,9 +40,9 @@ sub-copy-at c =
     c.before.before.before.before.before.before.before.judge-save.ensures ∙ c.before.before.before.before.before.enum_told.given.1) in omega
     (arith, g.place.inside)
 
-part-copy-at-start : tie.Need-slice-bounds-copy-at-start
-part-copy-at-start c =
-    let g = save-good c.before.before.before.before.before.before.before.before.before.before.args.order
+part_copy_at_start : tie.Need-slice-bounds-copy-at-start
+part_copy_at_start c =
+    let g = save_good c.before.before.before.before.before.before.before.before.before.before.args.order
     c.before.before.before.before.before.before.before.before.before.before.args.memory.now
     c.before.before.before.before.before.before.before.before.before.before.args.address.0
     c.before.before.before.before.before.before.before.before.before.before.args.cells.0
@@ -50,12 +50,12 @@ part-copy-at-start c =
     c.before.before.before.before.before.before.before.judge-save.ensures ∙ c.before.before.before.before.before.enum_told.given.1) in omega
     (arith, g.place.inside)
 
-part-copy-at-end : tie.Need-slice-bounds-copy-at-end
-part-copy-at-end c = search rules
+part_copy_at_end : tie.Need-slice-bounds-copy-at-end
+part_copy_at_end c = search rules
 
-copy-at-requires : tie.Need-copy-at-requires
-copy-at-requires c κs =
-    let g = save-good c.before.before.before.before.before.before.before.before.before.before.before.before.args.order
+copy_at_requires : tie.Need-copy-at-requires
+copy_at_requires c κs =
+    let g = save_good c.before.before.before.before.before.before.before.before.before.before.before.before.args.order
     c.before.before.before.before.before.before.before.before.before.before.before.before.args.memory.now
     c.before.before.before.before.before.before.before.before.before.before.before.before.args.address.0
     c.before.before.before.before.before.before.before.before.before.before.before.before.args.cells.0
@@ -70,9 +70,9 @@ copy-at-requires c κs =
     in
     (rw t (simp length-drop (omega (arith, g.place.room))), omega (arith, g.room, c.before.before.before.before.before.write-header.auto.1.1.0))
 
-mul-t21 : tie.Need-overflow-mul-t21
-mul-t21 c =
-    let g = save-good
+mul_t21 : tie.Need-overflow-mul-t21
+mul_t21 c =
+    let g = save_good
     c.before.before.before.before.before.before.before.before.before.before.before.before.before.before.before.before.args.order
     c.before.before.before.before.before.before.before.before.before.before.before.before.before.before.before.before.args.memory.now
     c.before.before.before.before.before.before.before.before.before.before.before.before.before.before.before.before.args.address.0
@@ -85,9 +85,9 @@ mul-t21 c =
       g.machine.lent.most,
     )
 
-add-t22 : tie.Need-overflow-add-t22
-add-t22 c =
-    let g = save-good
+add_t22 : tie.Need-overflow-add-t22
+add_t22 c =
+    let g = save_good
     c.before.before.before.before.before.before.before.before.before.before.before.before.before.before.before.before.args.order
     c.before.before.before.before.before.before.before.before.before.before.before.before.before.before.before.before.args.memory.now
     c.before.before.before.before.before.before.before.before.before.before.before.before.before.before.before.before.args.address.0
@@ -101,16 +101,16 @@ add-t22 c =
     )
 
 returns : tie.Need-returns
-unfolding answers.saveOf
+unfolding answers.save_of
 returns c = rw (sym c.before.before.before.judge-save.ensures ∙ c.before.r.given.1)
 
 same_length : tie.Need-same-length
 same_length c = search rules
 
-returns-2 : tie.Need-returns-2
+returns_2 : tie.Need-returns-2
 unfolding mem.Bytewise
-returns-2 c =
-    save-result c.before.before.before.before.before.before.before.before.before.before.before.before.before.before.before.before.args.order
+returns_2 c =
+    save_result c.before.before.before.before.before.before.before.before.before.before.before.before.before.before.before.before.args.order
     c.before.before.before.before.before.before.before.before.before.before.before.before.before.before.before.before.args.memory.now
     c.before.before.before.before.before.before.before.before.before.before.before.before.before.before.before.before.args.address.0
     c.before.before.before.before.before.before.before.before.before.before.before.before.before.before.before.before.args.cells.0
@@ -126,21 +126,21 @@ returns-2 c =
     (simp length-drop (omega arith))) c.before.before.before.before.before.before.before.before.before.write-header.ensures
     c.before.before.before.copy_at.ensures
 
-pub save-object-spec : {M : Type 1} → statement M
-save-object-spec =
+pub save_object_spec : {M : Type 1} → statement M
+save_object_spec =
     tie.close
     (tie.spec
-    judge-save-requires
-    enum-known-r
+    judge_save_requires
+    enum_known_r
     enum_told
-    write-header-requires
-    cast-at
-    sub-copy-at
-    part-copy-at-start
-    part-copy-at-end
-    copy-at-requires
-    mul-t21
-    add-t22
+    write_header_requires
+    cast_at
+    sub_copy_at
+    part_copy_at_start
+    part_copy_at_end
+    copy_at_requires
+    mul_t21
+    add_t22
     returns
     same_length
-    returns-2)
+    returns_2)

@@ -3,47 +3,47 @@ use borrow.Author.Rules.{rules}
 use Rattle.operators.proofs.comparison.zero_not_equal.Statement.{statement}
 use Rattle.operators.proofs.comparison.zero_not_equal.Tie as tie
 use Rattle.instruction.specs.Plain as plain
-use Rattle.operators.proofs.Reading.{first-fails, first_read}
+use Rattle.operators.proofs.Reading.{first_fails, first_read}
 use mathlib.Core.Path.{◌∙◌, sym, ap}
 
-fetch-data-requires : tie.Need-fetch-data-requires
-fetch-data-requires c κs = search rules
+fetch_data_requires : tie.Need-fetch-data-requires
+fetch_data_requires c κs = search rules
 
-enum-known-got : tie.Need-enum-known-got
-enum-known-got c = search rules
+enum_known_got : tie.Need-enum-known-got
+enum_known_got c = search rules
 
 enum_told : tie.Need-enum-told
 enum_told c = search rules
 
-fail-one-requires : tie.Need-fail-one-requires
-fail-one-requires c κs = (_, c.enum_told.given.1)
+fail_one_requires : tie.Need-fail-one-requires
+fail_one_requires c κs = (_, c.enum_told.given.1)
 
 returns : tie.Need-returns
 unfolding plain.plain_of
-returns c = c.fail-one.ensures ∙ first-fails _ _ _ _ _ c.before.before.before.fetch-data.ensures _ c.before.enum_told.given.1
+returns c = c.fail-one.ensures ∙ first_fails _ _ _ _ _ c.before.before.before.fetch-data.ensures _ c.before.enum_told.given.1
 
-flag-requires : tie.Need-flag-requires
-flag-requires c κs = search rules
+flag_requires : tie.Need-flag-requires
+flag_requires c κs = search rules
 
-replace-requires : tie.Need-replace-requires
-replace-requires c κs = search rules
+replace_requires : tie.Need-replace-requires
+replace_requires c κs = search rules
 
-returns-2 : tie.Need-returns-2
+returns_2 : tie.Need-returns-2
 unfolding plain.plain_of
-returns-2 c =
+returns_2 c =
     (c.replace.ensures ∙ ap (plain.replaces c.before.before.before.before.before.before.before.args.r.sp
     c.before.before.before.before.before.before.before.args.r.rp) c.before.flag.ensures)
     ∙ sym (first_read _ _ _ _ _ c.before.before.before.before.before.fetch-data.ensures _ c.before.before.before.got.given.1)
 
-pub zero-not-equal-spec : {M : Type 1} → statement M
-zero-not-equal-spec =
+pub zero_not_equal_spec : {M : Type 1} → statement M
+zero_not_equal_spec =
     tie.close
     (tie.spec
-    fetch-data-requires
-    enum-known-got
+    fetch_data_requires
+    enum_known_got
     enum_told
-    fail-one-requires
+    fail_one_requires
     returns
-    flag-requires
-    replace-requires
-    returns-2)
+    flag_requires
+    replace_requires
+    returns_2)

@@ -4,30 +4,30 @@ use Rattle.pack_files.proofs.file.operands_of.Statement.{statement}
 use Rattle.pack_files.proofs.file.operands_of.Tie as tie
 use mathlib.Core.Path.{refl}
 use native.Mathlib.Omega.{arith}
-use Rattle.pack_files.proofs.Filing.{operands-back}
+use Rattle.pack_files.proofs.Filing.{operands_back}
 use lib.ListN.{replicate}
 use Prim.Native.Nat.{◌-◌}
 
-cell-at-requires : tie.Need-cell-at-requires
-cell-at-requires c κs = search rules
+cell_at_requires : tie.Need-cell-at-requires
+cell_at_requires c κs = search rules
 
-cast-n : tie.Need-overflow-cast-n
-cast-n c = search rules
+cast_n : tie.Need-overflow-cast-n
+cast_n c = search rules
 
-add-read-operands : tie.Need-overflow-add-read-operands
-add-read-operands c = search rules
+add_read_operands : tie.Need-overflow-add-read-operands
+add_read_operands c = search rules
 
-sub-read-operands : tie.Need-overflow-sub-read-operands
-sub-read-operands c = search rules
+sub_read_operands : tie.Need-overflow-sub-read-operands
+sub_read_operands c = search rules
 
-part-operands-start : tie.Need-slice-bounds-operands-start
-part-operands-start c = search rules
+part_operands_start : tie.Need-slice-bounds-operands-start
+part_operands_start c = search rules
 
-part-operands-end : tie.Need-slice-bounds-operands-end
-part-operands-end c = search rules
+part_operands_end : tie.Need-slice-bounds-operands-end
+part_operands_end c = search rules
 
-read-operands-requires : tie.Need-read-operands-requires
-read-operands-requires c κs = search rules
+read_operands_requires : tie.Need-read-operands-requires
+read_operands_requires c κs = search rules
 
 returns : tie.Need-returns
 returns c =
@@ -35,18 +35,18 @@ returns c =
     let read-operands = c.before.read-operands in
     let Cell-at = c.before.before.before.Cell-at in
     let pre-here = c.before.before.before.before.before.requires in
-    operands-back args.file.now (replicate 4096 0) read-operands.new.1.1.0 Cell-at.result (Cell-at.result - 0) (pre-here) Cell-at.ensures
+    operands_back args.file.now (replicate 4096 0) read-operands.new.1.1.0 Cell-at.result (Cell-at.result - 0) (pre-here) Cell-at.ensures
     (omega arith) refl read-operands.auto.1.1.0 read-operands.ensures
 
-pub operands-of-spec : {M : Type 1} → statement M
-operands-of-spec =
+pub operands_of_spec : {M : Type 1} → statement M
+operands_of_spec =
     tie.close
     (tie.spec
-    cell-at-requires
-    cast-n
-    add-read-operands
-    sub-read-operands
-    part-operands-start
-    part-operands-end
-    read-operands-requires
+    cell_at_requires
+    cast_n
+    add_read_operands
+    sub_read_operands
+    part_operands_start
+    part_operands_end
+    read_operands_requires
     returns)

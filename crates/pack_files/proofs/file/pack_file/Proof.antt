@@ -4,87 +4,87 @@ use Rattle.pack_files.proofs.file.pack_file.Statement.{statement}
 use Rattle.pack_files.proofs.file.pack_file.Tie as tie
 use mathlib.Core.Path.{sym, ◌∙◌}
 use native.Mathlib.Omega.{arith}
-use Rattle.pack_files.proofs.Filing.{header-good, pack-file-refused, parts-packed}
+use Rattle.pack_files.proofs.Filing.{header_good, pack_file_refused, parts_packed}
 
-judge-header-requires : tie.Need-judge-header-requires
-judge-header-requires c κs = search rules
+judge_header_requires : tie.Need-judge-header-requires
+judge_header_requires c κs = search rules
 
-enum-known-r : tie.Need-enum-known-r
-enum-known-r c = search rules
+enum_known_r : tie.Need-enum-known-r
+enum_known_r c = search rules
 
 enum_told : tie.Need-enum-told
 enum_told c = search rules
 
-cell-at-requires : tie.Need-cell-at-requires
-cell-at-requires c κs =
+cell_at_requires : tie.Need-cell-at-requires
+cell_at_requires c κs =
     let args = c.before.before.before.before.before.args in
     let judge-header = c.before.before.judge-header in
-    omega (arith, (header-good args.order args.file.now (sym judge-header.ensures ∙ c.enum_told.given.1)).whole)
+    omega (arith, (header_good args.order args.file.now (sym judge-header.ensures ∙ c.enum_told.given.1)).whole)
 
-cast-n : tie.Need-overflow-cast-n
-cast-n c = search rules
+cast_n : tie.Need-overflow-cast-n
+cast_n c = search rules
 
-cell-at-requires-2 : tie.Need-cell-at-requires-2
-cell-at-requires-2 c κs =
+cell_at_requires_2 : tie.Need-cell-at-requires-2
+cell_at_requires_2 c κs =
     let args = c.before.before.before.before.before.before.args in
     let judge-header = c.before.before.before.judge-header in
     let enum_told = c.before.enum_told in
-    omega (arith, (header-good args.order args.file.now (sym judge-header.ensures ∙ enum_told.given.1)).whole)
+    omega (arith, (header_good args.order args.file.now (sym judge-header.ensures ∙ enum_told.given.1)).whole)
 
-add-end : tie.Need-overflow-add-end
-add-end c = search rules
+add_end : tie.Need-overflow-add-end
+add_end c = search rules
 
-operands-of-requires : tie.Need-operands-of-requires
-operands-of-requires c κs =
+operands_of_requires : tie.Need-operands-of-requires
+operands_of_requires c κs =
     let args = c.before.before.before.before.before.before.before.args in
     let judge-header = c.before.before.before.before.judge-header in
     let enum_told = c.before.before.enum_told in
-    header-good args.order args.file.now (sym judge-header.ensures ∙ enum_told.given.1)
+    header_good args.order args.file.now (sym judge-header.ensures ∙ enum_told.given.1)
 
-sub-pack : tie.Need-overflow-sub-pack
-sub-pack c = search rules
+sub_pack : tie.Need-overflow-sub-pack
+sub_pack c = search rules
 
-part-pack-start : tie.Need-slice-bounds-pack-start
-part-pack-start c = search rules
+part_pack_start : tie.Need-slice-bounds-pack-start
+part_pack_start c = search rules
 
-part-pack-end : tie.Need-slice-bounds-pack-end
-part-pack-end c =
+part_pack_end : tie.Need-slice-bounds-pack-end
+part_pack_end c =
     let args = c.before.before.before.before.before.before.before.before.args in
     let judge-header = c.before.before.before.before.before.judge-header in
     let enum_told = c.before.before.before.enum_told in
     let Cell-at = c.before.before.Cell-at in
-    let h = header-good args.order args.file.now (sym judge-header.ensures ∙ enum_told.given.1) in omega (arith, h.whole, Cell-at.ensures)
+    let h = header_good args.order args.file.now (sym judge-header.ensures ∙ enum_told.given.1) in omega (arith, h.whole, Cell-at.ensures)
 
-sub-pack-2 : tie.Need-overflow-sub-pack-2
-sub-pack-2 c = search rules
+sub_pack_2 : tie.Need-overflow-sub-pack-2
+sub_pack_2 c = search rules
 
-part-pack-start-2 : tie.Need-slice-bounds-pack-start-2
-part-pack-start-2 c = search rules
+part_pack_start_2 : tie.Need-slice-bounds-pack-start-2
+part_pack_start_2 c = search rules
 
-part-pack-end-2 : tie.Need-slice-bounds-pack-end-2
-part-pack-end-2 c =
+part_pack_end_2 : tie.Need-slice-bounds-pack-end-2
+part_pack_end_2 c =
     let args = c.before.before.before.before.before.before.before.before.before.before.args in
     let judge-header = c.before.before.before.before.before.before.before.judge-header in
     let enum_told = c.before.before.before.before.before.enum_told in
     let Cell-at = c.before.before.before.before.Cell-at in
     let operands_of = c.before.before.operands_of in
-    let h = header-good args.order args.file.now (sym judge-header.ensures ∙ enum_told.given.1) in omega (arith, h.most, Cell-at.ensures, operands_of.ensures.0)
+    let h = header_good args.order args.file.now (sym judge-header.ensures ∙ enum_told.given.1) in omega (arith, h.most, Cell-at.ensures, operands_of.ensures.0)
 
-pack-requires : tie.Need-pack-requires
-pack-requires c κs = search rules
+pack_requires : tie.Need-pack-requires
+pack_requires c κs = search rules
 
 returns : tie.Need-returns
 returns c =
     let args = c.before.before.before.before.before.before.args in
     let judge-header = c.before.before.before.judge-header in
     let r = c.before.r in
-    pack-file-refused args.order args.file.now args.output.now _ (sym judge-header.ensures ∙ r.given.1)
+    pack_file_refused args.order args.file.now args.output.now _ (sym judge-header.ensures ∙ r.given.1)
 
 same_length : tie.Need-same-length
 same_length c = search rules
 
-returns-2 : tie.Need-returns-2
-returns-2 c =
+returns_2 : tie.Need-returns-2
+returns_2 c =
     let args = c.before.before.before.before.before.before.before.before.before.before.before.before.before.before.before.args in
     let judge-header = c.before.before.before.before.before.before.before.before.before.before.before.before.judge-header in
     let enum_told = c.before.before.before.before.before.before.before.before.before.before.enum_told in
@@ -92,29 +92,29 @@ returns-2 c =
     let cell-at2 = c.before.before.before.before.before.before.before.before.cell-at2 in
     let operands_of = c.before.before.before.before.before.before.before.operands_of in
     let pack = c.before.before.pack in
-    parts-packed args.order args.file.now (header-good args.order args.file.now (sym judge-header.ensures ∙ enum_told.given.1))
+    parts_packed args.order args.file.now (header_good args.order args.file.now (sym judge-header.ensures ∙ enum_told.given.1))
     Cell-at.result cell-at2.result operands_of.result Cell-at.ensures cell-at2.ensures operands_of.ensures.1 args.output.now _
     pack.ensures
 
-pub pack-file-spec : {M : Type 1} → statement M
-pack-file-spec =
+pub pack_file_spec : {M : Type 1} → statement M
+pack_file_spec =
     tie.close
     (tie.spec
-    judge-header-requires
-    enum-known-r
+    judge_header_requires
+    enum_known_r
     enum_told
-    cell-at-requires
-    cast-n
-    cell-at-requires-2
-    add-end
-    operands-of-requires
-    sub-pack
-    part-pack-start
-    part-pack-end
-    sub-pack-2
-    part-pack-start-2
-    part-pack-end-2
-    pack-requires
+    cell_at_requires
+    cast_n
+    cell_at_requires_2
+    add_end
+    operands_of_requires
+    sub_pack
+    part_pack_start
+    part_pack_end
+    sub_pack_2
+    part_pack_start_2
+    part_pack_end_2
+    pack_requires
     returns
     same_length
-    returns-2)
+    returns_2)

@@ -6,15 +6,15 @@ use borrow.Author.Rules.{rules}
 use Rattle.pack_image.proofs.write.pack_of.Tie as tie
 use Rattle.pack_image.proofs.write.pack_of.Statement.{statement}
 
-mul-result : tie.Need-overflow-mul-result
-mul-result c = search rules
+mul_result : tie.Need-overflow-mul-result
+mul_result c = search rules
 
-add-result : tie.Need-overflow-add-result
-add-result c = search rules
+add_result : tie.Need-overflow-add-result
+add_result c = search rules
 
 returns : tie.Need-returns
 unfolding pack
 returns c = refl
 
-pub pack-of-spec : {M : Type 1} → statement M
-pack-of-spec = tie.close (tie.spec mul-result add-result returns)
+pub pack_of_spec : {M : Type 1} → statement M
+pack_of_spec = tie.close (tie.spec mul_result add_result returns)

@@ -7,8 +7,8 @@ use borrow.Author.Rules.{rules}
 use Rattle.pack_image.proofs.write.put_opened.Tie as tie
 use Rattle.pack_image.proofs.write.put_opened.Statement.{statement}
 
-put-cell-requires : tie.Need-put-cell-requires
-put-cell-requires c κs =
+put_cell_requires : tie.Need-put-cell-requires
+put_cell_requires c κs =
     let pre-here = c.before.before.before.requires in
     (pre-here.0, omega (arith, pre-here.1, ap bit c.before.if1.true))
 
@@ -21,14 +21,14 @@ returns c =
     let put-cell = c.before.before.put-cell in
     simp if1.true (refl, put-cell.ensures)
 
-returns-2 : tie.Need-returns-2
-returns-2 c = search rules
+returns_2 : tie.Need-returns-2
+returns_2 c = search rules
 
-pub put-opened-spec : {M : Type 1} → statement M
-put-opened-spec =
+pub put_opened_spec : {M : Type 1} → statement M
+put_opened_spec =
     tie.close
     (tie.spec
-    put-cell-requires
+    put_cell_requires
     same_length
     returns
-    returns-2)
+    returns_2)

@@ -8,32 +8,32 @@ use Rattle.pack_layout.specs.Flags.{flagged}
 use Rattle.pack_layout.specs.Listing.{listed}
 use Rattle.pack_layout.specs.Packing.{layout}
 use Rattle.pack_layout.proofs.Placing.{left_le}
-use Rattle.pack_layout.proofs.Listing.{some_item, kind-below}
-use Rattle.pack_image.proofs.Writing.{WriteStep, write-start, step_down, target-inside, operand-room, open-room, form-is, value-is, write_step, write-end}
+use Rattle.pack_layout.proofs.Listing.{some_item, kind_below}
+use Rattle.pack_image.proofs.Writing.{WriteStep, write_start, step_down, target_inside, operand_room, open_room, form_is, value_is, write_step, write_end}
 use Rattle.pack_image.proofs.write.write_image.Statement.{statement}
 use Rattle.pack_image.proofs.write.write_image.Tie as tie
 
-abbrev invariant-loop : tie.invariant-loop
-invariant-loop order base kinds operands marks ats nexts lefts out₀ i₀ rest₀ out i rest =
+abbrev invariant_loop : tie.invariant_loop
+invariant_loop order base kinds operands marks ats nexts lefts out₀ i₀ rest₀ out i rest =
     WriteStep order base.0 (listed kinds operands) out₀ out rest i
 
-abbrev decreases-loop : tie.decreases-loop
-decreases-loop order base kinds operands marks ats nexts lefts out₀ i₀ rest₀ out i rest = i
+abbrev decreases_loop : tie.decreases_loop
+decreases_loop order base kinds operands marks ats nexts lefts out₀ i₀ rest₀ out i rest = i
 
-loop-holds : tie.Need-loop-init invariant-loop decreases-loop
-loop-holds c =
+loop_holds : tie.Need-loop-init invariant_loop decreases_loop
+loop_holds c =
     let args = c.before.before.before.before.before.before.before.args in
     let pre-here = c.before.before.before.before.before.before.before.requires in
     let a = args in
     let pre = pre-here in
     let l = listed a.kinds.now a.operands.now in
-    write-start a.order a.base.0 l a.out.now pre.1.1.1.1.1
+    write_start a.order a.base.0 l a.out.now pre.1.1.1.1.1
 
-sub-i : tie.Need-overflow-sub-i invariant-loop decreases-loop
-sub-i c = omega arith
+sub_i : tie.Need-overflow-sub-i invariant_loop decreases_loop
+sub_i c = omega arith
 
-mul-f : tie.Need-overflow-mul-f invariant-loop decreases-loop
-mul-f c =
+mul_f : tie.Need-overflow-mul-f invariant_loop decreases_loop
+mul_f c =
     let args = c.before.before.before.before.before.before.before.before.before.args in
     let pre-here = c.before.before.before.before.before.before.before.before.before.requires in
     let a = args in
@@ -43,8 +43,8 @@ mul-f c =
     let step = c.before.loop.invariant in
     omega (arith, step.inside, c.loop-test.true, (some_item l pre.0.input).1)
 
-shared-slice-read-f : tie.Need-shared-slice-read-f invariant-loop decreases-loop
-shared-slice-read-f c =
+shared_slice_read_f : tie.Need-shared-slice-read-f invariant_loop decreases_loop
+shared_slice_read_f c =
     let args = c.before.before.before.before.before.before.before.before.before.before.args in
     let pre-here = c.before.before.before.before.before.before.before.before.before.before.requires in
     let loop = c.before.before.loop in
@@ -55,8 +55,8 @@ shared-slice-read-f c =
     let step = loop.invariant in
     omega (arith, step.inside, c.before.loop-test.true, pre.1.0.3)
 
-mul-pack-item : tie.Need-overflow-mul-pack-item invariant-loop decreases-loop
-mul-pack-item c =
+mul_pack_item : tie.Need-overflow-mul-pack-item invariant_loop decreases_loop
+mul_pack_item c =
     let args = c.before.before.before.before.before.before.before.before.before.before.args
     in
     let pre-here = c.before.before.before.before.before.before.before.before.before.before.requires in
@@ -69,8 +69,8 @@ mul-pack-item c =
     let step = loop.invariant in
     omega (arith, step.inside, loop-test.true, (some_item l pre.0.input).1)
 
-shared-slice-read-pack-item : tie.Need-shared-slice-read-pack-item invariant-loop decreases-loop
-shared-slice-read-pack-item c =
+shared_slice_read_pack_item : tie.Need-shared-slice-read-pack-item invariant_loop decreases_loop
+shared_slice_read_pack_item c =
     let args = c.before.before.before.before.before.before.before.before.before.before.before.args
     in
     let pre-here = c.before.before.before.before.before.before.before.before.before.before.before.requires in
@@ -83,8 +83,8 @@ shared-slice-read-pack-item c =
     let step = loop.invariant in
     omega (arith, step.inside, loop-test.true, pre.1.0.0)
 
-shared-slice-read-kind : tie.Need-shared-slice-read-kind invariant-loop decreases-loop
-shared-slice-read-kind c =
+shared_slice_read_kind : tie.Need-shared-slice-read-kind invariant_loop decreases_loop
+shared_slice_read_kind c =
     let args = c.before.before.before.before.before.before.before.before.before.before.before.before.args in
     let pre-here = c.before.before.before.before.before.before.before.before.before.before.before.before.requires in
     let loop = c.before.before.before.before.loop in
@@ -96,8 +96,8 @@ shared-slice-read-kind c =
     let step = loop.invariant in
     omega (arith, step.inside, loop-test.true)
 
-shared-slice-read-pack-item-2 : tie.Need-shared-slice-read-pack-item-2 invariant-loop decreases-loop
-shared-slice-read-pack-item-2 c =
+shared_slice_read_pack_item_2 : tie.Need-shared-slice-read-pack-item-2 invariant_loop decreases_loop
+shared_slice_read_pack_item_2 c =
     let args = c.before.before.before.before.before.before.before.before.before.before.before.before.before.args in
     let pre-here = c.before.before.before.before.before.before.before.before.before.before.before.before.before.requires in
     let loop = c.before.before.before.before.before.loop in
@@ -109,8 +109,8 @@ shared-slice-read-pack-item-2 c =
     let step = loop.invariant in
     omega (arith, step.inside, loop-test.true, pre.0.equal)
 
-mul-pack-item-2 : tie.Need-overflow-mul-pack-item-2 invariant-loop decreases-loop
-mul-pack-item-2 c =
+mul_pack_item_2 : tie.Need-overflow-mul-pack-item-2 invariant_loop decreases_loop
+mul_pack_item_2 c =
     let args = c.before.before.before.before.before.before.before.before.before.before.before.before.before.args in
     let pre-here = c.before.before.before.before.before.before.before.before.before.before.before.before.before.requires in
     let loop = c.before.before.before.before.before.loop in
@@ -118,15 +118,15 @@ mul-pack-item-2 c =
     let l = listed args.kinds.now args.operands.now in
     omega (arith, loop.invariant.inside, loop-test.true, (some_item l pre-here.0.input).1)
 
-shared-slice-read-pack-item-3 : tie.Need-shared-slice-read-pack-item-3 invariant-loop decreases-loop
-shared-slice-read-pack-item-3 c =
+shared_slice_read_pack_item_3 : tie.Need-shared-slice-read-pack-item-3 invariant_loop decreases_loop
+shared_slice_read_pack_item_3 c =
     let pre-here = c.before.before.before.before.before.before.before.before.before.before.before.before.before.before.requires in
     let loop = c.before.before.before.before.before.before.loop in
     let loop-test = c.before.before.before.before.before.loop-test in
     omega (arith, loop.invariant.inside, loop-test.true, pre-here.1.0.2)
 
-pack-item-requires : tie.Need-pack-item-requires invariant-loop decreases-loop
-pack-item-requires c κs =
+pack_item_requires : tie.Need-pack-item-requires invariant_loop decreases_loop
+pack_item_requires c κs =
     let args = c.before.before.before.before.before.before.before.before.before.before.before.before.before.before.args in
     let pre-here = c.before.before.before.before.before.before.before.before.before.before.before.before.before.before.requires in
     let loop = c.before.before.before.before.before.before.loop in
@@ -141,13 +141,13 @@ pack-item-requires c κs =
       rw (pre.1.1.1.0.left (i - 1) h) (left_le (layout l) (i - 1)),
       pre.1.1.1.1.0,
       λ q. rw pre.1.0.1
-          (target-inside a.base.0 l pre.0.input a.marks.now a.ats.now a.nexts.now a.lefts.now pre.1.1.1.0
+          (target_inside a.base.0 l pre.0.input a.marks.now a.ats.now a.nexts.now a.lefts.now pre.1.1.1.0
           pre.1.1.0 (i - 1) h (some_item l pre.0.input).1 q),
     )
 
-put-operand-requires : tie.Need-put-operand-requires invariant-loop decreases-loop
+put_operand_requires : tie.Need-put-operand-requires invariant_loop decreases_loop
 unfolding flagged
-put-operand-requires c κs =
+put_operand_requires c κs =
     let args = c.before.before.before.before.before.before.before.before.before.before.before.before.before.before.before.before.args in
     let pre-here = c.before.before.before.before.before.before.before.before.before.before.before.before.before.before.before.before.requires in
     let loop = c.before.before.before.before.before.before.before.before.loop in
@@ -159,12 +159,12 @@ put-operand-requires c κs =
     let step = loop.invariant in
     let h : i - 1 < length a.kinds.now = omega (arith, step.inside, loop-test.true) in
     let next = step_down a.order a.base.0 l a.out.now loop.out loop.rest i (omega (arith, loop-test.true)) step in
-    operand-room a.order a.base.0 l a.out.now pre.1.1.1.1.1 loop.out loop.rest (i - 1) h next c.before.pack-item.result.form (get_or
+    operand_room a.order a.base.0 l a.out.now pre.1.1.1.1.1 loop.out loop.rest (i - 1) h next c.before.pack-item.result.form (get_or
     a.nexts.now (i - 1) 0) (some_item l pre.0.input).1 (c.before.pack-item.ensures.0
-    ∙ form-is a.base.0 l pre.0.input a.marks.now a.ats.now a.nexts.now a.lefts.now pre.1.1.1.0 pre.1.1.0 (i - 1) h) (pre.1.1.1.0.next (i - 1) h)
+    ∙ form_is a.base.0 l pre.0.input a.marks.now a.ats.now a.nexts.now a.lefts.now pre.1.1.1.0 pre.1.1.0 (i - 1) h) (pre.1.1.1.0.next (i - 1) h)
 
-word-of-requires : tie.Need-word-of-requires invariant-loop decreases-loop
-word-of-requires c κs =
+word_of_requires : tie.Need-word-of-requires invariant_loop decreases_loop
+word_of_requires c κs =
     let args = c.before.before.before.before.before.before.before.before.before.before.before.before.before.before.before.before.before.before.before.args in
     let pre-here = c.before.before.before.before.before.before.before.before.before.before.before.before.before.before.before.before.before.before.before.requires in
     let loop = c.before.before.before.before.before.before.before.before.before.before.before.loop in
@@ -176,10 +176,10 @@ word-of-requires c κs =
     let step = loop.invariant in
     let h : i - 1 < length a.kinds.now = omega (arith, step.inside, loop-test.true) in
     let next = step_down a.order a.base.0 l a.out.now loop.out loop.rest i (omega (arith, loop-test.true)) step in
-    omega (arith, kind-below l pre.0.input (i - 1) h)
+    omega (arith, kind_below l pre.0.input (i - 1) h)
 
-mul-t20 : tie.Need-overflow-mul-t20 invariant-loop decreases-loop
-mul-t20 c =
+mul_t20 : tie.Need-overflow-mul-t20 invariant_loop decreases_loop
+mul_t20 c =
     let args = c.before.before.before.before.before.before.before.before.before.before.before.before.before.before.before.before.before.before.before.before.before.args in
     let pre-here = c.before.before.before.before.before.before.before.before.before.before.before.before.before.before.before.before.before.before.before.before.before.requires in
     let loop = c.before.before.before.before.before.before.before.before.before.before.before.before.before.loop in
@@ -187,8 +187,8 @@ mul-t20 c =
     let l = listed args.kinds.now args.operands.now in
     omega (arith, loop.invariant.inside, loop-test.true, (some_item l pre-here.0.input).1)
 
-shared-slice-read-t22 : tie.Need-shared-slice-read-t22 invariant-loop decreases-loop
-shared-slice-read-t22 c =
+shared_slice_read_t22 : tie.Need-shared-slice-read-t22 invariant_loop decreases_loop
+shared_slice_read_t22 c =
     let pre-here =
     c.before.before.before.before.before.before.before.before.before.before.before.before.before.before.before.before.before.before.before.before.before.before.requires
     in
@@ -196,8 +196,8 @@ shared-slice-read-t22 c =
     let loop-test = c.before.before.before.before.before.before.before.before.before.before.before.before.before.loop-test in
     omega (arith, loop.invariant.inside, loop-test.true, pre-here.1.0.1)
 
-put-opened-requires : tie.Need-put-opened-requires invariant-loop decreases-loop
-put-opened-requires c κs =
+put_opened_requires : tie.Need-put-opened-requires invariant_loop decreases_loop
+put_opened_requires c κs =
     let args =
     c.before.before.before.before.before.before.before.before.before.before.before.before.before.before.before.before.before.before.before.before.before.before.args
     in
@@ -214,15 +214,15 @@ put-opened-requires c κs =
     let step = loop.invariant in
     let h : i - 1 < length a.kinds.now = omega (arith, step.inside, loop-test.true) in
     let next = step_down a.order a.base.0 l a.out.now loop.out loop.rest i (omega (arith, loop-test.true)) step in
-    rw put-operand.auto.1.0 (open-room a.order a.base.0 l a.out.now pre.1.1.1.1.1 loop.out loop.rest
+    rw put-operand.auto.1.0 (open_room a.order a.base.0 l a.out.now pre.1.1.1.1.1 loop.out loop.rest
     (i - 1) h next (get_or a.lefts.now (i - 1) 0) (get_or a.ats.now (i - 1) 0) (some_item l pre.0.input).1 (pre.1.1.1.0.at (i - 1) h))
 
-loop-less : tie.Need-loop-smaller invariant-loop decreases-loop
-loop-less c = omega arith
+loop_less : tie.Need-loop-smaller invariant_loop decreases_loop
+loop_less c = omega arith
 
-loop-again : tie.Need-loop-preserved invariant-loop decreases-loop
+loop_again : tie.Need-loop-preserved invariant_loop decreases_loop
 unfolding flagged
-loop-again c =
+loop_again c =
     let args =
     c.before.before.before.before.before.before.before.before.before.before.before.before.before.before.before.before.before.before.before.before.before.before.before.before.before.args
     in
@@ -242,52 +242,52 @@ loop-again c =
     let step = loop.invariant in
     let h : i - 1 < length a.kinds.now = omega (arith, step.inside, loop-test.true) in
     let next = step_down a.order a.base.0 l a.out.now loop.out loop.rest i (omega (arith, loop-test.true)) step in
-    let g = pack-item.ensures.0 ∙ form-is a.base.0 l pre.0.input a.marks.now a.ats.now a.nexts.now a.lefts.now pre.1.1.1.0 pre.1.1.0 (i - 1) h in
+    let g = pack-item.ensures.0 ∙ form_is a.base.0 l pre.0.input a.marks.now a.ats.now a.nexts.now a.lefts.now pre.1.1.1.0 pre.1.1.0 (i - 1) h in
     write_step a.order a.base.0 l a.out.now pre.1.1.1.1.1 loop.out loop.rest (i - 1) h next pack-item.result.form pack-item.result.value (get_or a.lefts.now (i - 1) 0)
     (get_or a.ats.now (i - 1) 0) (get_or a.nexts.now (i - 1) 0) word_of.result put-opened.result
-    put-operand.new.1.0 put-opened.new.1.0 g (pack-item.ensures.1 ∙ value-is a.base.0 l pre.0.input a.marks.now a.ats.now a.nexts.now a.lefts.now pre.1.1.1.0 pre.1.1.0 (i - 1) h pack-item.result.form g)
+    put-operand.new.1.0 put-opened.new.1.0 g (pack-item.ensures.1 ∙ value_is a.base.0 l pre.0.input a.marks.now a.ats.now a.nexts.now a.lefts.now pre.1.1.1.0 pre.1.1.0 (i - 1) h pack-item.result.form g)
     (pre.1.1.1.0.left (i - 1) h) (pre.1.1.1.0.at (i - 1) h) (pre.1.1.1.0.next (i - 1) h) word_of.ensures
     put-opened.ensures.0 put-operand.ensures put-opened.ensures.1
     (put-opened.auto.1.0 ∙ put-operand.auto.1.0)
 
-same_length : tie.Need-same-length invariant-loop decreases-loop
+same_length : tie.Need-same-length invariant_loop decreases_loop
 same_length c = c.before.loop.invariant.size
 
-returns : tie.Need-returns invariant-loop decreases-loop
+returns : tie.Need-returns invariant_loop decreases_loop
 returns c =
     let args = c.before.before.before.before.before.before.before.before.before.args in
     let pre-here = c.before.before.before.before.before.before.before.before.before.requires in
     let a = args in
     let pre = pre-here in
     let l = listed a.kinds.now a.operands.now in
-    write-end a.order a.base.0 l a.out.now pre.1.1.1.1.1 c.before.loop.out c.before.loop.rest c.before.loop.i (omega (
+    write_end a.order a.base.0 l a.out.now pre.1.1.1.1.1 c.before.loop.out c.before.loop.rest c.before.loop.i (omega (
       arith,
       c.loop-test.false,
     )) c.before.loop.invariant
 
-pub write-image-spec : {M : Type 1} → statement M
-write-image-spec =
+pub write_image_spec : {M : Type 1} → statement M
+write_image_spec =
     tie.close
     (tie.spec
-    invariant-loop
-    decreases-loop
-    loop-holds
-    sub-i
-    mul-f
-    shared-slice-read-f
-    mul-pack-item
-    shared-slice-read-pack-item
-    shared-slice-read-kind
-    shared-slice-read-pack-item-2
-    mul-pack-item-2
-    shared-slice-read-pack-item-3
-    pack-item-requires
-    put-operand-requires
-    word-of-requires
-    mul-t20
-    shared-slice-read-t22
-    put-opened-requires
-    loop-less
-    loop-again
+    invariant_loop
+    decreases_loop
+    loop_holds
+    sub_i
+    mul_f
+    shared_slice_read_f
+    mul_pack_item
+    shared_slice_read_pack_item
+    shared_slice_read_kind
+    shared_slice_read_pack_item_2
+    mul_pack_item_2
+    shared_slice_read_pack_item_3
+    pack_item_requires
+    put_operand_requires
+    word_of_requires
+    mul_t20
+    shared_slice_read_t22
+    put_opened_requires
+    loop_less
+    loop_again
     same_length
     returns)

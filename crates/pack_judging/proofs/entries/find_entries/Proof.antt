@@ -7,14 +7,14 @@ use borrow.Author.Rules.{rules}
 use Rattle.pack_judging.proofs.entries.find_entries.Statement.{statement}
 use Rattle.pack_judging.proofs.entries.find_entries.Tie as tie
 
-after-calls-requires : tie.Need-after-calls-requires
-after-calls-requires c κs =
+after_calls_requires : tie.Need-after-calls-requires
+after_calls_requires c κs =
     let args = c.before.before.before.before.args in
     let pre-here = c.before.before.before.before.requires in
     ((some_item (listed args.kinds.now args.operands.now) pre-here.0.input).0, pre-here.1)
 
-add-targets-requires : tie.Need-add-targets-requires
-add-targets-requires c κs =
+add_targets_requires : tie.Need-add-targets-requires
+add_targets_requires c κs =
     let pre-here = c.before.before.before.before.before.before.before.before.requires in
     let after-calls = c.before.before.before.after-calls in
     (pre-here.0, (after-calls.auto.1.0 ∙ pre-here.1, after-calls.ensures))
@@ -25,6 +25,6 @@ same_length c = search rules
 returns : tie.Need-returns
 returns c = search rules
 
-pub find-entries-spec : {M : Type 1} → statement M
-find-entries-spec =
-    tie.close (tie.spec after-calls-requires add-targets-requires same_length returns)
+pub find_entries_spec : {M : Type 1} → statement M
+find_entries_spec =
+    tie.close (tie.spec after_calls_requires add_targets_requires same_length returns)

@@ -7,8 +7,8 @@ use Rattle.pack_judging.proofs.entries.is_call.Statement.{statement}
 returns : tie.Need-returns
 returns c = call_below _ c.if1.true
 
-returns-2 : tie.Need-returns-2
-returns-2 c = call_from _ c.if1.false
+returns_2 : tie.Need-returns-2
+returns_2 c = call_from _ c.if1.false
 
-pub is-call-spec : {M : Type 1} → statement M
-is-call-spec = tie.close (tie.spec returns returns-2)
+pub is_call_spec : {M : Type 1} → statement M
+is_call_spec = tie.close (tie.spec returns returns_2)

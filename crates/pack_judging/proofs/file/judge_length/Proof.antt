@@ -8,24 +8,24 @@ use Rattle.pack_judging.proofs.file.judge_length.Tie as tie
 returns : tie.Need-returns
 returns c = simp (lt-ltb _ _ c.if1.true)
 
-cell-at-requires : tie.Need-cell-at-requires
-cell-at-requires c κs = search rules
+cell_at_requires : tie.Need-cell-at-requires
+cell_at_requires c κs = search rules
 
-cast-k : tie.Need-overflow-cast-k
-cast-k c = search rules
+cast_k : tie.Need-overflow-cast-k
+cast_k c = search rules
 
-mul-if2 : tie.Need-overflow-mul-if2
-mul-if2 c = search rules
+mul_if2 : tie.Need-overflow-mul-if2
+mul_if2 c = search rules
 
-add-if2 : tie.Need-overflow-add-if2
-add-if2 c = search rules
+add_if2 : tie.Need-overflow-add-if2
+add_if2 c = search rules
 
-returns-2 : tie.Need-returns-2
-returns-2 c = simp (le-ltb _ _ c.before.before.if1.false, ← c.before.Cell-at.ensures, ne_eqb _ _ c.if2.true)
+returns_2 : tie.Need-returns-2
+returns_2 c = simp (le-ltb _ _ c.before.before.if1.false, ← c.before.Cell-at.ensures, ne_eqb _ _ c.if2.true)
 
-returns-3 : tie.Need-returns-3
-returns-3 c = simp (le-ltb _ _ c.before.before.if1.false, ← c.before.Cell-at.ensures, eq-eqb _ _ c.if2.false)
+returns_3 : tie.Need-returns-3
+returns_3 c = simp (le-ltb _ _ c.before.before.if1.false, ← c.before.Cell-at.ensures, eq-eqb _ _ c.if2.false)
 
-pub judge-length-spec : {M : Type 1} → statement M
-judge-length-spec =
-    tie.close (tie.spec returns cell-at-requires cast-k mul-if2 add-if2 returns-2 returns-3)
+pub judge_length_spec : {M : Type 1} → statement M
+judge_length_spec =
+    tie.close (tie.spec returns cell_at_requires cast_k mul_if2 add_if2 returns_2 returns_3)

@@ -6,27 +6,27 @@ use mathlib.Core.Path.{sym, ◌∙◌}
 use Rattle.pack_refusals.proofs.Judging.{last_one}
 use Rattle.pack_refusals.specs.Judgement as judgement
 
-judge-place-requires : tie.Need-judge-place-requires
-judge-place-requires c κs = search rules
+judge_place_requires : tie.Need-judge-place-requires
+judge_place_requires c κs = search rules
 
-enum-known-r : tie.Need-enum-known-r
-enum-known-r c = search rules
+enum_known_r : tie.Need-enum-known-r
+enum_known_r c = search rules
 
 enum_told : tie.Need-enum-told
 enum_told c = search rules
 
-judge-room-requires : tie.Need-judge-room-requires
-judge-room-requires c κs = search rules
+judge_room_requires : tie.Need-judge-room-requires
+judge_room_requires c κs = search rules
 
 returns : tie.Need-returns
-unfolding judgement.judgeImage
+unfolding judgement.judge_image
 returns c = rw (sym c.before.before.before.judge-place.ensures ∙ c.before.r.given.1)
 
-returns-2 : tie.Need-returns-2
-unfolding judgement.judgeImage
-returns-2 c = rw (sym c.before.before.before.judge-place.ensures ∙ c.before.enum_told.given.1) (c.judge-room.ensures ∙ sym (last_one _))
+returns_2 : tie.Need-returns-2
+unfolding judgement.judge_image
+returns_2 c = rw (sym c.before.before.before.judge-place.ensures ∙ c.before.enum_told.given.1) (c.judge-room.ensures ∙ sym (last_one _))
 
-pub judge-image-spec : {M : Type 1} → statement M
-judge-image-spec =
+pub judge_image_spec : {M : Type 1} → statement M
+judge_image_spec =
     tie.close
-    (tie.spec judge-place-requires enum-known-r enum_told judge-room-requires returns returns-2)
+    (tie.spec judge_place_requires enum_known_r enum_told judge_room_requires returns returns_2)

@@ -6,27 +6,27 @@ use mathlib.Core.Path.{sym, ◌∙◌}
 use Rattle.pack_refusals.proofs.Judging.{last_one}
 use Rattle.pack_refusals.specs.Judgement as judgement
 
-judge-order-requires : tie.Need-judge-order-requires
-judge-order-requires c κs = search rules
+judge_order_requires : tie.Need-judge-order-requires
+judge_order_requires c κs = search rules
 
-enum-known-r : tie.Need-enum-known-r
-enum-known-r c = search rules
+enum_known_r : tie.Need-enum-known-r
+enum_known_r c = search rules
 
 enum_told : tie.Need-enum-told
 enum_told c = search rules
 
-judge-arrays-requires : tie.Need-judge-arrays-requires
-judge-arrays-requires c κs = search rules
+judge_arrays_requires : tie.Need-judge-arrays-requires
+judge_arrays_requires c κs = search rules
 
 returns : tie.Need-returns
-unfolding judgement.judgeInput
+unfolding judgement.judge_input
 returns c = rw (sym c.before.before.before.judge-order.ensures ∙ c.before.r.given.1)
 
-returns-2 : tie.Need-returns-2
-unfolding judgement.judgeInput
-returns-2 c = rw (sym c.before.before.before.judge-order.ensures ∙ c.before.enum_told.given.1) (c.judge-arrays.ensures ∙ sym (last_one _))
+returns_2 : tie.Need-returns-2
+unfolding judgement.judge_input
+returns_2 c = rw (sym c.before.before.before.judge-order.ensures ∙ c.before.enum_told.given.1) (c.judge-arrays.ensures ∙ sym (last_one _))
 
-pub judge-input-spec : {M : Type 1} → statement M
-judge-input-spec =
+pub judge_input_spec : {M : Type 1} → statement M
+judge_input_spec =
     tie.close
-    (tie.spec judge-order-requires enum-known-r enum_told judge-arrays-requires returns returns-2)
+    (tie.spec judge_order_requires enum_known_r enum_told judge_arrays_requires returns returns_2)

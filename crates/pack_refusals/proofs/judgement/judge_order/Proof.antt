@@ -5,12 +5,12 @@ use borrow.Author.Tests.{lt-ltb, le-ltb}
 use Rattle.pack_refusals.specs.Judgement as judgement
 
 returns : tie.Need-returns
-unfolding judgement.judgeOrder
+unfolding judgement.judge_order
 returns c = simp (lt-ltb _ _ c.if1.true)
 
-returns-2 : tie.Need-returns-2
-unfolding judgement.judgeOrder
-returns-2 c = simp (le-ltb _ _ c.if1.false)
+returns_2 : tie.Need-returns-2
+unfolding judgement.judge_order
+returns_2 c = simp (le-ltb _ _ c.if1.false)
 
-pub judge-order-spec : {M : Type 1} → statement M
-judge-order-spec = tie.close (tie.spec returns returns-2)
+pub judge_order_spec : {M : Type 1} → statement M
+judge_order_spec = tie.close (tie.spec returns returns_2)

@@ -8,66 +8,66 @@ use Rattle.pack_rounds.proofs.measure.value_of.Statement.{statement}
 enum_told : tie.Need-enum-told
 enum_told c = search rules
 
-enum-told-2 : tie.Need-enum-told-2
-enum-told-2 c = search rules
+enum_told_2 : tie.Need-enum-told-2
+enum_told_2 c = search rules
 
-enum-told-3 : tie.Need-enum-told-3
-enum-told-3 c = search rules
+enum_told_3 : tie.Need-enum-told-3
+enum_told_3 c = search rules
 
-enum-told-4 : tie.Need-enum-told-4
-enum-told-4 c = search rules
+enum_told_4 : tie.Need-enum-told-4
+enum_told_4 c = search rules
 
-enum-told-5 : tie.Need-enum-told-5
-enum-told-5 c = search rules
+enum_told_5 : tie.Need-enum-told-5
+enum_told_5 c = search rules
 
-distance-of-requires : tie.Need-distance-of-requires
-distance-of-requires c κs = search rules
+distance_of_requires : tie.Need-distance-of-requires
+distance_of_requires c κs = search rules
 
-enum-told-6 : tie.Need-enum-told-6
-enum-told-6 c = search rules
+enum_told_6 : tie.Need-enum-told-6
+enum_told_6 c = search rules
 
-address-at-requires : tie.Need-address-at-requires
-address-at-requires c κs = search rules
+address_at_requires : tie.Need-address-at-requires
+address_at_requires c κs = search rules
 
-enum-told-7 : tie.Need-enum-told-7
-enum-told-7 c = search rules
+enum_told_7 : tie.Need-enum-told-7
+enum_told_7 c = search rules
 
 returns : tie.Need-returns
 returns c = search rules
 
-returns-2 : tie.Need-returns-2
-returns-2 c = search rules
+returns_2 : tie.Need-returns-2
+returns_2 c = search rules
 
-returns-3 : tie.Need-returns-3
-returns-3 c = search rules
+returns_3 : tie.Need-returns-3
+returns_3 c = search rules
 
-returns-4 : tie.Need-returns-4
-returns-4 c = simp (c.before.before.before.enum-told3.given.1, c.before.enum-told5.given.1) c.distance-of.ensures
+returns_4 : tie.Need-returns-4
+returns_4 c = simp (c.before.before.before.enum-told3.given.1, c.before.enum-told5.given.1) c.distance-of.ensures
 
-returns-5 : tie.Need-returns-5
-returns-5 c =
+returns_5 : tie.Need-returns-5
+returns_5 c =
     simp (c.before.before.before.enum-told3.given.1, c.before.enum-told6.given.1)
     (ap (λ (a : Address). a.0) c.address-at.ensures)
 
-returns-6 : tie.Need-returns-6
-returns-6 c = search rules
+returns_6 : tie.Need-returns-6
+returns_6 c = search rules
 
-pub value-of-spec : {M : Type 1} → statement M
-value-of-spec =
+pub value_of_spec : {M : Type 1} → statement M
+value_of_spec =
     tie.close
     (tie.spec
     enum_told
-    enum-told-2
-    enum-told-3
-    enum-told-4
-    enum-told-5
-    distance-of-requires
-    enum-told-6
-    address-at-requires
-    enum-told-7
+    enum_told_2
+    enum_told_3
+    enum_told_4
+    enum_told_5
+    distance_of_requires
+    enum_told_6
+    address_at_requires
+    enum_told_7
     returns
-    returns-2
-    returns-3
-    returns-4
-    returns-5
-    returns-6)
+    returns_2
+    returns_3
+    returns_4
+    returns_5
+    returns_6)

@@ -4,48 +4,48 @@ use Rattle.std.proofs.Common.{◌-◌, length, sym, ◌∙◌, rules}
 use borrow.Author.Tests.{not-false, not-true}
 use Rattle.pack_layout.specs.Flags.{flagged}
 use Rattle.pack_layout.proofs.Rounds.{count}
-use Rattle.pack_rounds.proofs.Settling.{RoundStep, round-start, round-step, round-less, marks-before, marks-after}
+use Rattle.pack_rounds.proofs.Settling.{RoundStep, round_start, round_step, round_less, marks_before, marks_after}
 use Rattle.pack_rounds.proofs.settle.settle_marks.Statement.{statement}
 use Rattle.pack_rounds.proofs.settle.settle_marks.Tie as tie
 
-abbrev invariant-loop : tie.invariant-loop
-invariant-loop kinds operands entries marks₀ ats₀ nexts₀ lefts₀ marks ats nexts lefts =
+abbrev invariant_loop : tie.invariant_loop
+invariant_loop kinds operands entries marks₀ ats₀ nexts₀ lefts₀ marks ats nexts lefts =
     RoundStep kinds operands marks ats nexts lefts
 
-abbrev decreases-loop : tie.decreases-loop
-decreases-loop kinds operands entries marks₀ ats₀ nexts₀ lefts₀ marks ats nexts lefts = length kinds - count (flagged marks) (length kinds)
+abbrev decreases_loop : tie.decreases_loop
+decreases_loop kinds operands entries marks₀ ats₀ nexts₀ lefts₀ marks ats nexts lefts = length kinds - count (flagged marks) (length kinds)
 
-clear-requires : tie.Need-clear-requires invariant-loop decreases-loop
-clear-requires c κs = search rules
+clear_requires : tie.Need-clear-requires invariant_loop decreases_loop
+clear_requires c κs = search rules
 
-loop-holds : tie.Need-loop-init invariant-loop decreases-loop
-loop-holds c =
+loop_holds : tie.Need-loop-init invariant_loop decreases_loop
+loop_holds c =
     let args = c.before.before.before.before.before.before.before.before.before.before.before.args in
     let clear = c.before.before.clear in
     let pre-here = c.before.before.before.before.before.before.before.before.before.before.before.requires in
-    round-start args.kinds.now args.operands.now clear.new.0 args.ats.now args.nexts.now args.lefts.now
+    round_start args.kinds.now args.operands.now clear.new.0 args.ats.now args.nexts.now args.lefts.now
     clear.ensures (clear.auto.0 ∙ pre-here.1.0.1) pre-here.1.1.0
 
-lay-out-requires : tie.Need-lay-out-requires invariant-loop decreases-loop
-lay-out-requires c κs =
+lay_out_requires : tie.Need-lay-out-requires invariant_loop decreases_loop
+lay_out_requires c κs =
     let pre-here = c.before.before.before.before.before.before.before.before.before.before.before.before.before.before.before.before.requires in
     let loop = c.before.before.before.before.loop in (
       pre-here.0,
       (
-        (pre-here.1.0.0, loop.invariant.flags-length),
+        (pre-here.1.0.0, loop.invariant.flags_length),
         (
           (
-            loop.invariant.ats-length,
-            loop.invariant.nexts-length,
-            loop.invariant.lefts-length,
+            loop.invariant.ats_length,
+            loop.invariant.nexts_length,
+            loop.invariant.lefts_length,
           ),
           pre-here.1.1.1,
         ),
       ),
     )
 
-mark-branches-requires : tie.Need-mark-branches-requires invariant-loop decreases-loop
-mark-branches-requires c κs =
+mark_branches_requires : tie.Need-mark-branches-requires invariant_loop decreases_loop
+mark_branches_requires c κs =
     let pre-here =
     c.before.before.before.before.before.before.before.before.before.before.before.before.before.before.before.before.before.before.before.before.before.before.before.before.before.before.before.requires
     in
@@ -54,74 +54,74 @@ mark-branches-requires c κs =
       pre-here.0,
       (
         (
-          lay-out.auto.1.1.1.1.0 ∙ loop.invariant.ats-length,
-          lay-out.auto.1.1.1.1.1.0 ∙ loop.invariant.nexts-length,
-          lay-out.auto.1.1.1.1.1.1.0 ∙ loop.invariant.lefts-length,
+          lay-out.auto.1.1.1.1.0 ∙ loop.invariant.ats_length,
+          lay-out.auto.1.1.1.1.1.0 ∙ loop.invariant.nexts_length,
+          lay-out.auto.1.1.1.1.1.1.0 ∙ loop.invariant.lefts_length,
         ),
-        (loop.invariant.flags-length, lay-out.ensures.1),
+        (loop.invariant.flags_length, lay-out.ensures.1),
       ),
     )
 
-loop-less : tie.Need-loop-smaller invariant-loop decreases-loop
-loop-less c =
+loop_less : tie.Need-loop-smaller invariant_loop decreases_loop
+loop_less c =
     let args =
     c.before.before.before.before.before.before.before.before.before.before.before.before.before.before.before.before.before.before.before.before.before.before.before.before.before.before.before.before.before.before.before.args
     in
     let loop = c.before.before.before.before.before.before.before.before.before.before.before.before.before.before.before.before.before.before.before.loop in
     let mark-branches = c.before.before.before.mark-branches in
-    round-less args.kinds.now args.operands.now loop.marks loop.ats loop.nexts loop.lefts loop.invariant
+    round_less args.kinds.now args.operands.now loop.marks loop.ats loop.nexts loop.lefts loop.invariant
     mark-branches.new.1.1.1.1.1.0 mark-branches.result mark-branches.ensures.0 mark-branches.ensures.1
-    (mark-branches.auto.1.1.1.1.1.0 ∙ loop.invariant.flags-length) (not-false _ c.if1.false)
+    (mark-branches.auto.1.1.1.1.1.0 ∙ loop.invariant.flags_length) (not-false _ c.if1.false)
 
-loop-again : tie.Need-loop-preserved invariant-loop decreases-loop
-loop-again c =
+loop_again : tie.Need-loop-preserved invariant_loop decreases_loop
+loop_again c =
     let args =
     c.before.before.before.before.before.before.before.before.before.before.before.before.before.before.before.before.before.before.before.before.before.before.before.before.before.before.before.before.before.before.before.args
     in
     let loop = c.before.before.before.before.before.before.before.before.before.before.before.before.before.before.before.before.before.before.before.loop in
     let mark-branches = c.before.before.before.mark-branches in
     let lay-out = c.before.before.before.before.before.before.before.before.before.before.before.before.before.before.lay-out in
-    round-step args.kinds.now args.operands.now loop.marks loop.ats loop.nexts loop.lefts loop.invariant
+    round_step args.kinds.now args.operands.now loop.marks loop.ats loop.nexts loop.lefts loop.invariant
     mark-branches.new.1.1.1.1.1.0 mark-branches.result mark-branches.ensures.0 mark-branches.ensures.1
-    (mark-branches.auto.1.1.1.1.1.0 ∙ loop.invariant.flags-length) (not-false _ c.if1.false) lay-out.new.1.1.1.1.0 lay-out.new.1.1.1.1.1.0 lay-out.new.1.1.1.1.1.1.0 lay-out.auto.1.1.1.1.0 lay-out.auto.1.1.1.1.1.0 lay-out.auto.1.1.1.1.1.1.0
+    (mark-branches.auto.1.1.1.1.1.0 ∙ loop.invariant.flags_length) (not-false _ c.if1.false) lay-out.new.1.1.1.1.0 lay-out.new.1.1.1.1.1.0 lay-out.new.1.1.1.1.1.1.0 lay-out.auto.1.1.1.1.0 lay-out.auto.1.1.1.1.1.0 lay-out.auto.1.1.1.1.1.1.0
 
-same_length : tie.Need-same-length invariant-loop decreases-loop
+same_length : tie.Need-same-length invariant_loop decreases_loop
 same_length c =
     let mark-branches = c.before.before.before.mark-branches in
     let loop = c.before.before.before.before.before.before.before.before.before.before.before.before.before.before.before.before.before.before.before.loop in
     let pre-here =
     c.before.before.before.before.before.before.before.before.before.before.before.before.before.before.before.before.before.before.before.before.before.before.before.before.before.before.before.before.before.before.before.requires
     in
-    mark-branches.auto.1.1.1.1.1.0 ∙ loop.invariant.flags-length ∙ sym pre-here.1.0.1
+    mark-branches.auto.1.1.1.1.1.0 ∙ loop.invariant.flags_length ∙ sym pre-here.1.0.1
 
-same-length-2 : tie.Need-same-length-2 invariant-loop decreases-loop
-same-length-2 c =
+same_length_2 : tie.Need-same-length-2 invariant_loop decreases_loop
+same_length_2 c =
     let lay-out = c.before.before.before.before.before.before.before.before.before.before.before.before.before.before.lay-out in
     let loop = c.before.before.before.before.before.before.before.before.before.before.before.before.before.before.before.before.before.before.before.loop in
     let pre-here =
     c.before.before.before.before.before.before.before.before.before.before.before.before.before.before.before.before.before.before.before.before.before.before.before.before.before.before.before.before.before.before.before.requires
     in
-    lay-out.auto.1.1.1.1.0 ∙ loop.invariant.ats-length ∙ sym pre-here.1.1.0.0
+    lay-out.auto.1.1.1.1.0 ∙ loop.invariant.ats_length ∙ sym pre-here.1.1.0.0
 
-same-length-3 : tie.Need-same-length-3 invariant-loop decreases-loop
-same-length-3 c =
+same_length_3 : tie.Need-same-length-3 invariant_loop decreases_loop
+same_length_3 c =
     let lay-out = c.before.before.before.before.before.before.before.before.before.before.before.before.before.before.lay-out in
     let loop = c.before.before.before.before.before.before.before.before.before.before.before.before.before.before.before.before.before.before.before.loop in
     let pre-here =
     c.before.before.before.before.before.before.before.before.before.before.before.before.before.before.before.before.before.before.before.before.before.before.before.before.before.before.before.before.before.before.before.requires
     in
-    lay-out.auto.1.1.1.1.1.0 ∙ loop.invariant.nexts-length ∙ sym pre-here.1.1.0.1
+    lay-out.auto.1.1.1.1.1.0 ∙ loop.invariant.nexts_length ∙ sym pre-here.1.1.0.1
 
-same-length-4 : tie.Need-same-length-4 invariant-loop decreases-loop
-same-length-4 c =
+same_length_4 : tie.Need-same-length-4 invariant_loop decreases_loop
+same_length_4 c =
     let lay-out = c.before.before.before.before.before.before.before.before.before.before.before.before.before.before.lay-out in
     let loop = c.before.before.before.before.before.before.before.before.before.before.before.before.before.before.before.before.before.before.before.loop in
     let pre-here =
     c.before.before.before.before.before.before.before.before.before.before.before.before.before.before.before.before.before.before.before.before.before.before.before.before.before.before.before.before.before.before.before.requires
     in
-    lay-out.auto.1.1.1.1.1.1.0 ∙ loop.invariant.lefts-length ∙ sym pre-here.1.1.0.2
+    lay-out.auto.1.1.1.1.1.1.0 ∙ loop.invariant.lefts_length ∙ sym pre-here.1.1.0.2
 
-returns : tie.Need-returns invariant-loop decreases-loop
+returns : tie.Need-returns invariant_loop decreases_loop
 returns c =
     let args =
     c.before.before.before.before.before.before.before.before.before.before.before.before.before.before.before.before.before.before.before.before.before.before.before.before.before.before.before.before.before.before.before.args
@@ -130,30 +130,30 @@ returns c =
     let mark-branches = c.before.before.before.mark-branches in
     let lay-out = c.before.before.before.before.before.before.before.before.before.before.before.before.before.before.lay-out in
     let q = not-true _ c.if1.true in
-    let e = marks-before args.kinds.now args.operands.now loop.marks loop.ats loop.nexts loop.lefts loop.invariant mark-branches.new.1.1.1.1.1.0 mark-branches.result mark-branches.ensures.0 mark-branches.ensures.1 (mark-branches.auto.1.1.1.1.1.0 ∙ loop.invariant.flags-length) q in (
+    let e = marks_before args.kinds.now args.operands.now loop.marks loop.ats loop.nexts loop.lefts loop.invariant mark-branches.new.1.1.1.1.1.0 mark-branches.result mark-branches.ensures.0 mark-branches.ensures.1 (mark-branches.auto.1.1.1.1.1.0 ∙ loop.invariant.flags_length) q in (
       rw e at lay-out.ensures.0,
       (
-        marks-after args.kinds.now args.operands.now loop.marks loop.ats loop.nexts loop.lefts loop.invariant
+        marks_after args.kinds.now args.operands.now loop.marks loop.ats loop.nexts loop.lefts loop.invariant
             mark-branches.new.1.1.1.1.1.0 mark-branches.result mark-branches.ensures.0 mark-branches.ensures.1
-            (mark-branches.auto.1.1.1.1.1.0 ∙ loop.invariant.flags-length) q,
+            (mark-branches.auto.1.1.1.1.1.0 ∙ loop.invariant.flags_length) q,
         rw e at lay-out.ensures.1,
       ),
     )
 
-pub settle-marks-spec : {M : Type 1} → statement M
-settle-marks-spec =
+pub settle_marks_spec : {M : Type 1} → statement M
+settle_marks_spec =
     tie.close
     (tie.spec
-    invariant-loop
-    decreases-loop
-    clear-requires
-    loop-holds
-    lay-out-requires
-    mark-branches-requires
-    loop-less
-    loop-again
+    invariant_loop
+    decreases_loop
+    clear_requires
+    loop_holds
+    lay_out_requires
+    mark_branches_requires
+    loop_less
+    loop_again
     same_length
-    same-length-2
-    same-length-3
-    same-length-4
+    same_length_2
+    same_length_3
+    same_length_4
     returns)

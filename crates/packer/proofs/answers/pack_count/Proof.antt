@@ -5,14 +5,14 @@ use Rattle.packer.proofs.answers.pack_count.Tie as tie
 enum_told : tie.Need-enum-told
 enum_told c = search rules
 
-enum-known-answer : tie.Need-enum-known-answer
-enum-known-answer c = search rules
+enum_known_answer : tie.Need-enum-known-answer
+enum_known_answer c = search rules
 
 returns : tie.Need-returns
 returns c = rw c.enum_told.given.1
 
-returns-2 : tie.Need-returns-2
-returns-2 c = rw c.before.answer.given.1
+returns_2 : tie.Need-returns-2
+returns_2 c = rw c.before.answer.given.1
 
-pub pack-count-spec : {M : Type 1} → statement M
-pack-count-spec = tie.close (tie.spec enum_told enum-known-answer returns returns-2)
+pub pack_count_spec : {M : Type 1} → statement M
+pack_count_spec = tie.close (tie.spec enum_told enum_known_answer returns returns_2)

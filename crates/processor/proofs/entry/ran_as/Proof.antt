@@ -6,44 +6,44 @@ use Rattle.processor.proofs.entry.ran_as.Tie as tie
 enum_told : tie.Need-enum-told
 enum_told c = search rules
 
-file-requires : tie.Need-file-requires
-file-requires c κs = search rules
+file_requires : tie.Need-file-requires
+file_requires c κs = search rules
 
-enum-told-2 : tie.Need-enum-told-2
-enum-told-2 c = search rules
+enum_told_2 : tie.Need-enum-told-2
+enum_told_2 c = search rules
 
-file-requires-2 : tie.Need-file-requires-2
-file-requires-2 c κs = search rules
+file_requires_2 : tie.Need-file-requires-2
+file_requires_2 c κs = search rules
 
-enum-known-ended : tie.Need-enum-known-ended
-enum-known-ended c = search rules
+enum_known_ended : tie.Need-enum-known-ended
+enum_known_ended c = search rules
 
-file-requires-3 : tie.Need-file-requires-3
-file-requires-3 c κs = search rules
+file_requires_3 : tie.Need-file-requires-3
+file_requires_3 c κs = search rules
 
-sub-t12 : tie.Need-overflow-sub-t12
-sub-t12 c = search rules
+sub_t12 : tie.Need-overflow-sub-t12
+sub_t12 c = search rules
 
 returns : tie.Need-returns
 returns c = rw (c.before.enum_told.given.1, c.file.ensures)
 
-returns-2 : tie.Need-returns-2
-returns-2 c = rw (c.before.enum-told2.given.1, c.file2.ensures)
+returns_2 : tie.Need-returns-2
+returns_2 c = rw (c.before.enum-told2.given.1, c.file2.ensures)
 
-returns-3 : tie.Need-returns-3
-returns-3 c = rw (c.before.before.before.ended.given.1, c.before.file3.ensures)
+returns_3 : tie.Need-returns-3
+returns_3 c = rw (c.before.before.before.ended.given.1, c.before.file3.ensures)
 
-pub ran-as-spec : {M : Type 1} → statement M
-ran-as-spec =
+pub ran_as_spec : {M : Type 1} → statement M
+ran_as_spec =
     tie.close
     (tie.spec
     enum_told
-    file-requires
-    enum-told-2
-    file-requires-2
-    enum-known-ended
-    file-requires-3
-    sub-t12
+    file_requires
+    enum_told_2
+    file_requires_2
+    enum_known_ended
+    file_requires_3
+    sub_t12
     returns
-    returns-2
-    returns-3)
+    returns_2
+    returns_3)

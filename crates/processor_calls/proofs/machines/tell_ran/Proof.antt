@@ -3,29 +3,29 @@ use borrow.Author.Rules.{rules}
 use Rattle.processor_calls.proofs.machines.tell_ran.Statement.{statement}
 use Rattle.processor_calls.proofs.machines.tell_ran.Tie as tie
 
-enum-known-answer : tie.Need-enum-known-answer
-enum-known-answer c = search rules
+enum_known_answer : tie.Need-enum-known-answer
+enum_known_answer c = search rules
 
-refusal-number-requires : tie.Need-refusal-number-requires
-refusal-number-requires c κs = search rules
+refusal_number_requires : tie.Need-refusal-number-requires
+refusal_number_requires c κs = search rules
 
-enum-known-answer-2 : tie.Need-enum-known-answer-2
-enum-known-answer-2 c = search rules
+enum_known_answer_2 : tie.Need-enum-known-answer-2
+enum_known_answer_2 c = search rules
 
-write-registers-requires : tie.Need-write-registers-requires
-write-registers-requires c κs = search rules
+write_registers_requires : tie.Need-write-registers-requires
+write_registers_requires c κs = search rules
 
-write-two-requires : tie.Need-write-two-requires
-write-two-requires c κs = search rules
+write_two_requires : tie.Need-write-two-requires
+write_two_requires c κs = search rules
 
-enum-known-answer-3 : tie.Need-enum-known-answer-3
-enum-known-answer-3 c = search rules
+enum_known_answer_3 : tie.Need-enum-known-answer-3
+enum_known_answer_3 c = search rules
 
-write-registers-requires-2 : tie.Need-write-registers-requires-2
-write-registers-requires-2 c κs = search rules
+write_registers_requires_2 : tie.Need-write-registers-requires-2
+write_registers_requires_2 c κs = search rules
 
-write-two-requires-2 : tie.Need-write-two-requires-2
-write-two-requires-2 c κs = search rules
+write_two_requires_2 : tie.Need-write-two-requires-2
+write_two_requires_2 c κs = search rules
 
 returns : tie.Need-returns
 returns c = rw (c.before.before.answer.given.1, c.refusal-number.ensures)
@@ -33,47 +33,47 @@ returns c = rw (c.before.before.answer.given.1, c.refusal-number.ensures)
 same_length : tie.Need-same-length
 same_length c = search rules
 
-same-length-2 : tie.Need-same-length-2
-same-length-2 c = search rules
+same_length_2 : tie.Need-same-length-2
+same_length_2 c = search rules
 
-returns-2 : tie.Need-returns-2
-returns-2 c =
+returns_2 : tie.Need-returns-2
+returns_2 c =
     rw (
       c.before.before.before.before.before.before.before.before.before.answer2.given.1,
       c.before.before.before.before.before.before.write-registers.ensures,
       c.before.before.write_two.ensures,
     )
 
-same-length-3 : tie.Need-same-length-3
-same-length-3 c = search rules
+same_length_3 : tie.Need-same-length-3
+same_length_3 c = search rules
 
-same-length-4 : tie.Need-same-length-4
-same-length-4 c = search rules
+same_length_4 : tie.Need-same-length-4
+same_length_4 c = search rules
 
-returns-3 : tie.Need-returns-3
-returns-3 c =
+returns_3 : tie.Need-returns-3
+returns_3 c =
     rw (
       c.before.before.before.before.before.before.before.before.before.answer3.given.1,
       c.before.before.before.before.before.before.write-registers2.ensures,
       c.before.before.write-two2.ensures,
     )
 
-pub tell-ran-spec : {M : Type 1} → statement M
-tell-ran-spec =
+pub tell_ran_spec : {M : Type 1} → statement M
+tell_ran_spec =
     tie.close
     (tie.spec
-    enum-known-answer
-    refusal-number-requires
-    enum-known-answer-2
-    write-registers-requires
-    write-two-requires
-    enum-known-answer-3
-    write-registers-requires-2
-    write-two-requires-2
+    enum_known_answer
+    refusal_number_requires
+    enum_known_answer_2
+    write_registers_requires
+    write_two_requires
+    enum_known_answer_3
+    write_registers_requires_2
+    write_two_requires_2
     returns
     same_length
-    same-length-2
-    returns-2
-    same-length-3
-    same-length-4
-    returns-3)
+    same_length_2
+    returns_2
+    same_length_3
+    same_length_4
+    returns_3)

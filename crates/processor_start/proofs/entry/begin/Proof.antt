@@ -4,23 +4,23 @@ use Rattle.processor_start.proofs.entry.begin.Statement.{statement}
 use Rattle.processor_start.proofs.entry.begin.Tie as tie
 use Rattle.processor_start.specs.Starting as starting
 
-cast-length : tie.Need-overflow-cast-length
-cast-length c = search rules
+cast_length : tie.Need-overflow-cast-length
+cast_length c = search rules
 
-store-requires : tie.Need-store-requires
-store-requires c κs = search rules
+store_requires : tie.Need-store-requires
+store_requires c κs = search rules
 
-store-requires-2 : tie.Need-store-requires-2
-store-requires-2 c κs = search rules
+store_requires_2 : tie.Need-store-requires-2
+store_requires_2 c κs = search rules
 
-store-requires-3 : tie.Need-store-requires-3
-store-requires-3 c κs = search rules
+store_requires_3 : tie.Need-store-requires-3
+store_requires_3 c κs = search rules
 
-store-requires-4 : tie.Need-store-requires-4
-store-requires-4 c κs = search rules
+store_requires_4 : tie.Need-store-requires-4
+store_requires_4 c κs = search rules
 
-next-requires : tie.Need-next-requires
-next-requires c κs = search rules
+next_requires : tie.Need-next-requires
+next_requires c κs = search rules
 
 same_length : tie.Need-same-length
 same_length c = search rules
@@ -34,15 +34,15 @@ returns c =
     c.before.before.before.before.before.before.before.before.before.before.store3.ensures) (rw (←
     c.before.before.before.before.before.before.store4.ensures) c.before.before.next.ensures)))
 
-pub begin-spec : {M : Type 1} → statement M
-begin-spec =
+pub begin_spec : {M : Type 1} → statement M
+begin_spec =
     tie.close
     (tie.spec
-    cast-length
-    store-requires
-    store-requires-2
-    store-requires-3
-    store-requires-4
-    next-requires
+    cast_length
+    store_requires
+    store_requires_2
+    store_requires_3
+    store_requires_4
+    next_requires
     same_length
     returns)

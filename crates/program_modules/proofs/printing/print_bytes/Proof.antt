@@ -5,43 +5,43 @@ use native.Mathlib.Omega.{arith}
 use lib.ListN.{length}
 use Prim.Native.Nat.{◌≤◌, ◌-◌}
 
-abbrev invariant-loop : tie.invariant-loop
-invariant-loop bytes i₀ i = i ≤ length bytes
+abbrev invariant_loop : tie.invariant_loop
+invariant_loop bytes i₀ i = i ≤ length bytes
 
-abbrev decreases-loop : tie.decreases-loop
-decreases-loop bytes i₀ i = length bytes - i
+abbrev decreases_loop : tie.decreases_loop
+decreases_loop bytes i₀ i = length bytes - i
 
-loop-holds : tie.Need-loop-init invariant-loop decreases-loop
-loop-holds c = omega arith
+loop_holds : tie.Need-loop-init invariant_loop decreases_loop
+loop_holds c = omega arith
 
-shared-slice-read-print-byte : tie.Need-shared-slice-read-print-byte invariant-loop decreases-loop
-shared-slice-read-print-byte c = omega arith
+shared_slice_read_print_byte : tie.Need-shared-slice-read-print-byte invariant_loop decreases_loop
+shared_slice_read_print_byte c = omega arith
 
-print-byte-requires : tie.Need-print-byte-requires invariant-loop decreases-loop
-print-byte-requires c κs = search rules
+print_byte_requires : tie.Need-print-byte-requires invariant_loop decreases_loop
+print_byte_requires c κs = search rules
 
-add-i : tie.Need-overflow-add-i invariant-loop decreases-loop
-add-i c = omega arith
+add_i : tie.Need-overflow-add-i invariant_loop decreases_loop
+add_i c = omega arith
 
-loop-less : tie.Need-loop-smaller invariant-loop decreases-loop
-loop-less c = omega arith
+loop_less : tie.Need-loop-smaller invariant_loop decreases_loop
+loop_less c = omega arith
 
-loop-again : tie.Need-loop-preserved invariant-loop decreases-loop
-loop-again c = omega arith
+loop_again : tie.Need-loop-preserved invariant_loop decreases_loop
+loop_again c = omega arith
 
-returns : tie.Need-returns invariant-loop decreases-loop
+returns : tie.Need-returns invariant_loop decreases_loop
 returns c = search rules
 
-pub print-bytes-spec : {M : Type 1} → statement M
-print-bytes-spec =
+pub print_bytes_spec : {M : Type 1} → statement M
+print_bytes_spec =
     tie.close
     (tie.spec
-    invariant-loop
-    decreases-loop
-    loop-holds
-    shared-slice-read-print-byte
-    print-byte-requires
-    add-i
-    loop-less
-    loop-again
+    invariant_loop
+    decreases_loop
+    loop_holds
+    shared_slice_read_print_byte
+    print_byte_requires
+    add_i
+    loop_less
+    loop_again
     returns)

@@ -4,59 +4,59 @@ use Rattle.program_packs.proofs.files.front.Statement.{statement}
 use Rattle.program_packs.proofs.files.front.Tie as tie
 use lib.ListN.{replicate}
 use native.Mathlib.Omega.{arith}
-use Rattle.pack_files.proofs.Filing.{pack-file-room}
+use Rattle.pack_files.proofs.Filing.{pack_file_room}
 
-print-decimal-requires : tie.Need-print-decimal-requires
-print-decimal-requires c κs = search rules
+print_decimal_requires : tie.Need-print-decimal-requires
+print_decimal_requires c κs = search rules
 
-slice-aggregate-write-all : tie.Need-slice-aggregate-write-all
-slice-aggregate-write-all c = search rules
+slice_aggregate_write_all : tie.Need-slice-aggregate-write-all
+slice_aggregate_write_all c = search rules
 
-write-all-requires : tie.Need-write-all-requires
-write-all-requires c κs = search rules
+write_all_requires : tie.Need-write-all-requires
+write_all_requires c κs = search rules
 
-sub-pack-file : tie.Need-overflow-sub-pack-file
-sub-pack-file c = search rules
+sub_pack_file : tie.Need-overflow-sub-pack-file
+sub_pack_file c = search rules
 
-part-pack-file-start : tie.Need-slice-bounds-pack-file-start
-part-pack-file-start c = search rules
+part_pack_file_start : tie.Need-slice-bounds-pack-file-start
+part_pack_file_start c = search rules
 
-part-pack-file-end : tie.Need-slice-bounds-pack-file-end
-part-pack-file-end c = search rules
+part_pack_file_end : tie.Need-slice-bounds-pack-file-end
+part_pack_file_end c = search rules
 
-slice-aggregate-pack-file : tie.Need-slice-aggregate-pack-file
-slice-aggregate-pack-file c = search rules
+slice_aggregate_pack_file : tie.Need-slice-aggregate-pack-file
+slice_aggregate_pack_file c = search rules
 
-pack-file-requires : tie.Need-pack-file-requires
-pack-file-requires c κs = search rules
+pack_file_requires : tie.Need-pack-file-requires
+pack_file_requires c κs = search rules
 
-slice-aggregate-print-packed : tie.Need-slice-aggregate-print-packed
-slice-aggregate-print-packed c = search rules
+slice_aggregate_print_packed : tie.Need-slice-aggregate-print-packed
+slice_aggregate_print_packed c = search rules
 
-print-packed-requires : tie.Need-print-packed-requires
-print-packed-requires c κs =
+print_packed_requires : tie.Need-print-packed-requires
+print_packed_requires c κs =
     let pack-file = c.before.before.pack-file in
-    omega (arith, pack-file-room 0 (replicate 1024 0) pack-file.new.1.1.0 pack-file.result _ pack-file.ensures, pack-file.auto.1.1.0)
+    omega (arith, pack_file_room 0 (replicate 1024 0) pack-file.new.1.1.0 pack-file.result _ pack-file.ensures, pack-file.auto.1.1.0)
 
 returns : tie.Need-returns
 returns c = search rules
 
-returns-2 : tie.Need-returns-2
-returns-2 c = search rules
+returns_2 : tie.Need-returns-2
+returns_2 c = search rules
 
-pub front-spec : {M : Type 1} → statement M
-front-spec =
+pub front_spec : {M : Type 1} → statement M
+front_spec =
     tie.close
     (tie.spec
-    print-decimal-requires
-    slice-aggregate-write-all
-    write-all-requires
-    sub-pack-file
-    part-pack-file-start
-    part-pack-file-end
-    slice-aggregate-pack-file
-    pack-file-requires
-    slice-aggregate-print-packed
-    print-packed-requires
+    print_decimal_requires
+    slice_aggregate_write_all
+    write_all_requires
+    sub_pack_file
+    part_pack_file_start
+    part_pack_file_end
+    slice_aggregate_pack_file
+    pack_file_requires
+    slice_aggregate_print_packed
+    print_packed_requires
     returns
-    returns-2)
+    returns_2)

@@ -3,27 +3,27 @@ use borrow.Author.Rules.{rules}
 use Rattle.program_packs.proofs.rows.show_in.Statement.{statement}
 use Rattle.program_packs.proofs.rows.show_in.Tie as tie
 use native.Mathlib.Omega.{arith}
-use Rattle.packer.proofs.Answering.{pack-room}
+use Rattle.packer.proofs.Answering.{pack_room}
 
-write-all-requires : tie.Need-write-all-requires
-write-all-requires c κs = search rules
+write_all_requires : tie.Need-write-all-requires
+write_all_requires c κs = search rules
 
-slice-aggregate-write-all : tie.Need-slice-aggregate-write-all
-slice-aggregate-write-all c = search rules
+slice_aggregate_write_all : tie.Need-slice-aggregate-write-all
+slice_aggregate_write_all c = search rules
 
-write-all-requires-2 : tie.Need-write-all-requires-2
-write-all-requires-2 c κs = search rules
+write_all_requires_2 : tie.Need-write-all-requires-2
+write_all_requires_2 c κs = search rules
 
-pack-requires : tie.Need-pack-requires
-pack-requires c κs = search rules
+pack_requires : tie.Need-pack-requires
+pack_requires c κs = search rules
 
-print-packed-requires : tie.Need-print-packed-requires
-print-packed-requires c κs =
+print_packed_requires : tie.Need-print-packed-requires
+print_packed_requires c κs =
     let args = c.before.before.before.before.before.before.before.before.before.before.before.before.args in
     let pack = c.before.before.before.pack in
     omega (
       arith,
-      pack-room args.order args.output.now pack.new.1.1.1.1.0 pack.result args.kinds.now args.operands.now
+      pack_room args.order args.output.now pack.new.1.1.1.1.0 pack.result args.kinds.now args.operands.now
           args.base.0 pack.ensures,
       pack.auto.1.1.1.1.0,
     )
@@ -34,14 +34,14 @@ same_length c = search rules
 returns : tie.Need-returns
 returns c = search rules
 
-pub show-in-spec : {M : Type 1} → statement M
-show-in-spec =
+pub show_in_spec : {M : Type 1} → statement M
+show_in_spec =
     tie.close
     (tie.spec
-    write-all-requires
-    slice-aggregate-write-all
-    write-all-requires-2
-    pack-requires
-    print-packed-requires
+    write_all_requires
+    slice_aggregate_write_all
+    write_all_requires_2
+    pack_requires
+    print_packed_requires
     same_length
     returns)

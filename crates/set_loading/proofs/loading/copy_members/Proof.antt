@@ -6,27 +6,27 @@ use mathlib.Core.Path.{ap, ◌∙◌}
 use Prim.Native.Nat.{◌-◌}
 use native.Mathlib.Omega.{arith}
 use Rattle.set_judging.specs.Conditions as conditions
-use Rattle.set_loading.proofs.SetLaws.{Copying, copy-begins, copy-goes-on, copy-ends}
+use Rattle.set_loading.proofs.SetLaws.{Copying, copy_begins, copy_goes_on, copy_ends}
 use Rattle.set_loading.proofs.loading.copy_members.Statement.{statement}
 use Rattle.set_loading.proofs.loading.copy_members.Tie as tie
 
-abbrev invariant-loop : tie.invariant-loop
-invariant-loop order memory₀ buffer numbers n total₀ k₀ memory total k = Copying order buffer numbers memory₀ memory k total
+abbrev invariant_loop : tie.invariant_loop
+invariant_loop order memory₀ buffer numbers n total₀ k₀ memory total k = Copying order buffer numbers memory₀ memory k total
 
-abbrev decreases-loop : tie.decreases-loop
-decreases-loop order memory₀ buffer numbers n total₀ k₀ memory total k = n - k
+abbrev decreases_loop : tie.decreases_loop
+decreases_loop order memory₀ buffer numbers n total₀ k₀ memory total k = n - k
 
-loop-holds : tie.Need-loop-init invariant-loop decreases-loop
-loop-holds c = copy-begins c.before.before.before.args.order c.before.before.before.args.buffer.now c.before.before.before.args.numbers.now c.before.before.before.args.memory.now
+loop_holds : tie.Need-loop-init invariant_loop decreases_loop
+loop_holds c = copy_begins c.before.before.before.args.order c.before.before.before.args.buffer.now c.before.before.before.args.numbers.now c.before.before.before.args.memory.now
 
-member-at-requires : tie.Need-member-at-requires invariant-loop decreases-loop
-member-at-requires c κs = omega arith
+member_at_requires : tie.Need-member-at-requires invariant_loop decreases_loop
+member_at_requires c κs = omega arith
 
-copy-member-requires : tie.Need-copy-member-requires invariant-loop decreases-loop
+copy_member_requires : tie.Need-copy-member-requires invariant_loop decreases_loop
 unfolding conditions.AllFit
-copy-member-requires c κs = rw (c.member-at.ensures, c.before.before.before.loop.invariant.long) (c.before.before.before.before.before.before.before.requires.0 c.before.before.before.loop.k (omega (arith, c.before.before.loop-test.true)))
+copy_member_requires c κs = rw (c.member-at.ensures, c.before.before.before.loop.invariant.long) (c.before.before.before.before.before.before.before.requires.0 c.before.before.before.loop.k (omega (arith, c.before.before.loop-test.true)))
 
-add_total : tie.Need-overflow-add-total invariant-loop decreases-loop
+add_total : tie.Need-overflow-add-total invariant_loop decreases_loop
 unfolding conditions.AllFit
 add_total c = let x = c.before.before.before.before.before.before.before.before.before.before.before.args in
     let f = (c.before.before.before.before.before.before.before.before.before.before.before.requires.0 c.before.before.before.before.before.before.before.loop.k (omega (arith, c.before.before.before.before.before.before.loop-test.true))).room in
@@ -34,38 +34,38 @@ add_total c = let x = c.before.before.before.before.before.before.before.before.
     let q = ap (λ (y : Member). cells_of x.buffer.now y) c.before.before.before.before.member-at.ensures in
     omega (arith, f, e, q, c.before.before.before.before.before.before.before.loop.invariant.few, c.before.before.before.before.before.before.before.before.before.before.before.requires.1.0, c.before.before.before.before.before.before.before.before.before.before.before.requires.1.1, c.before.before.before.before.before.before.loop-test.true)
 
-add-k : tie.Need-overflow-add-k invariant-loop decreases-loop
-add-k c = omega arith
+add_k : tie.Need-overflow-add-k invariant_loop decreases_loop
+add_k c = omega arith
 
-loop-less : tie.Need-loop-smaller invariant-loop decreases-loop
-loop-less c = omega arith
+loop_less : tie.Need-loop-smaller invariant_loop decreases_loop
+loop_less c = omega arith
 
-loop-again : tie.Need-loop-preserved invariant-loop decreases-loop
+loop_again : tie.Need-loop-preserved invariant_loop decreases_loop
 unfolding conditions.AllFit
-loop-again c = let x = c.before.before.before.before.before.before.before.before.before.before.before.args in
-    copy-goes-on x.order x.buffer.now x.numbers.now x.memory.now c.before.before.before.before.before.before.before.loop.memory c.before.before.before.before.before.before.before.loop.k c.before.before.before.before.before.before.before.loop.total c.before.before.before.copy-member.result _ (omega (arith, c.before.before.before.before.before.before.loop-test.true)) c.before.before.before.before.before.before.before.before.before.before.before.requires.1.0
+loop_again c = let x = c.before.before.before.before.before.before.before.before.before.before.before.args in
+    copy_goes_on x.order x.buffer.now x.numbers.now x.memory.now c.before.before.before.before.before.before.before.loop.memory c.before.before.before.before.before.before.before.loop.k c.before.before.before.before.before.before.before.loop.total c.before.before.before.copy-member.result _ (omega (arith, c.before.before.before.before.before.before.loop-test.true)) c.before.before.before.before.before.before.before.before.before.before.before.requires.1.0
     (rw c.before.before.before.before.before.before.before.loop.invariant.long (c.before.before.before.before.before.before.before.before.before.before.before.requires.0 c.before.before.before.before.before.before.before.loop.k (omega (arith, c.before.before.before.before.before.before.loop-test.true))))
     (c.before.before.before.copy-member.ensures.0 ∙ rw c.before.before.before.before.member-at.ensures)
     (c.before.before.before.copy-member.ensures.1 ∙ rw c.before.before.before.before.member-at.ensures) c.before.before.before.before.before.before.before.loop.invariant
 
-same_length : tie.Need-same-length invariant-loop decreases-loop
+same_length : tie.Need-same-length invariant_loop decreases_loop
 same_length c = c.before.loop.invariant.long
 
-returns : tie.Need-returns invariant-loop decreases-loop
-returns c = let x = c.before.before.before.before.before.args in copy-ends x.order x.buffer.now x.numbers.now x.memory.now c.before.loop.memory c.before.loop.k c.before.loop.total (omega (arith, c.loop-test.false)) c.before.loop.invariant
+returns : tie.Need-returns invariant_loop decreases_loop
+returns c = let x = c.before.before.before.before.before.args in copy_ends x.order x.buffer.now x.numbers.now x.memory.now c.before.loop.memory c.before.loop.k c.before.loop.total (omega (arith, c.loop-test.false)) c.before.loop.invariant
 
-pub copy-members-spec : {M : Type 1} → statement M
-copy-members-spec =
+pub copy_members_spec : {M : Type 1} → statement M
+copy_members_spec =
     tie.close
     (tie.spec
-    invariant-loop
-    decreases-loop
-    loop-holds
-    member-at-requires
-    copy-member-requires
+    invariant_loop
+    decreases_loop
+    loop_holds
+    member_at_requires
+    copy_member_requires
     add_total
-    add-k
-    loop-less
-    loop-again
+    add_k
+    loop_less
+    loop_again
     same_length
     returns)

@@ -5,49 +5,49 @@ use Rattle.storage.proofs.memory.fetch_named.Tie as tie
 use Rattle.instruction.specs.Plain as plain
 use mathlib.Core.Path.{◌∙◌, sym, ap}
 
-fetch-data-requires : tie.Need-fetch-data-requires
-fetch-data-requires c κs = search rules
+fetch_data_requires : tie.Need-fetch-data-requires
+fetch_data_requires c κs = search rules
 
-enum-known-got : tie.Need-enum-known-got
-enum-known-got c = search rules
+enum_known_got : tie.Need-enum-known-got
+enum_known_got c = search rules
 
 enum_told : tie.Need-enum-told
 enum_told c = search rules
 
-fail-one-requires : tie.Need-fail-one-requires
-fail-one-requires c κs = (_, c.enum_told.given.1)
+fail_one_requires : tie.Need-fail-one-requires
+fail_one_requires c κs = (_, c.enum_told.given.1)
 
 returns : tie.Need-returns
 unfolding plain.plain_of
 returns c = simp (sym c.before.before.before.fetch-data.ensures ∙ c.before.enum_told.given.1) (c.fail-one.ensures ∙ ap plain.failed c.before.enum_told.given.1)
 
-fetch-requires : tie.Need-fetch-requires
-fetch-requires c κs = search rules
+fetch_requires : tie.Need-fetch-requires
+fetch_requires c κs = search rules
 
-enum-known-got2 : tie.Need-enum-known-got2
-enum-known-got2 c = search rules
+enum_known_got2 : tie.Need-enum-known-got2
+enum_known_got2 c = search rules
 
-enum-told-2 : tie.Need-enum-told-2
-enum-told-2 c = search rules
+enum_told_2 : tie.Need-enum-told-2
+enum_told_2 c = search rules
 
-fail-one-requires-2 : tie.Need-fail-one-requires-2
-fail-one-requires-2 c κs = (_, c.enum-told2.given.1)
+fail_one_requires_2 : tie.Need-fail-one-requires-2
+fail_one_requires_2 c κs = (_, c.enum-told2.given.1)
 
-returns-2 : tie.Need-returns-2
+returns_2 : tie.Need-returns-2
 unfolding plain.plain_of
-returns-2 c =
+returns_2 c =
     simp (
       sym c.before.before.before.before.before.before.before.fetch-data.ensures ∙ c.before.before.before.before.before.got.given.1,
       sym
           c.before.before.before.fetch.ensures.1 ∙ c.before.enum-told2.given.1,
     ) (c.fail-one2.ensures ∙ ap plain.failed c.before.enum-told2.given.1)
 
-replace-requires : tie.Need-replace-requires
-replace-requires c κs = search rules
+replace_requires : tie.Need-replace-requires
+replace_requires c κs = search rules
 
-returns-3 : tie.Need-returns-3
+returns_3 : tie.Need-returns-3
 unfolding plain.plain_of
-returns-3 c =
+returns_3 c =
     simp (
       sym c.before.before.before.before.before.before.before.before.fetch-data.ensures ∙
           c.before.before.before.before.before.before.got.given.1,
@@ -55,19 +55,19 @@ returns-3 c =
           c.before.before.got2.given.1,
     ) c.replace.ensures
 
-pub fetch-named-spec : {M : Type 1} → statement M
-fetch-named-spec =
+pub fetch_named_spec : {M : Type 1} → statement M
+fetch_named_spec =
     tie.close
     (tie.spec
-    fetch-data-requires
-    enum-known-got
+    fetch_data_requires
+    enum_known_got
     enum_told
-    fail-one-requires
+    fail_one_requires
     returns
-    fetch-requires
-    enum-known-got2
-    enum-told-2
-    fail-one-requires-2
-    returns-2
-    replace-requires
-    returns-3)
+    fetch_requires
+    enum_known_got2
+    enum_told_2
+    fail_one_requires_2
+    returns_2
+    replace_requires
+    returns_3)

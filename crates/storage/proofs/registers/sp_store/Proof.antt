@@ -6,42 +6,42 @@ use Rattle.instruction.specs.Plain as plain
 use borrow.Author.Tests.{eq-eqb, ne_eqb}
 use mathlib.Core.Path.{◌∙◌, sym, ap, refl}
 
-fetch-data-requires : tie.Need-fetch-data-requires
-fetch-data-requires c κs = search rules
+fetch_data_requires : tie.Need-fetch-data-requires
+fetch_data_requires c κs = search rules
 
-enum-known-got : tie.Need-enum-known-got
-enum-known-got c = search rules
+enum_known_got : tie.Need-enum-known-got
+enum_known_got c = search rules
 
 enum_told : tie.Need-enum-told
 enum_told c = search rules
 
-fail-none-requires : tie.Need-fail-none-requires
-fail-none-requires c κs = (_, c.enum_told.given.1)
+fail_none_requires : tie.Need-fail-none-requires
+fail_none_requires c κs = (_, c.enum_told.given.1)
 
 returns : tie.Need-returns
 unfolding plain.plain_of
 returns c = simp (sym c.before.before.before.fetch-data.ensures ∙ c.before.enum_told.given.1) (c.fail-none.ensures ∙ ap plain.failed c.before.enum_told.given.1)
 
-returns-2 : tie.Need-returns-2
+returns_2 : tie.Need-returns-2
 unfolding plain.plain_of
-returns-2 c = simp (sym c.before.before.before.before.fetch-data.ensures ∙ c.before.before.got.given.1, eq-eqb _ _ c.if1.true)
+returns_2 c = simp (sym c.before.before.before.before.fetch-data.ensures ∙ c.before.before.got.given.1, eq-eqb _ _ c.if1.true)
 
-fail-none-requires-2 : tie.Need-fail-none-requires-2
-fail-none-requires-2 c κs = (_, refl)
+fail_none_requires_2 : tie.Need-fail-none-requires-2
+fail_none_requires_2 c κs = (_, refl)
 
-returns-3 : tie.Need-returns-3
+returns_3 : tie.Need-returns-3
 unfolding plain.plain_of
-returns-3 c = simp (sym c.before.before.before.before.before.fetch-data.ensures ∙ c.before.before.before.got.given.1, ne_eqb _ _ c.before.if1.false) c.fail-none2.ensures
+returns_3 c = simp (sym c.before.before.before.before.before.fetch-data.ensures ∙ c.before.before.before.got.given.1, ne_eqb _ _ c.before.if1.false) c.fail-none2.ensures
 
-pub sp-store-spec : {M : Type 1} → statement M
-sp-store-spec =
+pub sp_store_spec : {M : Type 1} → statement M
+sp_store_spec =
     tie.close
     (tie.spec
-    fetch-data-requires
-    enum-known-got
+    fetch_data_requires
+    enum_known_got
     enum_told
-    fail-none-requires
+    fail_none_requires
     returns
-    returns-2
-    fail-none-requires-2
-    returns-3)
+    returns_2
+    fail_none_requires_2
+    returns_3)

@@ -5,37 +5,37 @@ use Rattle.storage.proofs.stack.dup.Tie as tie
 use Rattle.instruction.specs.Plain as plain
 use mathlib.Core.Path.{◌∙◌, sym, ap}
 
-fetch-data-requires : tie.Need-fetch-data-requires
-fetch-data-requires c κs = search rules
+fetch_data_requires : tie.Need-fetch-data-requires
+fetch_data_requires c κs = search rules
 
-enum-known-got : tie.Need-enum-known-got
-enum-known-got c = search rules
+enum_known_got : tie.Need-enum-known-got
+enum_known_got c = search rules
 
 enum_told : tie.Need-enum-told
 enum_told c = search rules
 
-fail-one-requires : tie.Need-fail-one-requires
-fail-one-requires c κs = (_, c.enum_told.given.1)
+fail_one_requires : tie.Need-fail-one-requires
+fail_one_requires c κs = (_, c.enum_told.given.1)
 
 returns : tie.Need-returns
 unfolding plain.plain_of
 returns c = simp (sym c.before.before.before.fetch-data.ensures ∙ c.before.enum_told.given.1) (c.fail-one.ensures ∙ ap plain.failed c.before.enum_told.given.1)
 
-push-requires : tie.Need-push-requires
-push-requires c κs = search rules
+push_requires : tie.Need-push-requires
+push_requires c κs = search rules
 
-returns-2 : tie.Need-returns-2
+returns_2 : tie.Need-returns-2
 unfolding plain.plain_of
-returns-2 c = simp (sym c.before.before.before.before.fetch-data.ensures ∙ c.before.before.got.given.1) c.push.ensures
+returns_2 c = simp (sym c.before.before.before.before.fetch-data.ensures ∙ c.before.before.got.given.1) c.push.ensures
 
-pub dup-spec : {M : Type 1} → statement M
-dup-spec =
+pub dup_spec : {M : Type 1} → statement M
+dup_spec =
     tie.close
     (tie.spec
-    fetch-data-requires
-    enum-known-got
+    fetch_data_requires
+    enum_known_got
     enum_told
-    fail-one-requires
+    fail_one_requires
     returns
-    push-requires
-    returns-2)
+    push_requires
+    returns_2)

@@ -11,26 +11,26 @@ use Rattle.exceptions.proofs.tell.Reads as tell-reads
 use Rattle.throws.specs.Throws as throws
 use mathlib.Core.Path.{sym, ◌∙◌}
 
-fetch-requires : tie.Need-fetch-requires
-fetch-requires c κs = search rules
+fetch_requires : tie.Need-fetch-requires
+fetch_requires c κs = search rules
 
-enum-known-got : tie.Need-enum-known-got
-enum-known-got c = search rules
+enum_known_got : tie.Need-enum-known-got
+enum_known_got c = search rules
 
 enum_told : tie.Need-enum-told
 enum_told c = search rules
 
-fault-in-requires : tie.Need-fault-in-requires
-fault-in-requires c κs = search rules
+fault_in_requires : tie.Need-fault-in-requires
+fault_in_requires c κs = search rules
 
-tell-requires : tie.Need-tell-requires
-tell-requires c κs = search rules
+tell_requires : tie.Need-tell-requires
+tell_requires c κs = search rules
 
-code-of-requires : tie.Need-code-of-requires
-code-of-requires c κs = search rules
+code_of_requires : tie.Need-code-of-requires
+code_of_requires c κs = search rules
 
-throw-requires : tie.Need-throw-requires
-throw-requires c κs = search rules
+throw_requires : tie.Need-throw-requires
+throw_requires c κs = search rules
 
 same_length : tie.Need-same-length
 same_length c = search rules
@@ -39,29 +39,29 @@ returns : tie.Need-returns
 unfolding throws.next_of
 returns c = rw (sym c.before.before.before.before.before.before.before.before.before.fetch.ensures.0 ∙ c.before.before.before.before.before.before.fault-in.ensures, ← c.before.before.before.before.before.tell.ensures) c.before.before.throw.ensures
 
-enter-requires : tie.Need-enter-requires
-enter-requires c κs = search rules
+enter_requires : tie.Need-enter-requires
+enter_requires c κs = search rules
 
-same-length-2 : tie.Need-same-length-2
-same-length-2 c = search rules
+same_length_2 : tie.Need-same-length-2
+same_length_2 c = search rules
 
-returns-2 : tie.Need-returns-2
+returns_2 : tie.Need-returns-2
 unfolding throws.next_of
-returns-2 c = rw (sym c.before.before.before.before.fetch.ensures.0 ∙ c.before.before.got.given.1, c.enter.ensures)
+returns_2 c = rw (sym c.before.before.before.before.fetch.ensures.0 ∙ c.before.before.got.given.1, c.enter.ensures)
 
-pub next-spec : {M : Type 1} → statement M
-next-spec =
+pub next_spec : {M : Type 1} → statement M
+next_spec =
     tie.close
     (tie.spec
-    fetch-requires
-    enum-known-got
+    fetch_requires
+    enum_known_got
     enum_told
-    fault-in-requires
-    tell-requires
-    code-of-requires
-    throw-requires
+    fault_in_requires
+    tell_requires
+    code_of_requires
+    throw_requires
     same_length
     returns
-    enter-requires
-    same-length-2
-    returns-2)
+    enter_requires
+    same_length_2
+    returns_2)

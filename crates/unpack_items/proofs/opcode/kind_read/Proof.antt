@@ -8,28 +8,28 @@ use Rattle.unpack_items.proofs.opcode.kind_read.Tie as tie
 enum_told : tie.Need-enum-told
 enum_told c = search rules
 
-enum-told-2 : tie.Need-enum-told-2
-enum-told-2 c = search rules
+enum_told_2 : tie.Need-enum-told-2
+enum_told_2 c = search rules
 
 returns : tie.Need-returns
 returns c = rw c.before.enum-told2.given.1 (omega (arith, c.if1.true))
 
-sub-result : tie.Need-overflow-sub-result
-sub-result c = search rules
+sub_result : tie.Need-overflow-sub-result
+sub_result c = search rules
 
-enum-told-3 : tie.Need-enum-told-3
-enum-told-3 c = search rules
+enum_told_3 : tie.Need-enum-told-3
+enum_told_3 c = search rules
 
-returns-2 : tie.Need-returns-2
-returns-2 c = search rules
+returns_2 : tie.Need-returns-2
+returns_2 c = search rules
 
-returns-3 : tie.Need-returns-3
-returns-3 c = rw c.before.enum-told2.given.1
+returns_3 : tie.Need-returns-3
+returns_3 c = rw c.before.enum-told2.given.1
 
-returns-4 : tie.Need-returns-4
-returns-4 c = search rules
+returns_4 : tie.Need-returns-4
+returns_4 c = search rules
 
-pub kind-read-spec : {M : Type 1} → statement M
-kind-read-spec =
+pub kind_read_spec : {M : Type 1} → statement M
+kind_read_spec =
     tie.close
-    (tie.spec enum_told enum-told-2 returns sub-result enum-told-3 returns-2 returns-3 returns-4)
+    (tie.spec enum_told enum_told_2 returns sub_result enum_told_3 returns_2 returns_3 returns_4)

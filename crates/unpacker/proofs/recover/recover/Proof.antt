@@ -5,15 +5,15 @@ use Prim.Native.Nat.{◌/◌}
 use native.Mathlib.Omega.{arith}
 use borrow.Author.Rules.{rules}
 use lib.ListN.{length}
-use Rattle.unpacker.proofs.Recovering.{too_long, turned-back, fresh-length, fresh_at}
+use Rattle.unpacker.proofs.Recovering.{too_long, turned_back, fresh_length, fresh_at}
 use Rattle.unpacker.proofs.recover.recover.Statement.{statement}
 use Rattle.unpacker.proofs.recover.recover.Tie as tie
 
-judge-place-requires : tie.Need-judge-place-requires
-judge-place-requires c κs = search rules
+judge_place_requires : tie.Need-judge-place-requires
+judge_place_requires c κs = search rules
 
-enum-known-r : tie.Need-enum-known-r
-enum-known-r c = search rules
+enum_known_r : tie.Need-enum-known-r
+enum_known_r c = search rules
 
 enum_told : tie.Need-enum-told
 enum_told c = search rules
@@ -21,58 +21,58 @@ enum_told c = search rules
 returns : tie.Need-returns
 returns c = too_long c.before.before.before.before.before.before.before.args.order c.before.before.before.before.before.before.before.args.base.0 c.before.before.before.before.before.before.before.args.image.now (sym c.before.before.before.judge-place.ensures ∙ c.before.enum_told.given.1) _ _ c.if1.true
 
-sub-recover-in : tie.Need-overflow-sub-recover-in
-sub-recover-in c = search rules
+sub_recover_in : tie.Need-overflow-sub-recover-in
+sub_recover_in c = search rules
 
-part-firsts-start : tie.Need-slice-bounds-firsts-start
-part-firsts-start c = search rules
+part_firsts_start : tie.Need-slice-bounds-firsts-start
+part_firsts_start c = search rules
 
-part-firsts-end : tie.Need-slice-bounds-firsts-end
-part-firsts-end c = search rules
+part_firsts_end : tie.Need-slice-bounds-firsts-end
+part_firsts_end c = search rules
 
-sub-recover-in-2 : tie.Need-overflow-sub-recover-in-2
-sub-recover-in-2 c = search rules
+sub_recover_in_2 : tie.Need-overflow-sub-recover-in-2
+sub_recover_in_2 c = search rules
 
-part-copy-start : tie.Need-slice-bounds-copy-start
-part-copy-start c = search rules
+part_copy_start : tie.Need-slice-bounds-copy-start
+part_copy_start c = search rules
 
-part-copy-end : tie.Need-slice-bounds-copy-end
-part-copy-end c = search rules
+part_copy_end : tie.Need-slice-bounds-copy-end
+part_copy_end c = search rules
 
-recover-in-requires : tie.Need-recover-in-requires
-recover-in-requires c κs = (
-  (c.before.before.before.before.before.before.before.before.before.before.before.requires.0, c.before.before.before.before.before.before.before.before.before.before.before.requires.1, fresh-length 8192 (length c.before.before.before.before.before.before.before.before.before.before.before.args.image.now / 4) 4096 (omega (arith, c.before.before.before.before.if1.false)), fresh-length 32768 (length c.before.before.before.before.before.before.before.before.before.before.before.args.image.now) 0 (omega (arith, c.before.before.before.before.if1.false))),
+recover_in_requires : tie.Need-recover-in-requires
+recover_in_requires c κs = (
+  (c.before.before.before.before.before.before.before.before.before.before.before.requires.0, c.before.before.before.before.before.before.before.before.before.before.before.requires.1, fresh_length 8192 (length c.before.before.before.before.before.before.before.before.before.before.before.args.image.now / 4) 4096 (omega (arith, c.before.before.before.before.if1.false)), fresh_length 32768 (length c.before.before.before.before.before.before.before.before.before.before.before.args.image.now) 0 (omega (arith, c.before.before.before.before.if1.false))),
   (fresh_at 8192 (length c.before.before.before.before.before.before.before.before.before.before.before.args.image.now / 4) 4096 (omega (arith, c.before.before.before.before.if1.false)), sym c.before.before.before.before.before.before.before.judge-place.ensures ∙ c.before.before.before.before.before.enum_told.given.1),
 )
 
-returns-2 : tie.Need-returns-2
-returns-2 c = turned-back c.before.before.before.before.before.before.before.args.order c.before.before.before.before.before.before.before.args.base.0 c.before.before.before.before.before.before.before.args.image.now _ _ _ _ (sym c.before.before.before.judge-place.ensures ∙ c.before.r.given.1)
+returns_2 : tie.Need-returns-2
+returns_2 c = turned_back c.before.before.before.before.before.before.before.args.order c.before.before.before.before.before.before.before.args.base.0 c.before.before.before.before.before.before.before.args.image.now _ _ _ _ (sym c.before.before.before.judge-place.ensures ∙ c.before.r.given.1)
 
 same_length : tie.Need-same-length
 same_length c = search rules
 
-same-length-2 : tie.Need-same-length-2
-same-length-2 c = search rules
+same_length_2 : tie.Need-same-length-2
+same_length_2 c = search rules
 
-returns-3 : tie.Need-returns-3
-returns-3 c = search rules
+returns_3 : tie.Need-returns-3
+returns_3 c = search rules
 
-pub recover-spec : {M : Type 1} → statement M
-recover-spec =
+pub recover_spec : {M : Type 1} → statement M
+recover_spec =
     tie.close
     (tie.spec
-    judge-place-requires
-    enum-known-r
+    judge_place_requires
+    enum_known_r
     enum_told
     returns
-    sub-recover-in
-    part-firsts-start
-    part-firsts-end
-    sub-recover-in-2
-    part-copy-start
-    part-copy-end
-    recover-in-requires
-    returns-2
+    sub_recover_in
+    part_firsts_start
+    part_firsts_end
+    sub_recover_in_2
+    part_copy_start
+    part_copy_end
+    recover_in_requires
+    returns_2
     same_length
-    same-length-2
-    returns-3)
+    same_length_2
+    returns_3)
