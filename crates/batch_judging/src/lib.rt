@@ -1,2 +1,4 @@
 // The judgement of a batch.
+#![tactic(auto)]
+
 pub mod judgement;

@@ -1,1 +1,2 @@
 // The theorems about batches stand in proofs/; there is no code.
+#![tactic(auto)]

@@ -1,9 +1,11 @@
 // What a batch reports, and its counting.
+#![tactic(auto)]
+
 pub mod counting;
 
 // The figures of some runs: how many there are, how many stopped with 0, with -258, with -259 and with any other reason, how many were spent, the cycles
 // of all of them, and the most that one of them had.
-#[derive(Drop)]
+#[derive(Clone, Copy)]
 pub struct Tally {
     pub forms: u32,
     pub zeros: u32,
@@ -16,13 +18,13 @@ pub struct Tally {
 }
 
 // The cycles divided by the forms.
-#[derive(Drop)]
+#[derive(Clone, Copy)]
 pub struct Mean {
     pub quotient: u32,
     pub remainder: u32,
 }
 
-#[derive(Drop)]
+#[derive(Clone, Copy)]
 pub struct Report {
     pub tally: Tally,
     pub mean: Mean,

@@ -1,4 +1,6 @@
 // Cells: their places in lent memory, in either byte order, and their arithmetic.
+#![tactic(auto)]
+
 pub mod division;
 pub mod judgement;
 pub mod memory;
@@ -6,15 +8,15 @@ pub mod number;
 pub mod place;
 
 // A byte address.
-#[derive(Drop)]
+#[derive(Clone, Copy)]
 pub struct Address(pub u32);
 
 // A number of cells.
-#[derive(Drop)]
+#[derive(Clone, Copy)]
 pub struct CellCount(pub u32);
 
 // Why an instruction raises. What is thrown for it, `machine` tells.
-#[derive(Drop)]
+#[derive(Clone, Copy)]
 pub enum Fault {
     // -9: the address lies outside memory
     Range(Address),
@@ -35,28 +37,28 @@ pub enum Fault {
 }
 
 // What the check of a place says.
-#[derive(Drop)]
+#[derive(Clone, Copy)]
 pub enum Checked {
     Good,
     Bad(Fault),
 }
 
 // What a fetch answers.
-#[derive(Drop)]
+#[derive(Clone, Copy)]
 pub enum Fetched {
     Cell(u32),
     Failed(Fault),
 }
 
 // What a division gives.
-#[derive(Drop)]
+#[derive(Clone, Copy)]
 pub struct Quotient {
     pub quotient: u32,
     pub remainder: u32,
 }
 
 // Why a call is refused. specs/Refusals.antt has the number of each.
-#[derive(Drop)]
+#[derive(Clone, Copy)]
 pub enum Refusal {
     MemoryLength,
     ByteOrder,
@@ -78,7 +80,7 @@ pub enum Refusal {
 }
 
 // What the judgement of a call's input says.
-#[derive(Drop)]
+#[derive(Clone, Copy)]
 pub enum Judged {
     Passed,
     Refused(Refusal),

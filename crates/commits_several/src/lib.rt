@@ -1,4 +1,6 @@
 // The commit of effects that write two cells or three: every place is checked in the order of the writes, and only then are the writes made.
+#![tactic(auto)]
+
 ghost use Rattle.std.specs.Prelude.{◌≡◌, length};
 ghost use Rattle.machine.specs.Places as places;
 ghost use Rattle.machine.specs.Effects as effects;

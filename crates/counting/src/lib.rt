@@ -1,4 +1,6 @@
 // Counting loops.
+#![tactic(auto)]
+
 ghost use Rattle.std.specs.Prelude.{◌≡◌, ℕ, ◌<◌, ◌^◌};
 ghost use Rattle.cell.specs.Number as number;
 ghost use Rattle.counting.specs.Counting as counting;

@@ -1,2 +1,4 @@
 // Cycles of the processor, one after the other.
+#![tactic(auto)]
+
 pub mod running;

@@ -15,7 +15,7 @@ use machine::{CycleResult, Ended, Machine, Outcome, Registers, Step};
 use throws::ending::finish;
 
 // What a run has left of its budget, and how its last cycle ended.
-#[derive(Drop)]
+#[derive(Clone, Copy)]
 pub struct Progress {
     pub result: CycleResult,
     pub left: u32,

@@ -1,4 +1,5 @@
 // What is thrown for a fault.
+#![tactic(auto)]
 
 pub mod fixed;
 

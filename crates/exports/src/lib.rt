@@ -1,4 +1,6 @@
 // The interface for C and Rust: numbers and slices. include/beetle.h has the same functions for C.
+#![tactic(auto)]
+
 pub mod forms;
 pub mod images;
 pub mod listings;

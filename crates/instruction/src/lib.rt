@@ -1,9 +1,11 @@
 // The instructions, and the parts that their effects share. The effects, what each instruction of table 7 (document 001) asks for before anything
 // is written, stand in the crates `storage`, `operators` and `flow`.
+#![tactic(auto)]
+
 pub mod shape;
 
 // The instructions in opcode order. `Illegal` stands for every opcode that raises -256.
-#[derive(Drop)]
+#[derive(Clone, Copy)]
 pub enum Instruction {
     // 00h NEXT
     Next,
@@ -184,7 +186,7 @@ pub enum Instruction {
 }
 
 // Where an instruction's operand stands: in the cell at EP, or in what is left of A.
-#[derive(Drop)]
+#[derive(Clone, Copy)]
 pub enum OperandForm {
     InCell,
     Immediate,

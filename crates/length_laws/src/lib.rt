@@ -1,1 +1,2 @@
 // That memory keeps its length stands in proofs/.
+#![tactic(auto)]

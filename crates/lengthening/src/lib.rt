@@ -1,4 +1,6 @@
 // lengthen: the listing file of a short file.
+#![tactic(auto)]
+
 ghost use Rattle.std.specs.Prelude.{◌≡◌, ◌++◌, ◌+◌, ◌*◌, ◌≤◌, length, drop};
 ghost use Rattle.std.proofs.lemmas.List.Edits.{sets};
 ghost use Rattle.short_judging.specs.Operands.{operands_before, in_turn};

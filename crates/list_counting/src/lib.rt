@@ -1,4 +1,6 @@
 // What an item and a run of the list machine come to, and what they count.
+#![tactic(auto)]
+
 pub mod answers;
 pub mod counting;
 
@@ -6,7 +8,7 @@ use list_machine::Outside;
 use list_proposing::Stand;
 
 // What an item comes to: in front of the next, stopped by a reason, or not carried out.
-#[derive(Drop)]
+#[derive(Clone, Copy)]
 pub enum Carried {
     On(Stand),
     Stopped(Stand, u32),
@@ -14,7 +16,7 @@ pub enum Carried {
 }
 
 // How a run stands.
-#[derive(Drop)]
+#[derive(Clone, Copy)]
 pub enum Ending {
     GoesOn,
     Stopped(u32),
@@ -22,7 +24,7 @@ pub enum Ending {
 }
 
 // A run: where it stands, the items carried out, the cycles counted.
-#[derive(Drop)]
+#[derive(Clone, Copy)]
 pub struct ItemRun {
     pub stand: Stand,
     pub items: u32,

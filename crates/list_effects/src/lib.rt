@@ -1,4 +1,6 @@
 // What an instruction would do, as a value: found by reading alone, so that it can be judged before anything is written.
+#![tactic(auto)]
+
 pub mod from_01;
 pub mod from_16;
 pub mod from_2c;

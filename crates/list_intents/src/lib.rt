@@ -1,4 +1,6 @@
 // How an item is to be carried out, before anything is written.
+#![tactic(auto)]
+
 ghost use Rattle.std.specs.Prelude.{◌≡◌, ◌+◌, ◌*◌, ◌≤◌, ◌<◌, ◌^◌, length};
 ghost use Rattle.machine.specs.Places as places;
 ghost use Rattle.list_shapes.specs.Shapes as shapes;

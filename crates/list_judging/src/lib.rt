@@ -1,4 +1,6 @@
 // Where an item leads, found by reading alone, so that the machine stops in front of it with memory as it was.
+#![tactic(auto)]
+
 pub mod finding;
 pub mod judging;
 
@@ -7,7 +9,7 @@ use machine::Exception;
 use pack_layout::ItemNumber;
 
 // Where an item leads: to an item, with whether it is run on into; to a stop; or outside.
-#[derive(Drop)]
+#[derive(Clone, Copy)]
 pub enum Way {
     To(ItemNumber, bool),
     Halt(u32),
@@ -15,14 +17,14 @@ pub enum Way {
 }
 
 // What a throw comes from: an exception, or THROW itself.
-#[derive(Drop)]
+#[derive(Clone, Copy)]
 pub enum Cause {
     Raised(Exception),
     Given,
 }
 
 // How an item is to be carried out: by its writes, or by a throw.
-#[derive(Drop)]
+#[derive(Clone, Copy)]
 pub enum Intent {
     Act(Way),
     End(Cause, Way),

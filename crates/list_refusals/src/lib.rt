@@ -1,2 +1,4 @@
 // What refuses a run of the list machine.
+#![tactic(auto)]
+
 pub mod judgement;

@@ -1,4 +1,6 @@
 // What an instruction asks for, as a value: what it would write, whether it may, and its commit.
+#![tactic(auto)]
+
 pub mod carrying;
 pub mod judging;
 
@@ -7,7 +9,7 @@ use machine::{
 };
 
 // What an instruction asks for, by the places that it writes.
-#[derive(Drop)]
+#[derive(Clone, Copy)]
 pub enum Shape {
     None(NoStore),
     One(OneStore),

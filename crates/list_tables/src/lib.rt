@@ -1,4 +1,6 @@
 // The layout of a listing as the list machine reads it: a table with a row for each item, filled once the rounds have settled, and read by item number.
+#![tactic(auto)]
+
 pub mod settle;
 pub mod tables;
 pub mod tabling;
@@ -9,7 +11,7 @@ use cell::{Address, CellCount};
 pub const TABLE_NUMBERS: usize = 16384;
 
 // Where the image of a listing is to stand.
-#[derive(Drop)]
+#[derive(Clone, Copy)]
 pub struct Image {
     pub base: Address,
     pub cells: CellCount,

@@ -1,4 +1,6 @@
 // What is told of a run of the list machine, and whether there is room for it.
+#![tactic(auto)]
+
 ghost use Rattle.std.specs.Prelude.{◌≡◌, [], ◌∷◌, ◌≤◌, length, get_or};
 ghost use Rattle.list_following.specs.declared.Followed.TheVariants as followed;
 ghost use Rattle.lent_arrays.specs.Lending as lending;

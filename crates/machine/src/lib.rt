@@ -1,25 +1,26 @@
 // The machine below its instructions: places and their accesses, what an instruction asks for and what its commit means.
+#![tactic(auto)]
 
 pub mod places;
 
 use cell::{Address, CellCount, Fault};
 
 // The cells that a stack may have: so many of them, the highest at `last`.
-#[derive(Drop)]
+#[derive(Clone, Copy)]
 pub struct Span {
     pub last: Address,
     pub cells: CellCount,
 }
 
 // Document 02's own term: the bytes from `first` up to, and without, `end`, which no rule writes. Two zeros where there is none.
-#[derive(Drop)]
+#[derive(Clone, Copy)]
 pub struct Table {
     pub first: Address,
     pub end: Address,
 }
 
 // The table as it is asked for at each write: so many bytes from the first on.
-#[derive(Drop)]
+#[derive(Clone, Copy)]
 pub struct Guarded {
     pub first: Address,
     pub bytes: u32,
@@ -27,7 +28,7 @@ pub struct Guarded {
 
 // What goes with every call and is no register: the byte order, the cells that the data stack and the return stack may have, and the bytes that no rule writes. Of the data stack's
 // cells it writes the highest, `writes` of them: the held cell, under these, may be read, and only a throw writes it.
-#[derive(Drop)]
+#[derive(Clone, Copy)]
 pub struct Machine {
     pub order: u8,
     pub stack: Span,
@@ -37,7 +38,7 @@ pub struct Machine {
 }
 
 // EP, A, SP, RP: cells of any value. They become addresses where memory is touched.
-#[derive(Drop)]
+#[derive(Clone, Copy)]
 pub struct Registers {
     pub ep: u32,
     pub a: u32,
@@ -46,7 +47,7 @@ pub struct Registers {
 }
 
 // What a cell is touched for. Contracts name it: each kind of place has its own function.
-#[derive(Drop)]
+#[derive(Clone, Copy)]
 pub enum Access {
     DataRead,
     DataWrite,
@@ -61,7 +62,7 @@ pub enum Access {
 }
 
 // What a store of an instruction goes to.
-#[derive(Drop)]
+#[derive(Clone, Copy)]
 pub enum Target {
     Data,
     Return,
@@ -69,7 +70,7 @@ pub enum Target {
 }
 
 // A cell to be written.
-#[derive(Drop)]
+#[derive(Clone, Copy)]
 pub struct Write {
     pub at: Address,
     pub value: u32,
@@ -85,7 +86,7 @@ pub struct Write {
 //   Then::Raise     Outcome::Raise     Ended::Threw, or Stopped with -258 or -259
 
 // What an instruction asks for behind its writes.
-#[derive(Drop)]
+#[derive(Clone, Copy)]
 pub enum Then {
     GoOn,
     Jump(Address),
@@ -96,14 +97,14 @@ pub enum Then {
 
 // What an instruction asks for, by the number of cells that it writes: the new stack pointers, the writes in order, and what follows. Where a fault
 // follows, pointers and writes are invented: the commit looks at the fault first, and never reads them.
-#[derive(Drop)]
+#[derive(Clone, Copy)]
 pub struct NoStore {
     pub sp: u32,
     pub rp: u32,
     pub then: Then,
 }
 
-#[derive(Drop)]
+#[derive(Clone, Copy)]
 pub struct OneStore {
     pub sp: u32,
     pub rp: u32,
@@ -113,7 +114,7 @@ pub struct OneStore {
 }
 
 // One write where `writes` says so, else none.
-#[derive(Drop)]
+#[derive(Clone, Copy)]
 pub struct MaybeStore {
     pub sp: u32,
     pub rp: u32,
@@ -124,7 +125,7 @@ pub struct MaybeStore {
 }
 
 // On the data stack.
-#[derive(Drop)]
+#[derive(Clone, Copy)]
 pub struct TwoStores {
     pub sp: u32,
     pub rp: u32,
@@ -134,7 +135,7 @@ pub struct TwoStores {
 }
 
 // On the return stack.
-#[derive(Drop)]
+#[derive(Clone, Copy)]
 pub struct TwoReturns {
     pub sp: u32,
     pub rp: u32,
@@ -144,7 +145,7 @@ pub struct TwoReturns {
 }
 
 // On the data stack.
-#[derive(Drop)]
+#[derive(Clone, Copy)]
 pub struct ThreeStores {
     pub sp: u32,
     pub rp: u32,
@@ -155,7 +156,7 @@ pub struct ThreeStores {
 }
 
 // The low byte of `value`, at a byte's address.
-#[derive(Drop)]
+#[derive(Clone, Copy)]
 pub struct ByteStore {
     pub sp: u32,
     pub rp: u32,
@@ -165,7 +166,7 @@ pub struct ByteStore {
 }
 
 // ROLL: the item `depth` below the top one comes to the top, which lies at `top` once the operand is popped.
-#[derive(Drop)]
+#[derive(Clone, Copy)]
 pub struct RollStores {
     pub sp: u32,
     pub rp: u32,
@@ -175,7 +176,7 @@ pub struct RollStores {
 }
 
 // How an instruction left the machine, before NEXT, a throw or a stop is carried out.
-#[derive(Drop)]
+#[derive(Clone, Copy)]
 pub enum Outcome {
     Went,
     Next,
@@ -184,14 +185,14 @@ pub enum Outcome {
     Throw,
 }
 
-#[derive(Drop)]
+#[derive(Clone, Copy)]
 pub struct Step {
     pub registers: Registers,
     pub outcome: Outcome,
 }
 
 // What a throw is made for. Crate `throws` has the code of each.
-#[derive(Drop)]
+#[derive(Clone, Copy)]
 pub enum Exception {
     // -9: the address lies outside memory
     Range(Address),
@@ -216,14 +217,14 @@ pub enum Exception {
 }
 
 // How a cycle ended.
-#[derive(Drop)]
+#[derive(Clone, Copy)]
 pub enum Ended {
     Went,
     Threw(Exception),
     Stopped(u32),
 }
 
-#[derive(Drop)]
+#[derive(Clone, Copy)]
 pub struct CycleResult {
     pub registers: Registers,
     pub ended: Ended,

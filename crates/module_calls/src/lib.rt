@@ -1,4 +1,6 @@
 // The calls from C for object modules. Each judges first, and writes nothing that was lent where it refuses.
+#![tactic(auto)]
+
 ghost use Rattle.std.specs.Prelude.{◌≡◌};
 ghost use Rattle.calls.specs.Modules as modules;
 

@@ -1,2 +1,4 @@
 // The cells of a module, copied from one byte order to another.
+#![tactic(auto)]
+
 pub mod copying;

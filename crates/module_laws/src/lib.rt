@@ -1,1 +1,2 @@
 // The theorems about modules stand in proofs/; there is no code.
+#![tactic(auto)]

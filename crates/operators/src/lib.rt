@@ -1,4 +1,6 @@
 // Arithmetic, comparison and logic.
+#![tactic(auto)]
+
 pub mod arithmetic;
 pub mod comparison;
 pub mod logic;

@@ -1,2 +1,4 @@
 // The packing of a listing file.
+#![tactic(auto)]
+
 pub mod file;

@@ -1,2 +1,4 @@
 // The image written to the output.
+#![tactic(auto)]
+
 pub mod write;

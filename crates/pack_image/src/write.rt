@@ -97,7 +97,7 @@ fn put_opened(order: u8, out: &mut [u8], opens: bool, at: CellCount, w: u32) -> 
 }
 
 // An item as it is packed: its form and its value.
-#[derive(Drop)]
+#[derive(Clone, Copy)]
 struct PackedItem {
     form: ItemForm,
     value: u32,

@@ -1,13 +1,15 @@
 // Listings and their packing into cells: the types that the code shares with the definitions.
+#![tactic(auto)]
+
 use cell::CellCount;
 
 // The number of an item of a listing, from 0.
-#[derive(Drop)]
+#[derive(Clone, Copy)]
 pub struct ItemNumber(pub u32);
 
 // Where the layout stands: the index of the open cell, the bytes free in it (0: none is open, or it is full), and the
 // index of the next cell.
-#[derive(Drop)]
+#[derive(Clone, Copy)]
 pub struct Cursor {
     pub at: CellCount,
     pub free: u32,
@@ -15,7 +17,7 @@ pub struct Cursor {
 }
 
 // How an item is written: its opcode alone, with its value in the rest of the cell, or with an operand cell.
-#[derive(Drop)]
+#[derive(Clone, Copy)]
 pub enum ItemForm {
     Alone,
     Immediate,
@@ -23,7 +25,7 @@ pub enum ItemForm {
 }
 
 // What a kind byte stands for.
-#[derive(Drop)]
+#[derive(Clone, Copy)]
 pub enum Class {
     Plain,
     Literal,
@@ -32,7 +34,7 @@ pub enum Class {
 }
 
 // The entry that an address leads to.
-#[derive(Drop)]
+#[derive(Clone, Copy)]
 pub enum Entry {
     Item(ItemNumber),
     Nothing,

@@ -1,2 +1,4 @@
 // What refuses a packing.
+#![tactic(auto)]
+
 pub mod judgement;

@@ -1,1 +1,2 @@
 // Lists in another order: definitions and laws; there is no code.
+#![tactic(auto)]

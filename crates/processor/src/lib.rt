@@ -1,4 +1,6 @@
 // The processor: cycle and run.
+#![tactic(auto)]
+
 pub mod entry;
 
 use areas::RegisterFile;
@@ -6,7 +8,7 @@ use cell::Refusal;
 use machine::Exception;
 
 // What a cycle answers. A refusal stands for the registers as given.
-#[derive(Drop)]
+#[derive(Clone, Copy)]
 pub enum Cycled {
     Refused(Refusal),
     Went(RegisterFile),
@@ -15,7 +17,7 @@ pub enum Cycled {
 }
 
 // What a run answers: the registers, and for a stop the reason and the cycles done.
-#[derive(Drop)]
+#[derive(Clone, Copy)]
 pub enum Ran {
     Refused(Refusal),
     Spent(RegisterFile),

@@ -1,4 +1,6 @@
 // Starts a machine on the first rule of document 01 (literals 2 and 3, +, HALT at 10h), its three cells the table, runs it, and says why it stopped and after how many cycles.
+#![tactic(auto)]
+
 use areas::{Area, Areas};
 use cell::{Address, CellCount};
 use libc::STDOUT_FILENO;

@@ -1,5 +1,7 @@
 // Loads modules that are cut short, run on or are damaged, loads and saves at places that do not serve, halts loads, and prints what each call
 // answers: the paper's number, and the count. After some of them it prints the first bytes of the memory or the output.
+#![tactic(auto)]
+
 mod printing;
 
 use cell::{Address, CellCount};

@@ -1,5 +1,7 @@
 // Packs the listing file that the first argument names, or standard input where there is none, and prints the cells of its image, one a
 // line, or the number of the refusal.
+#![tactic(auto)]
+
 use libc::STDIN_FILENO;
 use pack_files::file::pack_file;
 use program_print::print_packed;

@@ -1,4 +1,6 @@
 // What programs print: a cell in digits, the cells of an image, one a line, or a refusal's number.
+#![tactic(auto)]
+
 ghost use Rattle.std.specs.Prelude.{◌*◌, ◌≤◌, length};
 ghost use Rattle.packer.specs.Pack.{pack_count};
 

@@ -1,4 +1,6 @@
 // The call from C for a set of modules.
+#![tactic(auto)]
+
 ghost use Rattle.std.specs.Prelude.{◌≡◌};
 ghost use Rattle.calls.specs.Modules.{moved};
 ghost use Rattle.calls.specs.Sets as sets;

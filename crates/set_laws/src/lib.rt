@@ -1,1 +1,2 @@
 // The theorems about sets of modules stand in proofs/; there is no code.
+#![tactic(auto)]

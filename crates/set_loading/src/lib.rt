@@ -1,2 +1,4 @@
 // Sets of modules: loading them together.
+#![tactic(auto)]
+
 pub mod loading;

@@ -1,4 +1,6 @@
 // What refuses a set of modules, in document 02's order.
+#![tactic(auto)]
+
 ghost use Rattle.std.specs.Prelude.{◌≡◌, [], ◌∷◌};
 ghost use Rattle.cell.specs.Refusals.{judge};
 ghost use Rattle.set_judging.specs.Members as members;

@@ -1,4 +1,6 @@
 // Whether two modules of a set share a byte of memory. Each has been judged by itself, and so ends where the length of its file says.
+#![tactic(auto)]
+
 ghost use Rattle.std.specs.Prelude.{◌≡◌, suc, ◌+◌, ◌*◌, ◌≤◌, max, min, ltb, length, drop};
 ghost use Rattle.set_judging.specs.Members as members;
 ghost use Rattle.set_judging.specs.Sharing as shared;

@@ -1,2 +1,4 @@
 // What the calls for short listing files tell in the arrays that were lent.
+#![tactic(auto)]
+
 pub mod notes;

@@ -1,2 +1,4 @@
 // Short listing files, packed.
+#![tactic(auto)]
+
 pub mod pack;

@@ -1,4 +1,6 @@
 // The call from C that starts the processor. It judges first, and writes nothing that was lent where it refuses.
+#![tactic(auto)]
+
 ghost use Rattle.std.specs.Prelude.{◌≡◌};
 ghost use Rattle.processor_calls.specs.Machines as machines;
 

@@ -1,2 +1,4 @@
 // A listing packed again and compared with an image.
+#![tactic(auto)]
+
 pub mod compare;

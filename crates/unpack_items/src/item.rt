@@ -111,7 +111,7 @@ fn leads_to(base: Address, g: ItemForm, next: CellCount, v: u32) -> Address
 }
 
 // An item as it is read: its form, its kind, and what it holds.
-#[derive(Drop)]
+#[derive(Clone, Copy)]
 pub struct ItemRead {
     pub form: ItemForm,
     pub kind: u8,

@@ -1,4 +1,6 @@
 // All items of an image, and the items that branches lead to, in working arrays.
+#![tactic(auto)]
+
 pub mod items;
 pub mod targets;
 

@@ -1,2 +1,4 @@
 // A listing written to lent arrays.
+#![tactic(auto)]
+
 pub mod arrays;

@@ -1,4 +1,6 @@
 // The unpacker: an image becomes the listing that packs to it.
+#![tactic(auto)]
+
 pub mod answers;
 pub mod recover;
 pub mod unpack;
@@ -6,7 +8,7 @@ pub mod unpack;
 use cell::Refusal;
 
 // What an unpacking answers: the number of items of the listing. specs/Unpack.antt has the numbers of each case.
-#[derive(Drop)]
+#[derive(Clone, Copy)]
 pub enum Unpacked {
     Refused(Refusal),
     Items(u32),
