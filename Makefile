@@ -24,10 +24,8 @@ compare: library
 	cd tests && cargo run --quiet --offline --release --features library --bin vectors
 	cd cli && cargo test --quiet --offline
 
-# `rt check` proves on all cores what `rt staticlib` would prove on one
 library:
-	rt check exports
-	rt staticlib exports
+	./tools/library
 
 test:
 	./.ci/run
