@@ -11,6 +11,6 @@ pub fn lay_form(start: &[u8], form: &[u8], address: Address, memory: &mut [u8])
     ensures { memory.new ≡ forms.formed start.now address.0 form.now }
 {
     let at = address.0 as usize;
-    bytes::copy(start, memory);
-    bytes::copy(form, &mut memory[at..]);
+    memory.copy_from_slice(start);
+    memory[at..at + form.len()].copy_from_slice(form);
 }

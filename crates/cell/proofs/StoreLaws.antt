@@ -1,5 +1,5 @@
 -- A store as the bytes of its cell, set in a row.
-use Rattle.std.proofs.Common.{◌≡◌, ℕ, zero, suc, ◌+◌, List, [], ◌∷◌, length, refl, add-one}
+use Rattle.std.proofs.Common.{◌≡◌, ℕ, zero, suc, List, [], ◌∷◌, length, refl, add-one}
 use native.Mathlib.Numerals.{add-two, add-three}
 use lib.Seq.{sets}
 use Rattle.cell.specs.Memory.{byte0, byte1, byte2, byte3, cell_bytes, put, store_cell}

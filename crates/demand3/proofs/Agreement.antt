@@ -261,8 +261,8 @@ module _ (machine : Machine) (base : ℕ) (l : Listing) (ok : Legal base l) (i :
       where
         go : (t : Taken (l.kind i)) × (leads t.what ≡ false) → (form_at (layout l) i ≡ Immediate) ⊎ (form_at (layout l) i ≡ InCell)
             → Meets machine base l (carry_out machine base l (stands_at i ran m sp rp)) (cycle_of machine m (at_item base l i sp rp))
-        go t (inl q) = immediate_meets q t.0.what t.0.in_Cell t.0.immediate (literal_rest m t.0.what t.1 c q)
-        go t (inr q) = cell_meets q t.0.what t.0.in_Cell (literal_cell m holds t.0.what t.1 c q)
+        go t (inl q) = immediate_meets q t.0.what t.0.in_cell t.0.immediate (literal_rest m t.0.what t.1 c q)
+        go t (inr q) = cell_meets q t.0.what t.0.in_cell (literal_cell m holds t.0.what t.1 c q)
 
     branch_meets : kinds.class_of (l.kind i) ≡ Branch
         → Meets machine base l (carry_out machine base l (stands_at i ran m sp rp)) (cycle_of machine m (at_item base l i sp rp))
@@ -270,8 +270,8 @@ module _ (machine : Machine) (base : ℕ) (l : Listing) (ok : Legal base l) (i :
       where
         go : (t : Taken (l.kind i)) × (leads t.what ≡ true) → (form_at (layout l) i ≡ Immediate) ⊎ (form_at (layout l) i ≡ InCell)
             → Meets machine base l (carry_out machine base l (stands_at i ran m sp rp)) (cycle_of machine m (at_item base l i sp rp))
-        go t (inl q) = immediate_meets q t.0.what t.0.in_Cell t.0.immediate (branch_by m t.0.what t.1 c q)
-        go t (inr q) = cell_meets q t.0.what t.0.in_Cell (branch_to m holds t.0.what t.1 c q)
+        go t (inl q) = immediate_meets q t.0.what t.0.in_cell t.0.immediate (branch_by m t.0.what t.1 c q)
+        go t (inr q) = cell_meets q t.0.what t.0.in_cell (branch_to m holds t.0.what t.1 c q)
 
     pub item_meets : Meets machine base l (carry_out machine base l (stands_at i ran m sp rp)) (cycle_of machine m (at_item base l i sp rp))
     item_meets = go (kinds.class_of (l.kind i)) refl

@@ -37,7 +37,7 @@ module _ (machine : Machine) where
   pub stored_length : (m : List ℕ) (ss : List Store) → length (stored_of machine m ss) ≡ length m
   unfolding stored_of
   stored_length m [] = refl
-  stored_length m (s ∷ ss) = stored_length _ ss ∙ put_length m s.width s.at s.value
+  stored_length m (s ∷ ss) = stored_length (put_store machine m s.width s.at s.value) ss ∙ put_length m s.width s.at s.value
 
   carried_length : (m : List ℕ) (r : Registers) (x : Action) (c : Checked) → length (carried_out machine m r x c).memory ≡ length m
   carried_length m r x (Bad f) = refl

@@ -243,12 +243,12 @@ module _ (kinds operands table : List ℕ) (image : Image) (s : Settled kinds op
       → base + 4 * place_in table (get_or operands i 0) ≡ address_of base l (get_or operands i 0)
   target_is i h q = rw (s.rows (get_or operands i 0) (target_in i h q)).place
 
-  entry_in : (k a : ℕ) → k ≤ length kinds → entry_below table base k a ≡ packing.entry_below base l k a
+  entry_in_lem : (k a : ℕ) → k ≤ length kinds → entry_below table base k a ≡ packing.entry_below base l k a
   unfolding entry_below packing.entry_below
-  entry_in zero a h = refl
-  entry_in (suc i) a h =
-      rw (entered_is l table i (s.rows i (omega arith)), (s.rows i (omega arith)).place, entry_in i a (omega arith))
+  entry_in_lem zero a h = refl
+  entry_in_lem (suc i) a h =
+      rw (entered_is l table i (s.rows i (omega arith)), (s.rows i (omega arith)).place, entry_in_lem i a (omega arith))
 
   pub finds : (a : ℕ) → entry_below table base (length kinds) a ≡ entry_at base l a
   unfolding entry_at
-  finds a = entry_in (length kinds) a (omega arith)
+  finds a = entry_in_lem (length kinds) a (omega arith)

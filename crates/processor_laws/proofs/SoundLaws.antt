@@ -49,7 +49,7 @@ module _ (machine : Machine) where
   pub stored_bytewise : (m : List ℕ) (ss : List Store) → AllHold ss → Bytewise m → Bytewise (stored_of machine m ss)
   unfolding stored_of
   stored_bytewise m [] h b = b
-  stored_bytewise m (s ∷ ss) h b = stored_bytewise _ ss h.1 (put_bytewise m s.width s.at s.value h.0 b)
+  stored_bytewise m (s ∷ ss) h b = stored_bytewise (put_store machine m s.width s.at s.value) ss h.1 (put_bytewise m s.width s.at s.value h.0 b)
 
   carried_sound : (m : List ℕ) (r : Registers) (x : Action) (c : Checked) → Limited x → Sound m r
       → SoundStepped (carried_out machine m r x c)

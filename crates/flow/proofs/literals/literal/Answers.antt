@@ -1,0 +1,16 @@
+-- `literal` meets its contract: a fetch that fails is raised, and else the effect is the clause of specs/.
+use Rattle.instruction.specs.Taking as taking
+use Rattle.instruction.specs.Plain as plain
+use mathlib.Core.Path.{◌∙◌, sym, ap}
+use Rattle.flow.proofs.literals.literal.Goals as goal
+
+pub fail_one-requires : goal.fail_one-requires
+fail_one-requires c = (_, c.in_default.is)
+
+pub returns-in_default : goal.returns-in_default
+unfolding taking.taking_of
+returns-in_default c = simp (sym c.literal_operand-got.ensures ∙ c.in_default.is) (c.fail_one.ensures ∙ ap plain.failed c.in_default.is)
+
+pub returns : goal.returns
+unfolding taking.taking_of
+returns c = simp (sym c.literal_operand-got.ensures ∙ c.in-Cell.is) c.push.ensures

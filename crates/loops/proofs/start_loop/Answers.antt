@@ -1,0 +1,38 @@
+-- `start_loop` meets its contract: a fetch that fails is raised, and else the effect is the clause of specs/.
+use Rattle.instruction.specs.Plain as plain
+use mathlib.Core.Path.{◌∙◌, sym, ap}
+use Rattle.loops.proofs.start_loop.Goals as goal
+
+pub fail_two_returns-requires : goal.fail_two_returns-requires
+fail_two_returns-requires c = (_, c.in_default.is)
+
+pub returns-in_default : goal.returns-in_default
+unfolding plain.plain_of
+returns-in_default c = simp (sym c.fetch_data-got.ensures ∙ c.in_default.is) (c.fail_two_returns.ensures ∙ ap plain.failed c.in_default.is)
+
+pub fail_two_returns-requires-in_default-got2 : goal.fail_two_returns-requires-in_default-got2
+fail_two_returns-requires-in_default-got2 c = (_, c.in_default-got2.is)
+
+pub returns-in_default-got2 : goal.returns-in_default-got2
+unfolding plain.plain_of
+returns-in_default-got2 c = simp (
+  sym c.fetch_data-got.ensures ∙
+      c.in-Cell.is,
+  rw c.add.ensures at (sym
+      c.fetch_data-got2.ensures ∙ c.in_default-got2.is),
+) (c.fail_two_returns-in_default-got2.ensures ∙ ap plain.failed c.in_default-got2.is)
+
+pub returns : goal.returns
+unfolding plain.plain_of
+returns c = simp (
+  sym c.fetch_data-got.ensures ∙
+      c.in-Cell.is,
+  rw
+      c.add.ensures at (sym
+      c.fetch_data-got2.ensures ∙ c.in-Cell-got2.is),
+  c.add.ensures,
+  c.add-2.ensures,
+  c.subtract.ensures,
+  c.subtract-2.ensures,
+  c.subtract-3.ensures,
+)

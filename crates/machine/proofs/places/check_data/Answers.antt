@@ -1,0 +1,15 @@
+use Rattle.machine.proofs.SpanLaws.{found, place_good, place_off, place_outside}
+use Rattle.machine.specs.declared.Access.TheVariants.{DataRead}
+use Rattle.machine.specs.Places.{one_cell}
+use mathlib.Core.Path.{refl, sym, ◌∙◌}
+use Rattle.machine.proofs.places.check_data.Goals as goal
+
+pub returns-then-is_within : goal.returns-then-is_within
+returns-then-is_within c = let f = found c.args.machine.stack c.args.length c.args.address.0 c.is_within.result c.requires.stack.ends c.is_within.ensures c.if-is_within.true in
+    sym (place_good c.args.machine one_cell DataRead c.args.length c.args.address.0 f.inside f.both (refl))
+
+pub returns-then-address-length : goal.returns-then-address-length
+returns-then-address-length c = sym (place_off c.args.machine one_cell DataRead c.args.length c.args.address.0 c.if-address-length.true (sym c.is_within.ensures ∙ c.if-is_within.false))
+
+pub returns : goal.returns
+returns c = sym (place_outside c.args.machine one_cell DataRead c.args.length c.args.address.0 c.if-address-length.false)

@@ -1,0 +1,56 @@
+-- `minus_rot` meets its contract: a fetch that fails is raised, and else the effect is the clause of specs/.
+use Rattle.instruction.specs.Plain as plain
+use mathlib.Core.Path.{◌∙◌, sym, ap}
+use Rattle.stack_order.proofs.minus_rot.Goals as goal
+
+pub fail_three-requires : goal.fail_three-requires
+fail_three-requires c = (_, c.in_default.is)
+
+pub returns-in_default : goal.returns-in_default
+unfolding plain.plain_of
+returns-in_default c = simp (sym c.fetch_data-got.ensures ∙ c.in_default.is) (c.fail_three.ensures ∙ ap plain.failed c.in_default.is)
+
+pub fail_three-requires-in_default-got2 : goal.fail_three-requires-in_default-got2
+fail_three-requires-in_default-got2 c = (_, c.in_default-got2.is)
+
+pub returns-in_default-got2 : goal.returns-in_default-got2
+unfolding plain.plain_of
+returns-in_default-got2 c = simp (
+  sym c.fetch_data-got.ensures ∙
+      c.in-Cell.is,
+  rw c.add.ensures at (sym
+      c.fetch_data-got2.ensures ∙ c.in_default-got2.is),
+) (c.fail_three-in_default-got2.ensures ∙ ap plain.failed
+    c.in_default-got2.is)
+
+pub fail_three-requires-in_default-got3 : goal.fail_three-requires-in_default-got3
+fail_three-requires-in_default-got3 c = (_, c.in_default-got3.is)
+
+pub returns-in_default-got3 : goal.returns-in_default-got3
+unfolding plain.plain_of
+returns-in_default-got3 c = simp (
+  sym c.fetch_data-got.ensures ∙
+      c.in-Cell.is,
+  rw
+      c.add.ensures at (sym
+      c.fetch_data-got2.ensures ∙ c.in-Cell-got2.is),
+  rw c.add-2.ensures at (sym c.fetch_data-got3.ensures ∙ c.in_default-got3.is),
+)
+    (c.fail_three-in_default-got3.ensures ∙ ap plain.failed c.in_default-got3.is)
+
+pub returns : goal.returns
+unfolding plain.plain_of
+returns c = simp (
+  sym c.fetch_data-got.ensures ∙
+      c.in-Cell.is,
+  rw
+      c.add.ensures at (sym
+      c.fetch_data-got2.ensures ∙
+      c.in-Cell-got2.is),
+  rw c.add-2.ensures at
+      (sym c.fetch_data-got3.ensures ∙ c.in-Cell-got3.is),
+  c.add.ensures,
+  c.add-2.ensures,
+  c.add-3.ensures,
+  c.add-4.ensures,
+)

@@ -1,0 +1,36 @@
+-- `c_store` meets its contract: a fetch that fails is raised, and else the effect is the clause of specs/.
+use Rattle.instruction.specs.Plain as plain
+use mathlib.Core.Path.{◌∙◌, sym, ap}
+use Rattle.storage.proofs.memory.c_store.Goals as goal
+
+pub fail_byte-requires : goal.fail_byte-requires
+fail_byte-requires c = (_, c.in_default.is)
+
+pub returns-in_default : goal.returns-in_default
+unfolding plain.plain_of
+returns-in_default c = simp (sym c.fetch_data-got.ensures ∙ c.in_default.is) (c.fail_byte.ensures ∙ ap plain.failed c.in_default.is)
+
+pub fail_byte-requires-in_default-got2 : goal.fail_byte-requires-in_default-got2
+fail_byte-requires-in_default-got2 c = (_, c.in_default-got2.is)
+
+pub returns-in_default-got2 : goal.returns-in_default-got2
+unfolding plain.plain_of
+returns-in_default-got2 c = simp (
+  sym c.fetch_data-got.ensures ∙
+      c.in-Cell.is,
+  rw c.add.ensures at (sym
+      c.fetch_data-got2.ensures ∙ c.in_default-got2.is),
+) (c.fail_byte-in_default-got2.ensures ∙ ap plain.failed
+    c.in_default-got2.is)
+
+pub returns : goal.returns
+unfolding plain.plain_of
+returns c = simp (
+  sym c.fetch_data-got.ensures ∙
+      c.in-Cell.is,
+  rw c.add.ensures at
+      (sym c.fetch_data-got2.ensures ∙ c.in-Cell-got2.is),
+  c.add.ensures,
+  c.add-2.ensures,
+  c.byte_address.ensures,
+)
