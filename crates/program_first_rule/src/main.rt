@@ -3,15 +3,30 @@
 
 use areas::{Area, Areas};
 use cell::{Address, CellCount};
-use libc::STDOUT_FILENO;
 use machine::Table;
 use processor::Ran;
 use processor::entry::run;
 use processor_start::Started;
 use processor_start::entry::start;
 use program_print::print_digits;
+use std::io;
 
-fn main() {
+// How a run ended.
+fn print_ran(rt: &impl Print, ran: Ran) -> io::Result<()> {
+    match ran {
+        Ran::Refused(_) => println!(rt; "refused"),
+        Ran::Spent(_) => println!(rt; "spent"),
+        Ran::Stopped(_, reason, done) => {
+            print!(rt; "reason ")?;
+            print_digits(rt, reason)?;
+            print!(rt; ", cycles ")?;
+            print_digits(rt, done)?;
+            println!(rt)
+        }
+    }
+}
+
+fn main(rt: HostRuntime) -> io::Result<()> {
     let mut memory = [0u8; 1024];
     // the cells 00000253h, 00000353h and 0000551Eh, least byte first
     memory[16] = 0x53;
@@ -32,23 +47,8 @@ fn main() {
         first: Address(16),
         end: Address(28),
     };
-    let Started::Ready(r) = start(0, &mut memory, Address(16), Address(0), areas, table) else {
-        io::write_all(STDOUT_FILENO, b"not ready\n");
-        return;
-    };
-    match run(0, &mut memory, table, r, 100) {
-        Ran::Refused(_) => {
-            io::write_all(STDOUT_FILENO, b"refused\n");
-        }
-        Ran::Spent(_) => {
-            io::write_all(STDOUT_FILENO, b"spent\n");
-        }
-        Ran::Stopped(_, reason, done) => {
-            io::write_all(STDOUT_FILENO, b"reason ");
-            print_digits(reason);
-            io::write_all(STDOUT_FILENO, b", cycles ");
-            print_digits(done);
-            io::write_all(STDOUT_FILENO, b"\n");
-        }
+    match start(0, &mut memory, Address(16), Address(0), areas, table) {
+        Started::Ready(r) => print_ran(&rt, run(0, &mut memory, table, r, 100)),
+        _ => println!(rt; "not ready"),
     }
 }

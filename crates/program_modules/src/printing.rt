@@ -1,54 +1,49 @@
 // What the program prints.
-use io::{print_decimal, print_hex, write_all};
-use libc::STDOUT_FILENO;
 use module_loading::Loaded;
 use module_loading::answers::{load_count, load_number};
 use module_saving::Saved;
 use module_saving::answers::{save_count, save_number};
 use program_print::print_number;
+use std::io;
 
-pub fn print_label(name: &[u8], n: usize) {
-    write_all(STDOUT_FILENO, name);
-    print_decimal(STDOUT_FILENO, n as u64);
-    write_all(STDOUT_FILENO, b": ");
+pub fn print_label(rt: &impl Print, name: &str, n: usize) -> io::Result<()> {
+    print!(rt; "{name} {n}: ")
 }
 
-fn print_answer(number: u32, count: u32) {
+fn print_answer(rt: &impl Print, number: u32, count: u32) -> io::Result<()> {
     if number == 0 {
-        print_decimal(STDOUT_FILENO, 0);
+        print!(rt; "0")?;
     } else {
-        print_number(number);
+        print_number(rt, number)?;
     }
-    write_all(STDOUT_FILENO, b", count ");
-    print_decimal(STDOUT_FILENO, count as u64);
-    write_all(STDOUT_FILENO, b"\n");
+    println!(rt; ", count {count}")
 }
 
-pub fn print_loaded(answer: Loaded) {
+pub fn print_loaded(rt: &impl Print, answer: Loaded) -> io::Result<()> {
     let cells = load_count(answer);
-    print_answer(load_number(answer), cells.0)
+    print_answer(rt, load_number(answer), cells.0)
 }
 
-pub fn print_saved(answer: Saved) {
-    print_answer(save_number(answer), save_count(answer))
+pub fn print_saved(rt: &impl Print, answer: Saved) -> io::Result<()> {
+    print_answer(rt, save_number(answer), save_count(answer))
 }
 
-fn print_byte(x: u8) {
-    print_hex(STDOUT_FILENO, x as u64, 2);
+fn print_byte(rt: &impl Print, x: u8) -> io::Result<()> {
+    print!(rt; "{x:02x}")
 }
 
-fn print_bytes(bytes: &[u8]) {
-    let mut i = 0;
-    while i < bytes.len() {
-        print_byte(bytes[i]);
-        i += 1;
+fn print_bytes(rt: &impl Print, bytes: &[u8]) -> io::Result<()> {
+    for x in bytes {
+        print_byte(rt, *x)?;
     }
+    Ok(())
 }
 
 // The first 24 bytes.
-pub fn print_front(bytes: &[u8]) {
+pub fn print_front(rt: &impl Print, bytes: &[u8]) -> io::Result<()> {
     if 24 <= bytes.len() {
-        print_bytes(&bytes[0..24]);
-        write_all(STDOUT_FILENO, b"\n");
+        print_bytes(rt, &bytes[0..24])?;
+        println!(rt)?;
     }
+    Ok(())
 }

@@ -1,27 +1,26 @@
 // Listing files, whole and cut.
-use io::{print_decimal, write_all};
-use libc::STDOUT_FILENO;
 use pack_files::file::pack_file;
 use program_print::print_packed;
+use std::io;
 
 // The first n bytes of a file.
-fn front(file: &[u8], n: usize) {
+fn front(rt: &impl Print, file: &[u8], n: usize) -> io::Result<()> {
     if n <= file.len() {
-        print_decimal(STDOUT_FILENO, n as u64);
-        write_all(STDOUT_FILENO, b" bytes:\n");
+        println!(rt; "{n} bytes:")?;
         let mut output = [0u8; 1024];
         let answer = pack_file(0, &file[0..n], &mut output);
-        print_packed(answer, &output);
+        print_packed(rt, answer, &output)?;
     }
+    Ok(())
 }
 
 // One item, DUP at 10h, with a byte too many behind it.
-pub fn cut() {
+pub fn cut(rt: &impl Print) -> io::Result<()> {
     let file = [1u8, 0, 0, 0, 0x10, 0, 0, 0, 0x01, 0, 0, 0, 0, 0];
-    front(&file, 0);
-    front(&file, 7);
-    front(&file, 8);
-    front(&file, 12);
-    front(&file, 14);
-    front(&file, 13);
+    front(rt, &file, 0)?;
+    front(rt, &file, 7)?;
+    front(rt, &file, 8)?;
+    front(rt, &file, 12)?;
+    front(rt, &file, 14)?;
+    front(rt, &file, 13)
 }

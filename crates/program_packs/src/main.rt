@@ -5,9 +5,11 @@
 mod files;
 mod rows;
 
-fn main() {
-    rows::worked();
-    rows::marked();
-    rows::refused();
-    files::cut();
+use std::io;
+
+fn main(rt: HostRuntime) -> io::Result<()> {
+    rows::worked(&rt)?;
+    rows::marked(&rt)?;
+    rows::refused(&rt)?;
+    files::cut(&rt)
 }
