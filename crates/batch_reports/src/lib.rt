@@ -1,7 +1,7 @@
 // What a batch reports, and its counting.
 #![tactic(auto)]
 
-pub mod counting;
+pub mod tallying;
 
 // The figures of some runs: how many there are, how many stopped with 0, with -258, with -259 and with any other reason, how many were spent, the cycles
 // of all of them, and the most that one of them had.

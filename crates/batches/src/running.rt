@@ -9,7 +9,7 @@ use areas::RegisterFile;
 use batch_forms::laying::lay_form;
 use batch_judging::judgement::judge_batch;
 use batch_reports::Tally;
-use batch_reports::counting::{add, count_run, no_runs, report};
+use batch_reports::tallying::{add, count_run, no_runs, report};
 use cell::{Address, Judged};
 use machine::Table;
 use processor::entry::run;

@@ -1,5 +1,5 @@
 // The calls for the list machine.
-ghost use Rattle.std.specs.Prelude.{◌≡◌, not, eqb};
+ghost use Rattle.std.specs.Prelude.{◌≡◌};
 ghost use Rattle.processor_calls.specs.Machines as machines;
 ghost use Rattle.list_calls.specs.Lists as lists;
 
@@ -11,7 +11,7 @@ use list_telling::{judge_lent, note_followed, number_at};
 use machine::Table;
 use pack_layout::ItemNumber;
 
-// A run taken up at an item, with SP, RP and the areas lent in `pointers` and what is told of it in `out`. `ran` is 0 where the item was not run on into from an item not in its immediate form.
+// A run taken up at an item, with SP, RP and the areas lent in `pointers` and what is told of it in `out`.
 pub fn resume_list(
     order: u8,
     kinds: &[u8],
@@ -20,18 +20,18 @@ pub fn resume_list(
     memory: &mut [u8],
     table: Table,
     item: ItemNumber,
-    ran: u8,
+    ran: bool,
     pointers: &mut [u32],
     items: u32,
     out: &mut [u32],
 ) -> u32
-    ensures { machines.called memory.new pointers.new out.new result ≡ lists.resume_call order kinds.now operands.now base.0 memory.old table item.0 (not (eqb ran 0)) pointers.old items out.old }
+    ensures { machines.called memory.new pointers.new out.new result ≡ lists.resume_call order kinds.now operands.now base.0 memory.old table item.0 ran pointers.old items out.old }
 {
     let sp = number_at(pointers, 0);
     let rp = number_at(pointers, 1);
     let start = Stand {
         item: item,
-        ran: ran != 0,
+        ran: ran,
         sp: sp,
         rp: rp,
     };

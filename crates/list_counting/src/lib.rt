@@ -2,7 +2,7 @@
 #![tactic(auto)]
 
 pub mod answers;
-pub mod counting;
+pub mod tallying;
 
 use list_machine::Outside;
 use list_proposing::Stand;

@@ -10,7 +10,7 @@ ghost use Rattle.list_counting.specs.Outcomes as outcomes;
 
 use crate::carrying::carry_out;
 use list_counting::ItemRun;
-use list_counting::counting::{begin_run, count_item, cycles_at, is_over};
+use list_counting::tallying::{begin_run, count_item, cycles_at, is_over};
 use list_proposing::Stand;
 use list_tables::Image;
 use machine::Machine;

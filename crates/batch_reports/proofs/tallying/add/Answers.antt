@@ -3,7 +3,7 @@
 use mathlib.Core.Path.{refl}
 use native.Mathlib.Omega.{arith}
 use Rattle.batch_reports.proofs.CountingLaws.{within_added}
-use Rattle.batch_reports.proofs.counting.add.Goals as goal
+use Rattle.batch_reports.proofs.tallying.add.Goals as goal
 
 pub overflow_add-result-5 : goal.overflow_add-result-5
 overflow_add-result-5 c = omega (arith, c.requires.forms_bound, c.requires.within.0.others, c.requires.within.1.others)

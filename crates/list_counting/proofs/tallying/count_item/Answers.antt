@@ -1,5 +1,5 @@
 -- `count_item` meets its contract.
-use Rattle.list_counting.proofs.counting.count_item.Goals as goal
+use Rattle.list_counting.proofs.tallying.count_item.Goals as goal
 
 pub returns-in-On : goal.returns-in-On
 returns-in-On c = rw c.in-On.is

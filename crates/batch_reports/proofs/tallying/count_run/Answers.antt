@@ -1,7 +1,7 @@
 -- `batch_reports::counting::count_run` meets its contract.
 -- Assumes nothing.
 use Rattle.batch_reports.proofs.CountingLaws.{refused_one, spent_one, zero_one, stack_one, handler_one, other_one, counted}
-use Rattle.batch_reports.proofs.counting.count_run.Goals as goal
+use Rattle.batch_reports.proofs.tallying.count_run.Goals as goal
 
 pub returns-then-reason-eq0 : goal.returns-then-reason-eq0
 returns-then-reason-eq0 c = record {

@@ -2,7 +2,7 @@
 -- Assumes nothing.
 use borrow.Author.Tests.{eq-eqb, ne_eqb}
 use Rattle.batch_reports.proofs.CountingLaws.{mean_fits, rest_fits}
-use Rattle.batch_reports.proofs.counting.mean_of.Goals as goal
+use Rattle.batch_reports.proofs.tallying.mean_of.Goals as goal
 
 pub returns-then-forms-eq0 : goal.returns-then-forms-eq0
 returns-then-forms-eq0 c = simp (eq-eqb _ _ c.if-forms-eq0.true)
