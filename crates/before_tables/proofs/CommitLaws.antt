@@ -62,7 +62,7 @@ put_same machine m one_cell a x = refl
 pub same_stored : (machine : Machine) (m : List ℕ) (ss : List Store) → stored_of machine m ss ≡ stored_before machine.order m ss
 unfolding stored_of stored_before
 same_stored machine m [] = refl
-same_stored machine m (s ∷ ss) = rw (put_same machine m s.width s.at s.value) (same_stored machine _ ss)
+same_stored machine m (s ∷ ss) = rw (put_same machine m s.width s.at s.value) (same_stored machine (put_before machine.order m s.width s.at s.value) ss)
 
 -- an action whose places were judged
 pub same_carried : {before : Fault → Exception} (machine : Machine) (m : List ℕ) (r : Registers) (x : Action) {c d : Checked} → Judges machine before c d

@@ -1,4 +1,4 @@
-// The calls for the list machine.
+// The calls for the list machine. They judge first, and write nothing that was lent where they refuse.
 ghost use Rattle.std.specs.Prelude.{◌≡◌, not, eqb};
 ghost use Rattle.machine.specs.Places.{table_of};
 ghost use Rattle.processor_calls.specs.Machines as machines;
@@ -32,7 +32,7 @@ pub extern "C" fn beetle_list_run(
         memory,
         make_table(table, table_end),
         ItemNumber(0),
-        0,
+        false,
         pointers,
         items,
         out,
@@ -65,7 +65,7 @@ pub extern "C" fn beetle_list_resume(
         memory,
         make_table(table, table_end),
         ItemNumber(item),
-        ran,
+        ran != 0,
         pointers,
         items,
         out,
