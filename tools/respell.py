@@ -5,7 +5,7 @@ usage: python3 tools/respell.py [--list]      at the top of the repository, righ
 
 What is respelled: every word in lower camel case in .antt files and in the clauses of .rt files, and every name with a dash that a file of
 specs/ or proofs/ declares. What a file imports from a library keeps its spelling there, as does what Rattle makes. Pages follow.
-Must-fail edits are brought over by hand. --list only prints the names. Names that fall together are printed: of a lemma and a definition the lemma gets _lem after its name.
+Must-fail edits are not turned. --list only prints the names. Names that fall together are printed: of a lemma and a definition the lemma gets _lem after its name.
 """
 
 import collections

@@ -1,0 +1,2 @@
+-- Laws of reading in two parts.
+mod Reading
