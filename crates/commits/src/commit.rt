@@ -184,7 +184,7 @@ pub fn commit_one(machine: Machine, memory: &mut [u8], r: Registers, e: OneStore
     settle(r.ep, r.a, e.sp, e.rp, then)
 }
 
-#[inline(always)]
+#[inline]
 pub fn commit_maybe(machine: Machine, memory: &mut [u8], r: Registers, e: MaybeStore) -> Step
     requires { places.Fits machine (length memory.old) }
     ensures { commits.stepped memory.new result ≡ commits.commit_of machine memory.old r (effects.maybe_store e) }

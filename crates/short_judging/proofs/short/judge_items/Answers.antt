@@ -60,9 +60,11 @@ loop-i-preserved c = let e = short_item c.args.file.now c.args.n c.loop-i.i c.lo
 
 pub returns-then-k-m : goal.returns-then-k-m
 returns-then-k-m c = let t : c.loop-i.i ≡ c.args.n = omega (arith, c.loop-i.invariant.0, c.loop-i-test.false) in
-    other_refused _ c.args.n c.args.m (operands_before (short_kind c.args.file.now) c.args.n) _ (λ e. c.if-k-m.true (c.loop-i.invariant.1 ∙ ap (operands_before (short_kind c.args.file.now)) t ∙ sym e))
+    other_refused _ c.args.n c.args.m (operands_before (short_kind c.args.file.now) c.args.n) _ (λ e. let q : c.loop-i.k ≡ operands_before (short_kind c.args.file.now) c.args.n = c.loop-i.invariant.1 ∙ ap (operands_before (short_kind c.args.file.now)) t in
+    omega (arith, c.if-k-m.true))
 
 pub returns : goal.returns
 returns c = let t : c.loop-i.i ≡ c.args.n = omega (arith, c.loop-i.invariant.0, c.loop-i-test.false) in
+    let q : c.loop-i.k ≡ operands_before (short_kind c.args.file.now) c.args.n = c.loop-i.invariant.1 ∙ ap (operands_before (short_kind c.args.file.now)) t in
     sym (after_passed c.loop-i.first) ∙ ap (after c.loop-i.first) (sym (judged_end (short_listing c.args.file.now) c.args.n c.loop-i.i c.loop-i-test.false)) ∙ c.loop-i.invariant.3
-    ∙ sym (same_passed _ c.args.n c.args.m (operands_before (short_kind c.args.file.now) c.args.n) _ (sym c.if-k-m.false ∙ c.loop-i.invariant.1 ∙ ap (operands_before (short_kind c.args.file.now)) t) c.requires.n_bound.1)
+    ∙ sym (same_passed _ c.args.n c.args.m (operands_before (short_kind c.args.file.now) c.args.n) _ (omega (arith, c.if-k-m.false)) c.requires.n_bound.1)
