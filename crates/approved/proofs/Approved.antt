@@ -5,8 +5,7 @@ use Prim.Native.Nat.{ℕ, ◌+◌, ◌*◌, ◌<◌}
 use native.Mathlib.Omega.{arith}
 use lib.ListN.{length, get_or}
 use Rattle.cell.specs.Memory.{cell_at}
-use Rattle.cell.specs.Refusals.{judge_machine}
-use Rattle.cell.specs.declared.Judged.TheVariants.{Passed}
+use Rattle.cell.specs.Refusals.{judge_machine, passed}
 use Rattle.machine.specs.declared.Table.{Table}
 use Rattle.areas.specs.Areas.{judge_areas}
 use Rattle.code_tables.specs.Tables.{judge_table}
@@ -28,8 +27,8 @@ use Rattle.approved.specs.Approved.{StandsAt, RunsAsListed, StartsAsListed, Pack
 use Rattle.approved.proofs.Packing.{Made, made}
 use Rattle.approved.proofs.Starting.{four_length, four_holds, start_ready}
 
-bounded_passed : (len order : ℕ) (areas : Areas) (table : Table) → judge_machine len order ≡ Passed → judge_areas len areas ≡ Passed
-    → judge_table len table ≡ Passed → judge_bounded len order areas table ≡ Passed
+bounded_passed : (len order : ℕ) (areas : Areas) (table : Table) → judge_machine len order ≡ passed → judge_areas len areas ≡ passed
+    → judge_table len table ≡ passed → judge_bounded len order areas table ≡ passed
 unfolding judge_bounded
 bounded_passed len order areas table p q t = rw (p, q, t)
 
@@ -44,7 +43,7 @@ runs order base l m ok h =
 
 pub starts : (order : ℕ) (areas : Areas) (table : Table) (base : ℕ) (l : Listing) (m : List ℕ) (handler : ℕ) → Legal base l
     → ((given : Areas) (table : Table) → Holds (machine_of order given table (length m)) base l m)
-    → judge_bounded (length m) order areas table ≡ Passed → StartsAsListed order areas table base l m handler
+    → judge_bounded (length m) order areas table ≡ passed → StartsAsListed order areas table base l m handler
 starts order areas table base l m handler ok h q =
     let four = four_length (machine_of order areas table (length m)) m handler in
     record {
@@ -74,7 +73,7 @@ approved_runs theirs base l p k q office b low s out e ours centre machine place
       inside = omega (arith, r.long, place.room, w.counted);
       cells = λ j c. r.cells j (omega (arith, w.counted)) ∙ cells_there theirs base l p office b w s j c;
     } in
-    let good : judge_machine (length m) ours ≡ Passed = rw r.long (good_machine (length centre) ours machine) in
+    let good : judge_machine (length m) ours ≡ passed = rw r.long (good_machine (length centre) ours machine) in
     record {
       accepted = r.accepted;
       counted = r.counted;

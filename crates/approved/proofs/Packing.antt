@@ -1,12 +1,12 @@
 -- What an accepted packing is: a legal listing, and its image in the output.
+use Rattle.std.specs.Prelude.{Ok, Err}
+use Rattle.cell.specs.Refusals.{Judged, passed}
 use mathlib.Core.Path.{◌≡◌, refl, sym}
 use mathlib.Core.List.{List, [], ◌∷◌}
 use Prim.Native.Nat.{ℕ, zero, suc, ◌+◌, ◌*◌, ◌<◌}
 use native.Mathlib.Omega.{arith}
 use lib.ListN.{length, get_or, drop, get_or-append}
 use Rattle.cell.specs.Memory.{Bytewise}
-use Rattle.cell.specs.declared.Judged.{Judged}
-use Rattle.cell.specs.declared.Judged.TheVariants as judged
 use Rattle.cell.proofs.JudgementLaws.{both_pass, refusal_some}
 use Rattle.cell.proofs.MemoryLaws.{cell_below}
 use Rattle.pack_layout.specs.Listing.{Listing, listed, judged_arrays}
@@ -37,11 +37,11 @@ written_front order xs out i h = get_or-append (bytes_of order xs) (drop (4 * le
 
 -- a packing of two arrays, judged by j, that answered 0
 module _ (order base : ℕ) (kinds operands : List ℕ) (low : Cells operands) (out : List ℕ) where
-  made_of : (input : Judged) → (input ≡ judged.Passed → judged_arrays kinds operands ≡ judged.Passed)
+  made_of : (input : Judged) → (input ≡ passed → judged_arrays kinds operands ≡ passed)
       → (j : Judged) → j ≡ judge_all order input base (listed kinds operands) (length out)
       → (pack_if j order base (listed kinds operands) out).number ≡ 0 → Made order base (listed kinds operands) (pack_if j order base (listed kinds operands) out)
-  made_of input f (judged.Refused r) e q = absurd (refusal_some r q)
-  made_of input f judged.Passed e q =
+  made_of input f (Err r) e q = absurd (refusal_some r q)
+  made_of input f (Ok _) e q =
       let s = both_pass (judge_order order) _ (sym e) in
       let t = both_pass input _ s.1 in
       let u = both_pass (judged_place base (image_cells (listed kinds operands))) _ t.1 in

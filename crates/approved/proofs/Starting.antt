@@ -1,4 +1,6 @@
 -- A start at the base of an image in memory.
+use Rattle.std.specs.Prelude.{Ok}
+use Rattle.cell.specs.Refusals.{passed}
 use mathlib.Core.Path.{◌≡◌, sym, ap, ◌∙◌}
 use mathlib.Core.List.{List}
 use mathlib.Core.Logic.{inl}
@@ -6,9 +8,7 @@ use Prim.Native.Nat.{ℕ, ◌+◌, ◌*◌, ◌≤◌}
 use native.Mathlib.Omega.{arith}
 use lib.ListN.{length}
 use Rattle.cell.specs.Memory.{cell_at, Alike}
-use Rattle.cell.specs.declared.Judged.TheVariants.{Passed}
 use Rattle.cell.specs.Number.{sum}
-use Rattle.cell.specs.declared.Fetched.TheVariants.{Cell}
 use Rattle.cell.proofs.MemoryLaws.{cell_frame, alike_trans, store_length}
 use Rattle.machine.specs.Places.{fetch_of}
 use Rattle.exceptions.specs.Fixed.{handler_cell, memory_cell, bad_cell, address_cell}
@@ -56,20 +56,20 @@ module _ (order : ℕ) (areas : Areas) (table : Table) (base : ℕ) (l : Listing
       (four_alike machine m handler base (base + 4 * image_cells l) (placed base l ok).above_cells)
       (four_length machine m handler)
 
-  first_fetch : fetch_of machine Stream (four_cells machine m handler) base ≡ Cell (cell_at order (four_cells machine m handler) base)
+  first_fetch : fetch_of machine Stream (four_cells machine m handler) base ≡ Ok (cell_at order (four_cells machine m handler) base)
   first_fetch =
       let some = at_inside base l ok 0 (some_item l ok.input).0 in
       let z : base + 4 * 0 ≡ base = omega arith in
       (rw z at (image_fetch machine base l ok (four_cells machine m handler) four_holds 0 (omega (arith, some))))
-      ∙ ap Cell (sym (rw z at (four_holds.cells 0 (omega (arith, some)))))
+      ∙ ap Ok (sym (rw z at (four_holds.cells 0 (omega (arith, some)))))
 
   first_ep : sum base 4 ≡ base + 4
   unfolding sum
   first_ep = omega (arith, (placed base l ok).inside, at_inside base l ok 0 (some_item l ok.input).0)
 
-  pub start_ready : judge_bounded (length m) order areas table ≡ Passed
+  pub start_ready : judge_bounded (length m) order areas table ≡ passed
       → start_answer order areas table m base handler
       ≡ started_to (four_cells machine m handler)
-      (Ready (with_areas areas (first_registers machine base (four_cells machine m handler) (first_sp (length m) areas) (first_rp (length m) areas))))
+      (Ok (Ready (with_areas areas (first_registers machine base (four_cells machine m handler) (first_sp (length m) areas) (first_rp (length m) areas)))))
   unfolding start_answer start_of next_of
   start_ready q = rw (q, first_fetch, first_ep)

@@ -1,10 +1,9 @@
 -- What is approved is what runs. An office approves a listing; `pack` makes its cells; they are saved as an object module, and a centre, of the same
 -- byte order or the other, loads the file and runs it. The claims join what `pack`, `save_object`, `load_object` and `run` promise with demand 3
 -- (document 01, Listings and Modules), so that nothing on the way is left to the reader.
-use Rattle.std.specs.Prelude.{◌≡◌, List, ℕ, ◌+◌, ◌*◌, ◌^◌, ◌≤◌, ◌<◌, length, get_or}
+use Rattle.std.specs.Prelude.{◌≡◌, List, ℕ, ◌+◌, ◌*◌, ◌^◌, ◌≤◌, ◌<◌, length, get_or, Ok}
 use Rattle.cell.specs.Memory.{Bytewise}
-use Rattle.cell.specs.Refusals.{GoodMachine}
-use Rattle.cell.specs.declared.Judged.TheVariants.{Passed}
+use Rattle.cell.specs.Refusals.{GoodMachine, passed}
 use Rattle.cycles.specs.Counts.{begun}
 use Rattle.machine.specs.declared.Table.{Table}
 use Rattle.areas.specs.Areas.{judge_areas, filed as with_areas}
@@ -49,7 +48,7 @@ pub record RunsAsListed (order base : ℕ) (l : Listing) (m : List ℕ) : Type 0
   pub agrees : (areas : Areas) (table : Table) (sp rp k : ℕ)
       → Agree (machine_of order areas table (length m)) (begun m (first_registers (machine_of order areas table (length m)) base m sp rp))
       (run_of (machine_of order areas table (length m)) base l k (beginning l m sp rp))
-  pub answers : (areas : Areas) (table : Table) → judge_bounded (length m) order areas table ≡ Passed → (sp rp k : ℕ)
+  pub answers : (areas : Areas) (table : Table) → judge_bounded (length m) order areas table ≡ passed → (sp rp k : ℕ)
       → RunAgrees order areas table base m sp rp (run_of (machine_of order areas table (length m)) base l k (beginning l m sp rp))
 
 -- and `start` at the base, with any handler and these areas, makes the machine ready there, the stacks at their tops: the memory with its four cells set runs as
@@ -58,9 +57,9 @@ pub record StartsAsListed (order : ℕ) (areas : Areas) (table : Table) (base : 
   pub ready :
       start_answer order areas table m base handler
       ≡ started_to (four_cells (machine_of order areas table (length m)) m handler)
-      (Ready (with_areas areas
+      (Ok (Ready (with_areas areas
       (first_registers (machine_of order areas table (length m)) base (four_cells (machine_of order areas table (length m)) m handler) (first_sp (length m) areas)
-      (first_rp (length m) areas))))
+      (first_rp (length m) areas)))))
   pub runs : RunsAsListed order base l (four_cells (machine_of order areas table (length m)) m handler)
 
 -- what was packed, in memory at its base, runs as its listing reads
@@ -76,7 +75,7 @@ pub record Arrives (ours base : ℕ) (l : Listing) (r : LoadResult) (count : ℕ
   pub accepted : r.number ≡ 0
   pub counted : r.count ≡ count
   pub runs : RunsAsListed ours base l r.memory
-  pub starts : (areas : Areas) (table : Table) → judge_areas (length r.memory) areas ≡ Passed → judge_table (length r.memory) table ≡ Passed
+  pub starts : (areas : Areas) (table : Table) → judge_areas (length r.memory) areas ≡ passed → judge_table (length r.memory) table ≡ passed
       → (handler : ℕ) → StartsAsListed ours areas table base l r.memory handler
 
 abbrev pub ApprovedRuns : Type 0

@@ -1,8 +1,8 @@
 -- What is approved is what runs, in a set of modules too: document 02, (d), joined with demand 3. An office approves a listing, packs it and saves its
 -- cells; the module goes into a centre's memory together with others.
+use Rattle.cell.specs.Refusals.{passed}
 use Rattle.std.specs.Prelude.{◌≡◌, List, ℕ, ◌+◌, ◌*◌, ◌≤◌, length}
 use Rattle.cell.specs.Memory.{Bytewise}
-use Rattle.cell.specs.declared.Judged.TheVariants.{Passed}
 use Rattle.machine.specs.declared.Table.{Table}
 use Rattle.areas.specs.Areas.{judge_areas}
 use Rattle.areas.specs.declared.Areas.{Areas}
@@ -19,7 +19,7 @@ use Rattle.set_loading.specs.Sets.{load_set_of}
 -- a memory in which the rule at a base runs as a listing reads, and so does the machine that `start` makes ready there
 pub record Ready (order base : ℕ) (l : Listing) (m : List ℕ) : Type 0 where
   pub runs : RunsAsListed order base l m
-  pub starts : (areas : Areas) (table : Table) → judge_areas (length m) areas ≡ Passed → judge_table (length m) table ≡ Passed
+  pub starts : (areas : Areas) (table : Table) → judge_areas (length m) areas ≡ passed → judge_table (length m) table ≡ passed
       → (handler : ℕ) → StartsAsListed order areas table base l m handler
 
 -- a module of a set: the bytes of a file, at an address

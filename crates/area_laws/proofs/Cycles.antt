@@ -1,4 +1,5 @@
 -- A byte off the areas that no instruction names is as it was, after a cycle and after any number of them.
+use Rattle.cell.specs.Place.{good}
 use mathlib.Core.Path.{◌≡◌, refl, sym, ◌∙◌}
 use mathlib.Core.Bool.{Bool, true, false, ◌&&◌, ◌||◌, true≢false}
 use mathlib.Core.List.{List, [], ◌∷◌}
@@ -8,7 +9,6 @@ use lib.Dec.{ltb}
 use lib.ListN.{length, get_or}
 use borrow.Author.Tests.{ltb-true, lt-ltb, le-leb}
 use Rattle.cell.specs.Memory.{Alike}
-use Rattle.cell.specs.declared.Checked.TheVariants.{Good}
 use Rattle.cell.proofs.BooleanLaws.{neither}
 use Rattle.machine.specs.Places.{Width, one_byte, one_cell, place_of}
 use Rattle.machine.specs.Effects.{Store}
@@ -70,7 +70,7 @@ module _ (len order : ℕ) (areas : Areas) (table : Table) (g : Given len order 
   stored w access at x = record { width = w; access = access; at = at; value = x }
 
   -- the first of stores that were found good
-  first_miss : (long : ℕ) (w : Width) (access : Access) (at x : ℕ) (ss : List Store) → place_of machine w access long at ≡ Good
+  first_miss : (long : ℕ) (w : Width) (access : Access) (at x : ℕ) (ss : List Store) → place_of machine w access long at ≡ good
       → touches a (a + 1) (named (stored w access at x ∷ ss)) ≡ false
       → (touches a (a + 1) (named ss) ≡ false → touches a (a + 1) ss ≡ false)
       → touches a (a + 1) (stored w access at x ∷ ss) ≡ false
@@ -84,12 +84,12 @@ module _ (len order : ℕ) (areas : Areas) (table : Table) (g : Given len order 
           let h = neither (ltb at (a + 1) && ltb a (at + 4)) (touches a (a + 1) (named ss)) (rw n at e) in rw h.0 (k h.1)
       go false n = rw (stack_miss access at n (places_in len order areas table g long access at p)) (k (rw n at e))
 
-  stores_miss : (long : ℕ) (ss : List Store) → places_of machine long ss ≡ Good → touches a (a + 1) (named ss) ≡ false → touches a (a + 1) ss ≡ false
+  stores_miss : (long : ℕ) (ss : List Store) → places_of machine long ss ≡ good → touches a (a + 1) (named ss) ≡ false → touches a (a + 1) ss ≡ false
   unfolding places_of touches
   stores_miss long [] p e = refl
   stores_miss long (s ∷ ss) p e =
       let c = place_of machine s.width s.access long s.at in
-      let q : c ≡ Good = both_good c (places_of machine long ss) p in
+      let q : c ≡ good = both_good c (places_of machine long ss) p in
       first_miss long s.width s.access s.at s.value ss q e
       (λ h. stores_miss long ss (rw q at p) h)
 

@@ -1,4 +1,5 @@
 -- Good places of a stack lie in its area.
+use Rattle.cell.specs.Place.{good}
 use mathlib.Core.Path.{◌≡◌}
 use mathlib.Core.Bool.{true}
 use Prim.{tt}
@@ -6,7 +7,6 @@ use Prim.Native.Nat.{ℕ, ◌+◌, ◌-◌, ◌*◌, ◌%◌, ◌≤◌}
 use native.Mathlib.Omega.{arith}
 use lib.Dec.{ltb, leb}
 use borrow.Author.Tests.{ltb-true, leb-true, eqb-true}
-use Rattle.cell.specs.declared.Checked.TheVariants.{Good}
 use Rattle.cell.proofs.BooleanLaws.{both_true}
 use Rattle.machine.specs.Places.{one_cell, span_at, within, writable, allowed, place_of}
 use Rattle.machine.specs.declared.Table.{Table}
@@ -68,7 +68,7 @@ module _ (len order : ℕ) (areas : Areas) (table : Table) (g : Given len order 
   placed_in Push a w e = stack_cell a w e
 
   -- whatever the length of the memory
-  pub places_in : (long : ℕ) (access : Access) (a : ℕ) → place_of machine one_cell access long a ≡ Good → CellFor areas access a
+  pub places_in : (long : ℕ) (access : Access) (a : ℕ) → place_of machine one_cell access long a ≡ good → CellFor areas access a
   places_in long access a e =
       let p = good_placed machine one_cell access long a e in placed_in access a (eqb-true (a % 4) 0 p.aligned) p.allows
 

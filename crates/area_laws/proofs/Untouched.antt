@@ -1,5 +1,7 @@
 -- A range of bytes that no good place of a write meets is as it was: after a commit, a throw, a NEXT, a cycle and any number of them. The range lies above 0h to Fh,
 -- where a throw leaves its address and its EP.
+use Rattle.std.specs.Prelude.{Ok, Err}
+use Rattle.cell.specs.Place.{Checked, good, Fetched}
 use mathlib.Core.Path.{◌≡◌, refl}
 use mathlib.Core.Bool.{Bool, true, false, ◌&&◌}
 use mathlib.Core.List.{List, [], ◌∷◌}
@@ -11,10 +13,6 @@ use lib.ListN.{length}
 use Rattle.cell.specs.Choice.{if}
 use Rattle.cell.specs.Memory.{Alike, store_cell, cell_at}
 use Rattle.cell.specs.Number.{difference}
-use Rattle.cell.specs.declared.Checked.{Checked}
-use Rattle.cell.specs.declared.Checked.TheVariants.{Good, Bad}
-use Rattle.cell.specs.declared.Fetched.{Fetched}
-use Rattle.cell.specs.declared.Fetched.TheVariants.{Cell, Failed}
 use Rattle.cell.proofs.MemoryLaws.{cell_frame, alike_refl, alike_trans}
 use Rattle.machine.specs.Places.{one_cell, place_of, fetch_of}
 use Rattle.machine.specs.Effects.{Store, cell_store, Action, Effect, act, raise}
@@ -42,25 +40,25 @@ use Rattle.area_laws.specs.Staying.{stores_of, stores_by, stores_in}
 
 -- stores that write no byte from lo up to hi, if all their places are good
 abbrev pub Spare : Machine → ℕ → ℕ → ℕ → List Store → Type 0
-Spare machine lo hi long ss = places_of machine long ss ≡ Good → touches lo hi ss ≡ false
+Spare machine lo hi long ss = places_of machine long ss ≡ good → touches lo hi ss ≡ false
 
 -- the same of a throw's push
 abbrev pub SparesPush : Machine → ℕ → ℕ → Type 0
-SparesPush machine lo hi = (long at : ℕ) → place_of machine one_cell Push long at ≡ Good → (ltb at hi && ltb lo (at + 4)) ≡ false
+SparesPush machine lo hi = (long at : ℕ) → place_of machine one_cell Push long at ≡ good → (ltb at hi && ltb lo (at + 4)) ≡ false
 
 -- and of the instruction in front of which a cycle's state stands
 abbrev pub SparesIn : Machine → ℕ → ℕ → CycleState → Type 0
 SparesIn machine lo hi s = Spare machine lo hi (length s.memory) (stores_in machine s.memory s.result.registers)
 
 module _ (machine : Machine) (lo hi : ℕ) (above : 0x10 ≤ lo) (spares : SparesPush machine lo hi) where
-  pub actions_leave : (m : List ℕ) (x : Action) → places_of machine (length m) x.stores ≡ Good → Spare machine lo hi (length m) x.stores
+  pub actions_leave : (m : List ℕ) (x : Action) → places_of machine (length m) x.stores ≡ good → Spare machine lo hi (length m) x.stores
       → Alike lo hi m (stored_of machine m x.stores)
   actions_leave m x p h = stores_frame machine lo hi m x.stores (h p)
 
   carried_leaves : (m : List ℕ) (r : Registers) (x : Action) (c : Checked) → places_of machine (length m) x.stores ≡ c
       → Spare machine lo hi (length m) x.stores → Alike lo hi m (carried_out machine m r x c).memory
-  carried_leaves m r x (Bad f) p h = alike_refl lo hi m
-  carried_leaves m r x Good p h = actions_leave m x p h
+  carried_leaves m r x (Err f) p h = alike_refl lo hi m
+  carried_leaves m r x (Ok _) p h = actions_leave m x p h
 
   commit_leaves : (m : List ℕ) (r : Registers) (e : Effect) → Spare machine lo hi (length m) (stores_of e)
       → Alike lo hi m (commit_of machine m r e).memory
@@ -76,8 +74,8 @@ module _ (machine : Machine) (lo hi : ℕ) (above : 0x10 ≤ lo) (spares : Spare
 
   -- 'BAD lies below 10h
   handed_leaves : (m : List ℕ) (r : Registers) (e : Ended) (h : ℕ) (x : Fetched) → (handed m r e h x).memory ≡ m
-  handed_leaves m r e h (Cell x) = refl
-  handed_leaves m r e h (Failed f) = refl
+  handed_leaves m r e h (Ok x) = refl
+  handed_leaves m r e h (Err f) = refl
 
   handler_leaves : (m : List ℕ) (r : Registers) (e : Ended) → Alike lo hi m (handler_of machine m r e).memory
   unfolding handler_of
@@ -87,15 +85,15 @@ module _ (machine : Machine) (lo hi : ℕ) (above : 0x10 ≤ lo) (spares : Spare
       rw (handed_leaves m2 r e h (fetch_of machine Stream m2 h))
       (cell_frame lo hi machine.order m bad_cell r.ep (inl (omega (arith, above))))
 
-  push_leaves : (m : List ℕ) (at x : ℕ) → place_of machine one_cell Push (length m) at ≡ Good → Alike lo hi m (store_cell machine.order m at x)
+  push_leaves : (m : List ℕ) (at x : ℕ) → place_of machine one_cell Push (length m) at ≡ good → Alike lo hi m (store_cell machine.order m at x)
   unfolding touches stored_of
   push_leaves m at x p = stores_frame machine lo hi m (cell_store Push at x ∷ []) (rw (spares (length m) at p))
 
   -- so does -ADDRESS
   pushed_leaves : (m : List ℕ) (r : Registers) (e : Exception) (sp : ℕ) (c : Checked) → place_of machine one_cell Push (length m) sp ≡ c
       → Alike lo hi m (pushed machine m r e sp c).memory
-  pushed_leaves m r e sp (Bad f) p = alike_refl lo hi m
-  pushed_leaves m r e sp Good p =
+  pushed_leaves m r e sp (Err f) p = alike_refl lo hi m
+  pushed_leaves m r e sp (Ok _) p =
       let m2 = noted machine m e in
       let m3 = store_cell machine.order m2 sp (exception_code e) in
       alike_trans lo hi m m2 _ (noted_frame machine lo hi m e above)
@@ -114,8 +112,8 @@ module _ (machine : Machine) (lo hi : ℕ) (above : 0x10 ≤ lo) (spares : Spare
       go false = alike_refl lo hi m
 
   nexted_leaves : (m : List ℕ) (r : Registers) (x : Fetched) → Alike lo hi m (nexted machine m r x).memory
-  nexted_leaves m r (Cell x) = alike_refl lo hi m
-  nexted_leaves m r (Failed f) = throw_leaves m r (exception_of machine f)
+  nexted_leaves m r (Ok x) = alike_refl lo hi m
+  nexted_leaves m r (Err f) = throw_leaves m r (exception_of machine f)
 
   pub next_leaves : (m : List ℕ) (r : Registers) → Alike lo hi m (next_of machine m r).memory
   unfolding next_of

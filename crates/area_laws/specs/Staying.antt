@@ -1,11 +1,11 @@
 -- Stack writes stay in their areas. Document 02, (a): what the data stack writes lies in the data area, what the return stack writes in the return area, and what a
 -- throw pushes in the data area or the held cell. So a byte off all three, that no instruction names and that is not one of 0h to Fh, where a throw leaves
 -- its address and its EP, is never changed.
+use Rattle.cell.specs.Refusals.{passed}
+use Rattle.cell.specs.Place.{good}
 use Rattle.std.specs.Prelude.{◌≡◌, Bool, true, false, ◌&&◌, List, [], ◌∷◌, ℕ, ◌+◌, ◌-◌, ◌%◌, ◌≤◌, ◌<◌, ltb, leb, length, get_or}
 use Prim.{Unit}
 use Rattle.cell.specs.Choice.{if}
-use Rattle.cell.specs.declared.Checked.TheVariants.{Good}
-use Rattle.cell.specs.declared.Judged.TheVariants.{Passed}
 use Rattle.machine.specs.Places.{Width, one_byte, one_cell, place_of}
 use Rattle.machine.specs.Effects.{Store, Effect, act, raise}
 use Rattle.machine.specs.Commits.{touches}
@@ -28,7 +28,7 @@ use Rattle.areas.specs.declared.Areas.{Areas}
 
 -- areas that were taken, and a table with them, for a memory's length and a byte order
 pub record Given (len order : ℕ) (areas : Areas) (table : Table) : Type 0 where
-  pub passed : judge_bounded len order areas table ≡ Passed
+  pub passed : judge_bounded len order areas table ≡ passed
   pub some : none areas ≡ false
 
 -- a cell of an area, with the cells held under it
@@ -51,7 +51,7 @@ CellFor areas Push a = CellOf held_under_data areas.stack a
 abbrev pub PlacesStay : Type 0
 PlacesStay =
     (len order : ℕ) (areas : Areas) (table : Table) → Given len order areas table → (access : Access) (a : ℕ)
-    → place_of (machine_of order areas table len) one_cell access len a ≡ Good
+    → place_of (machine_of order areas table len) one_cell access len a ≡ good
     → CellFor areas access a
 
 -- stores at a place that an operand names: those of !, +! and C!

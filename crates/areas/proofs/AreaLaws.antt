@@ -6,8 +6,7 @@ use Prim.Native.Nat.{ℕ, ◌%◌}
 use native.Mathlib.Omega.{arith}
 use lib.Dec.{ltb, eqb}
 use borrow.Author.Tests.{ltb-false, eqb-true, eqb-false, not-false}
-use Rattle.cell.specs.Refusals.{judge}
-use Rattle.cell.specs.declared.Judged.TheVariants.{Passed}
+use Rattle.cell.specs.Refusals.{passed, judge}
 use Rattle.cell.specs.declared.Refusal.TheVariants.{StackAreas}
 use Rattle.cell.proofs.BooleanLaws.{neither}
 use Rattle.cell.proofs.JudgementLaws.{one_clear}
@@ -34,14 +33,14 @@ pub record Taken (len : ℕ) (areas : Areas) : Type 0 where
   pub returns : Placed len held_under_return areas.returns
   pub apart : overlapping areas ≡ false
 
-pub taken : (len : ℕ) (areas : Areas) → none areas ≡ false → judge_areas len areas ≡ Passed → Taken len areas
+pub taken : (len : ℕ) (areas : Areas) → none areas ≡ false → judge_areas len areas ≡ passed → Taken len areas
 unfolding judge_areas
 taken len areas n e =
     let stack = misplaced len held_under_data areas.stack in
     let returns = misplaced len held_under_return areas.returns in
     let p = one_clear stack StackAreas (judge (bad_areas returns ∷ bad_areas (overlapping areas) ∷ [])) (rw n at e) in
     let q = one_clear returns StackAreas (judge (bad_areas (overlapping areas) ∷ [])) p.1 in
-    let s = one_clear (overlapping areas) StackAreas Passed q.1 in
+    let s = one_clear (overlapping areas) StackAreas passed q.1 in
     record {
       stack = placed len held_under_data areas.stack p.0;
       returns = placed len held_under_return areas.returns q.0;

@@ -4,10 +4,8 @@ use Rattle.std.specs.Prelude.{◌≡◌, Bool, not, ◌&&◌, ◌||◌, [], ◌�
 use Rattle.cell.specs.Choice.{if}
 use Rattle.cell.specs.Memory.{cell_count}
 use Rattle.cell.specs.Place.{address}
-use Rattle.cell.specs.Refusals.{Ground, judge}
+use Rattle.cell.specs.Refusals.{Ground, Judged, passed, judge}
 use Rattle.cell.specs.declared.Refusal.TheVariants.{StackAreas}
-use Rattle.cell.specs.declared.Judged.{Judged}
-use Rattle.cell.specs.declared.Judged.TheVariants.{Passed}
 use Rattle.machine.specs.declared.Registers.{Registers}
 use Rattle.areas.specs.declared.Area.{Area}
 use Rattle.areas.specs.declared.Areas.{Areas}
@@ -63,7 +61,7 @@ bad_areas applies = record { applies = applies; refusal = StackAreas }
 
 unfoldable pub judge_areas : ℕ → Areas → Judged
 judge_areas len areas =
-    if (none areas) Passed
+    if (none areas) passed
     (judge
     (bad_areas (misplaced len held_under_data areas.stack)
     ∷ bad_areas (misplaced len held_under_return areas.returns)

@@ -1,9 +1,11 @@
 // Which areas are taken.
+#![tactic(auto, unfolding(crate::specs::Areas::judge_areas))]
+
 ghost use Rattle.std.specs.Prelude.{◌≡◌, ◌≤◌};
 ghost use Rattle.areas.specs.Areas as areas;
 
 use crate::{Area, Areas};
-use cell::{Address, Judged, Refusal};
+use cell::{Address, Refusal};
 
 // Whether all four numbers are 0.
 pub fn is_none(given: Areas) -> bool
@@ -29,16 +31,10 @@ fn is_misplaced(length: usize, held: u32, area: Area) -> bool
 {
     let top = area.top;
     let cells = area.cells;
-    if top.0 % 4 != 0 {
-        return true;
-    }
-    if cells.0 == 0 {
-        return true;
-    }
-    if (top.0 as u64) < 4 * (cells.0 as u64 + held as u64) {
-        return true;
-    }
-    length < top.0 as usize
+    top.0 % 4 != 0
+        || cells.0 == 0
+        || (top.0 as u64) < 4 * (cells.0 as u64 + held as u64)
+        || length < top.0 as usize
 }
 
 // Whether an area, with the cells held under it, begins below a top.
@@ -62,22 +58,17 @@ fn do_overlap(given: Areas) -> bool
     begins_below(0, returns, top) && begins_below(1, stack, return_top)
 }
 
-pub fn judge_areas(length: usize, given: Areas) -> Judged
+pub fn judge_areas(length: usize, given: Areas) -> Result<(), Refusal>
     ensures { result ≡ areas.judge_areas length given }
 {
     if is_none(given) {
-        return Judged::Passed;
+        return Ok(());
     }
-    let stack = given.stack;
-    let returns = given.returns;
-    if is_misplaced(length, 1, stack) {
-        return Judged::Refused(Refusal::StackAreas);
+    if is_misplaced(length, 1, given.stack)
+        || is_misplaced(length, 0, given.returns)
+        || do_overlap(given)
+    {
+        return Err(Refusal::StackAreas);
     }
-    if is_misplaced(length, 0, returns) {
-        return Judged::Refused(Refusal::StackAreas);
-    }
-    if do_overlap(given) {
-        return Judged::Refused(Refusal::StackAreas);
-    }
-    Judged::Passed
+    Ok(())
 }

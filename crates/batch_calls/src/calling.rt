@@ -1,4 +1,6 @@
 // The call for batches.
+#![tactic(auto, unfolding(crate::specs::Batches::batch_call, batches::specs::Batches::batch_answer))]
+
 ghost use Rattle.std.specs.Prelude.{◌≡◌};
 ghost use Rattle.calls.specs.Modules.{moved};
 ghost use Rattle.batches.specs.Batches.{common_of, forms_given};
@@ -28,12 +30,11 @@ pub fn call_batch(
     ensures { moved memory.new out.new result ≡ batches.batch_call (common_of order start.now address.0 r table budget) memory.old (forms_given forms.now count size) out.old }
 {
     if out.len() < 11 {
-        let areas = r.areas;
         return no_place(judge_batch(
             order,
             start.len(),
             memory.len(),
-            areas,
+            r.areas,
             table,
             address,
             size,

@@ -5,8 +5,8 @@ ghost use Rattle.calls.specs.Modules as modules;
 ghost use Rattle.batch_calls.specs.Batches as batches;
 
 use batch_reports::Report;
-use batches::Batched;
-use cell::judgement::refusal_number;
+use cell::Refusal;
+use lent_arrays::lending::write_first;
 
 // The eleven numbers of a report.
 fn write_report(out: &mut [u32], report: Report)
@@ -15,26 +15,33 @@ fn write_report(out: &mut [u32], report: Report)
 {
     let t = report.tally;
     let mean = report.mean;
-    out[0] = t.forms;
-    out[1] = t.zeros;
-    out[2] = t.stacks;
-    out[3] = t.handlers;
-    out[4] = t.others;
-    out[5] = t.spent;
-    out[6] = (t.cycles % 4294967296) as u32;
-    out[7] = (t.cycles / 4294967296) as u32;
-    out[8] = t.largest;
-    out[9] = mean.quotient;
-    out[10] = mean.remainder;
+    let low = (t.cycles % 0x100000000) as u32;
+    let high = (t.cycles / 0x100000000) as u32;
+    write_first(
+        out,
+        &[
+            t.forms,
+            t.zeros,
+            t.stacks,
+            t.handlers,
+            t.others,
+            t.spent,
+            low,
+            high,
+            t.largest,
+            mean.quotient,
+            mean.remainder,
+        ],
+    );
 }
 
-pub fn note_batched(answer: Batched, out: &mut [u32]) -> u32
+pub fn note_batched(answer: Result<Report, Refusal>, out: &mut [u32]) -> u32
     requires { 11 ≤ length out.old }
     ensures { modules.noted out.new result ≡ batches.batch_noted out.old answer }
 {
     match answer {
-        Batched::Refused(r) => refusal_number(r),
-        Batched::Reported(t) => {
+        Err(r) => u32::from(r),
+        Ok(t) => {
             write_report(out, t);
             0
         }

@@ -1,8 +1,7 @@
 -- What refuses a batch. Document 02, (k): -4101 for either memory, then -4102, -4111 and -4112 as of a run, then -1 and -4105. Sums and products are exact.
 use Rattle.std.specs.Prelude.{not, [], ◌∷◌, ℕ, ◌+◌, ◌*◌, ltb, eqb}
-use Rattle.cell.specs.Refusals.{Ground, judge, after}
+use Rattle.cell.specs.Refusals.{Ground, Judged, judge, after}
 use Rattle.cell.specs.declared.Refusal.TheVariants.{MemoryLength, Outside, ShortOutput}
-use Rattle.cell.specs.declared.Judged.{Judged}
 use Rattle.machine.specs.declared.Table.{Table}
 use Rattle.areas.specs.declared.Areas.{Areas}
 use Rattle.bounds.specs.Bounds.{judge_bounded}

@@ -1,25 +1,33 @@
 // What refuses a batch.
+#![tactic(auto, using(crate::proofs::JudgementLaws::bytes_fit), unfolding(crate::specs::Grounds::judge_forms, crate::specs::Grounds::judge_batch))]
+
 ghost use Rattle.std.specs.Prelude.{◌≡◌};
 ghost use Rattle.batch_judging.specs.Grounds as grounds;
 
 use areas::Areas;
 use bounds::judging::judge_bounded;
-use cell::{Address, Judged, Refusal};
+use cell::{Address, Refusal};
 use machine::Table;
 
 // Where the forms go and what there is of them, once both memories have passed.
-fn judge_forms(length: usize, address: Address, size: u32, forms: usize, count: u16) -> Judged
+fn judge_forms(
+    length: usize,
+    address: Address,
+    size: u32,
+    forms: usize,
+    count: u16,
+) -> Result<(), Refusal>
     ensures { result ≡ grounds.judge_forms length address.0 size forms count }
 {
     let end = address.0 as u64 + size as u64;
     if (length as u64) < end {
-        return Judged::Refused(Refusal::Outside);
+        return Err(Refusal::Outside);
     }
     let bytes = count as u64 * size as u64;
     if (forms as u64) < bytes {
-        return Judged::Refused(Refusal::ShortOutput);
+        return Err(Refusal::ShortOutput);
     }
-    Judged::Passed
+    Ok(())
 }
 
 // `length` is that of the start memory, `lent` that of the memory that the forms are run in, `forms` that of the buffer.
@@ -33,14 +41,12 @@ pub fn judge_batch(
     size: u32,
     forms: usize,
     count: u16,
-) -> Judged
+) -> Result<(), Refusal>
     ensures { result ≡ grounds.judge_batch order length lent areas table address.0 size forms count }
 {
     if lent != length {
-        return Judged::Refused(Refusal::MemoryLength);
+        return Err(Refusal::MemoryLength);
     }
-    match judge_bounded(length, order, areas, table) {
-        Judged::Refused(r) => Judged::Refused(r),
-        Judged::Passed => judge_forms(length, address, size, forms, count),
-    }
+    judge_bounded(length, order, areas, table)?;
+    judge_forms(length, address, size, forms, count)
 }

@@ -1,13 +1,13 @@
 -- Batches in any order and in parts, of no form, refused, and form by form.
 -- Assumes nothing.
+use Rattle.std.specs.Prelude.{Ok, Err}
+use Rattle.cell.specs.Refusals.{Judged, passed}
 use mathlib.Core.Path.{◌≡◌, refl, sym, ap, ap₂, ◌∙◌}
 use mathlib.Core.List.{List, [], ◌++◌, map}
 use Prim.Native.Nat.{ℕ, zero, suc, ◌+◌, ◌*◌, ◌≤◌}
 use native.Mathlib.Nat.{add-mul, suc-mul, mul-le-mul_right}
 use native.Mathlib.Omega.{arith}
 use lib.ListN.{length, take, drop, length-drop, length-map}
-use Rattle.cell.specs.declared.Judged.{Judged}
-use Rattle.cell.specs.declared.Judged.TheVariants.{Passed, Refused}
 use Rattle.cell.proofs.JudgementLaws.{refusal_some}
 use Rattle.permutations.specs.Permutations.{Permuted}
 use Rattle.permutations.proofs.PermutationLaws.{map_append, permuted_map}
@@ -17,7 +17,6 @@ use Rattle.batch_forms.specs.Forms.{forms_of, formed}
 use Rattle.batch_reports.specs.Reports.{report_of, together}
 use Rattle.batch_judging.proofs.JudgementLaws.{Good, batch_good, good_passes}
 use Rattle.batches.specs.Batches.{Common, Forms, forms_given, forms_in, given_to, single, runs_of, last_memory, BatchAnswer, batched_to, judge_common, batch_if, batch_answer}
-use Rattle.batches.specs.declared.Batched.TheVariants.{Reported}
 use Rattle.batch_laws.specs.Claims.{SameReport, InAnyOrder, front, behind, Cut, PartsAddUp, PartsMake, EmptyBatch, RefusedBatch, EachCountedOnce, form_at, AsTheLastLeft, EachIsRun}
 use Rattle.batch_laws.proofs.Reports.{reports_in_any_order, report_append}
 use Rattle.batch_laws.proofs.Forms.{forms_parted, forms_length, form_length, formed_length}
@@ -29,9 +28,9 @@ GoodBatch b lent f =
     Good b.setting.order (length b.start) lent b.registers.areas b.setting.table b.address f.size (length f.buffer) f.count
 
 module _ (b : Common) (m : List ℕ) (f : Forms) where
-  passed_if : (j : Judged) → (batch_if j b m f).number ≡ 0 → j ≡ Passed
-  passed_if (Refused n) e = absurd (refusal_some n e)
-  passed_if Passed e = refl
+  passed_if : (j : Judged) → (batch_if j b m f).number ≡ 0 → j ≡ passed
+  passed_if (Err n) e = absurd (refusal_some n e)
+  passed_if (Ok _) e = refl
 
   pub good_if_accepted : (batch_answer b m f).number ≡ 0 → GoodBatch b (length m) f
   unfolding batch_answer
@@ -39,7 +38,7 @@ module _ (b : Common) (m : List ℕ) (f : Forms) where
 
   -- what a good batch answers
   pub good_answer : GoodBatch b (length m) f
-      → batch_answer b m f ≡ batched_to (last_memory m (runs_of b (forms_in f))) (Reported (report_of (runs_of b (forms_in f))))
+      → batch_answer b m f ≡ batched_to (last_memory m (runs_of b (forms_in f))) (Ok (report_of (runs_of b (forms_in f))))
   unfolding batch_answer
   good_answer g = rw (good_passes _ _ _ _ _ _ _ _ _ g)
 
@@ -54,8 +53,8 @@ module _ (b : Common) (m : List ℕ) (f : Forms) where
 
   -- a batch that is refused
   refused_if : (j : Judged) → ((batch_if j b m f).number ≡ 0 → ⊥) → ((batch_if j b m f).report ≡ report_of []) × ((batch_if j b m f).memory ≡ m)
-  refused_if (Refused n) h = (refl, refl)
-  refused_if Passed h = absurd (h refl)
+  refused_if (Err n) h = (refl, refl)
+  refused_if (Ok _) h = absurd (h refl)
 
   pub as_refused : ((batch_answer b m f).number ≡ 0 → ⊥) → ((batch_answer b m f).report ≡ report_of []) × ((batch_answer b m f).memory ≡ m)
   unfolding batch_answer
@@ -63,8 +62,8 @@ module _ (b : Common) (m : List ℕ) (f : Forms) where
 
   -- a batch of no form
   empty_if : (j : Judged) → f.count ≡ 0 → ((batch_if j b m f).report ≡ report_of []) × ((batch_if j b m f).memory ≡ m)
-  empty_if (Refused n) e = (refl, refl)
-  empty_if Passed e = rw e (refl, refl)
+  empty_if (Err n) e = (refl, refl)
+  empty_if (Ok _) e = rw e (refl, refl)
 
   pub as_empty : f.count ≡ 0 → ((batch_answer b m f).report ≡ report_of []) × ((batch_answer b m f).memory ≡ m)
   unfolding batch_answer
@@ -80,8 +79,8 @@ empty_batch = as_empty
 ordered_if : (b : Common) (m : List ℕ) (f : Forms) (other : List ℕ) (j : Judged)
     → Permuted (forms_in f) (forms_in (forms_given other f.count f.size))
     → SameReport (batch_if j b m (forms_given other f.count f.size)) (batch_if j b m f)
-ordered_if b m f other (Refused n) p = record { number = refl; report = refl }
-ordered_if b m f other Passed p =
+ordered_if b m f other (Err n) p = record { number = refl; report = refl }
+ordered_if b m f other (Ok _) p =
     record {
       number = refl;
       report = reports_in_any_order _ _ (permuted_map (single b) (forms_in f) (forms_in (forms_given other f.count f.size)) p);
@@ -114,7 +113,7 @@ module _ (b : Common) (size : ℕ) (inside : b.address + size ≤ length b.start
 
   -- every run is accepted
   pub all_in_time : (n : ℕ) (buffer : List ℕ) → n * size ≤ length buffer
-      → judge_bounded (length b.start) b.setting.order b.registers.areas b.setting.table ≡ Passed
+      → judge_bounded (length b.start) b.setting.order b.registers.areas b.setting.table ≡ passed
       → AllInTime b.budget (runs_of b (forms_of n size buffer))
   all_in_time zero buffer h j = no_run
   all_in_time (suc n) buffer h j =

@@ -1,5 +1,6 @@
 -- A form that misses the image leaves it in memory; the rest is demand 3, and that a stop is the same under every larger budget.
 -- Assumes nothing.
+use Rattle.cell.specs.Refusals.{passed}
 use mathlib.Core.Path.{◌≡◌, refl, sym, ap, subst, ◌∙◌}
 use mathlib.Core.Logic.{◌⊎◌, inl, inr}
 use mathlib.Core.List.{List, ◌++◌, append_assoc}
@@ -9,7 +10,6 @@ use lib.ListN.{length, get_or, take, drop, length-append, get_or-append}
 use lib.Seq.{length-take-le, get_or-take, get_or-drop, get_or-append-add}
 use Rattle.cell.specs.Memory.{cell_at, Alike}
 use Rattle.cell.proofs.MemoryLaws.{cell_alike}
-use Rattle.cell.specs.declared.Judged.TheVariants.{Passed}
 use Rattle.machine.specs.declared.Registers.{Registers}
 use Rattle.machine.specs.declared.Table.{Table}
 use Rattle.areas.specs.Areas.{filed}
@@ -91,10 +91,10 @@ module _ (order : ℕ) (areas : Areas) (table : Table) (base : ℕ) (l : Listing
       (s : Registers) × (run_answer (given_of order table m given r.cycles)
       ≡ ran_to given r.cycles r.position.memory (ran_with (stop_in r.course) (filed areas s) r.cycles))
 
-  follows_at : (len : ℕ) → length m ≡ len → judge_bounded len order areas table ≡ Passed → Legal base l
+  follows_at : (len : ℕ) → length m ≡ len → judge_bounded len order areas table ≡ passed → Legal base l
       → Holds (machine_of order areas table len) base l m → Follows len
   follows_at len e j ok h =
-      subst (λ (n : ℕ). judge_bounded n order areas table ≡ Passed → Holds (machine_of order areas table n) base l m → Follows n) e
+      subst (λ (n : ℕ). judge_bounded n order areas table ≡ passed → Holds (machine_of order areas table n) base l m → Follows n) e
       (λ q c. let f = run_follows order areas table base l m sp rp k q ok c in (f.registers, f.answer)) j h
 
 -- a form that misses the image: the image is there still, and the registers are those of a start there
@@ -124,7 +124,7 @@ module _ (b : Common) (base : ℕ) (l : Listing) (sp rp : ℕ) (ok : Legal base 
   pub form_agrees : (k : ℕ) → Agree (machine_for b) (begun laid b.registers.registers) (listed_on b base l sp rp form k)
   form_agrees k = rw same_first (demand3 (machine_for b) base l laid sp rp k ok holds_there)
 
-  pub form_counted : judge_bounded (length b.start) b.setting.order b.registers.areas b.setting.table ≡ Passed
+  pub form_counted : judge_bounded (length b.start) b.setting.order b.registers.areas b.setting.table ≡ passed
       → (k x : ℕ) → (listed_on b base l sp rp form k).course ≡ stopped_by x → (listed_on b base l sp rp form k).cycles ≤ b.budget
       → StopsAs x (listed_on b base l sp rp form k) (single b form)
   form_counted j k x c w =

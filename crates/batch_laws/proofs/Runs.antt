@@ -1,5 +1,6 @@
 -- The single runs of a batch: that each is accepted and ends in one way, what cycles they have, and what memory they leave.
 -- Assumes nothing.
+use Rattle.cell.specs.Refusals.{passed}
 use mathlib.Core.Path.{◌≡◌, refl}
 use mathlib.Core.Bool.{Bool, true, false, not, ◌||◌}
 use mathlib.Core.List.{List, [], ◌∷◌, ◌++◌}
@@ -10,7 +11,6 @@ use borrow.Author.Tests.{eqb-true}
 use lib.Dec.{eqb}
 use lib.ListN.{length}
 use Rattle.cell.specs.Choice.{if}
-use Rattle.cell.specs.declared.Judged.TheVariants.{Passed}
 use Rattle.exceptions.specs.Fixed.{bad_stack, bad_handler}
 use Rattle.throws.specs.Throws.{CycleState}
 use Rattle.machine.specs.declared.Machine.{Machine}
@@ -51,7 +51,7 @@ count_of areas r budget n Went h = omega arith
 count_of areas r budget n (Threw f) h = omega arith
 count_of areas r budget n (Stopped x) h = h
 
-pub run_in_time : (g : Given RegisterFile) → judge_run g ≡ Passed → InTime g.budget (run_answer g)
+pub run_in_time : (g : Given RegisterFile) → judge_run g ≡ passed → InTime g.budget (run_answer g)
 unfolding run_answer
 run_in_time g j =
     let s : CycleState = begun g.memory g.registers.registers in

@@ -1,6 +1,6 @@
 -- A packed rule over the forms of a batch runs as its listing reads: document 02, (k), joined with demand 3.
+use Rattle.cell.specs.Refusals.{passed}
 use Rattle.std.specs.Prelude.{◌≡◌, List, ◌⊎◌, ℕ, ◌+◌, ◌*◌, ◌≤◌, length}
-use Rattle.cell.specs.declared.Judged.TheVariants.{Passed}
 use Rattle.machine.specs.declared.Machine.{Machine}
 use Rattle.bounds.specs.Bounds.{judge_bounded, machine_of}
 use Rattle.cycles.specs.Counts.{begun}
@@ -39,7 +39,7 @@ pub record FormRuns (b : Common) (base : ℕ) (l : Listing) (sp rp : ℕ) (form 
 abbrev pub FormsRunAsListed : Type 0
 FormsRunAsListed =
     (b : Common) (base : ℕ) (l : Listing) (sp rp : ℕ)
-    → judge_bounded (length b.start) b.setting.order b.registers.areas b.setting.table ≡ Passed
+    → judge_bounded (length b.start) b.setting.order b.registers.areas b.setting.table ≡ passed
     → Legal base l → Holds (machine_for b) base l b.start
     → b.registers.registers ≡ first_registers (machine_for b) base b.start sp rp
     → (form : List ℕ) → b.address + length form ≤ length b.start

@@ -1,11 +1,15 @@
 // The figures of a batch, run by run.
-ghost use Rattle.std.specs.Prelude.{◌≡◌, List, [], ◌∷◌, ℕ, ◌+◌, ◌≤◌, max};
+#![tactic(auto, using(crate::proofs::CountingLaws::mean_fits, crate::proofs::CountingLaws::rest_fits))]
+
+ghost use Rattle.std.specs.Prelude.{◌≡◌, List, [], ◌∷◌, ℕ, ◌+◌, ◌≤◌};
 ghost use Rattle.areas.specs.declared.RegisterFile.{RegisterFile};
 ghost use Rattle.processor.specs.Answers as answers;
 ghost use Rattle.batch_reports.specs.Reports as reports;
 ghost use Rattle.batch_reports.specs.Conditions as conditions;
 
 use crate::{Mean, Report, Tally};
+use cell::Refusal;
+use exceptions::fixed::{BAD_HANDLER, BAD_STACK};
 use processor::Ran;
 
 // Before any run.
@@ -33,44 +37,30 @@ fn one(zeros: u32, stacks: u32, handlers: u32, others: u32, spent: u32, cycles: 
 {
     Tally {
         forms: 1,
-        zeros: zeros,
-        stacks: stacks,
-        handlers: handlers,
-        others: others,
-        spent: spent,
+        zeros,
+        stacks,
+        handlers,
+        others,
+        spent,
         cycles: cycles as u64,
         largest: cycles,
     }
 }
 
 // One run, by its answer.
-pub fn count_run(a: Ran, budget: u32) -> Tally
+pub fn count_run(a: Result<Ran, Refusal>, budget: u32) -> Tally
     ensures value { (r : RegisterFile) (m : List ℕ) → result ≡ reports.tally_of (answers.ran_to r budget m a ∷ []) }
     ensures within { conditions.Within result }
 {
     match a {
         // never reached in a batch that was accepted
-        Ran::Refused(_) => one(0, 0, 0, 0, 0, 0),
-        Ran::Spent(_) => one(0, 0, 0, 0, 1, budget),
-        Ran::Stopped(_, reason, cycles) => {
-            if reason == 0 {
-                return one(1, 0, 0, 0, 0, cycles);
-            }
-            if reason == 0xFFFFFEFE {
-                return one(0, 1, 0, 0, 0, cycles);
-            }
-            if reason == 0xFFFFFEFD {
-                return one(0, 0, 1, 0, 0, cycles);
-            }
-            one(0, 0, 0, 1, 0, cycles)
-        }
+        Err(_) => one(0, 0, 0, 0, 0, 0),
+        Ok(Ran::Spent(_)) => one(0, 0, 0, 0, 1, budget),
+        Ok(Ran::Stopped(_, 0, cycles)) => one(1, 0, 0, 0, 0, cycles),
+        Ok(Ran::Stopped(_, BAD_STACK, cycles)) => one(0, 1, 0, 0, 0, cycles),
+        Ok(Ran::Stopped(_, BAD_HANDLER, cycles)) => one(0, 0, 1, 0, 0, cycles),
+        Ok(Ran::Stopped(_, _, cycles)) => one(0, 0, 0, 1, 0, cycles),
     }
-}
-
-fn larger(a: u32, b: u32) -> u32
-    ensures { result ≡ max a b }
-{
-    if a < b { b } else { a }
 }
 
 // The figures of two lots of runs together.
@@ -88,7 +78,7 @@ pub fn add(s: Tally, t: Tally) -> Tally
         others: s.others + t.others,
         spent: s.spent + t.spent,
         cycles: s.cycles + t.cycles,
-        largest: larger(s.largest, t.largest),
+        largest: s.largest.max(t.largest),
     }
 }
 

@@ -1,6 +1,6 @@
 -- Where the loop over the forms stands.
 -- Assumes nothing.
-use mathlib.Core.Path.{◌≡◌, refl, sym, ap, ◌∙◌}
+use mathlib.Core.Path.{◌≡◌, sym, ap, ◌∙◌}
 use mathlib.Core.List.{List, [], ◌∷◌}
 use Prim.Native.Nat.{ℕ, zero, suc, ◌+◌, ◌*◌, ◌≤◌, ◌<◌}
 use native.Mathlib.Nat.{suc-mul}
@@ -8,17 +8,16 @@ use native.Mathlib.Omega.{arith}
 use lib.ListN.{length, take, drop}
 use lib.Seq.{drop-drop}
 use Rattle.areas.specs.declared.RegisterFile.{RegisterFile}
-use Rattle.processor.specs.Answers.{RunAnswer, ran_to, given_of, run_answer}
-use Rattle.processor.specs.declared.Ran.{Ran}
+use Rattle.processor.specs.Answers.{RunAnswered, RunAnswer, ran_to, given_of, run_answer}
 use Rattle.batch_forms.specs.Forms.{forms_of, formed}
 use Rattle.batch_reports.specs.declared.Tally.{Tally}
-use Rattle.batch_reports.specs.Reports.{tally_of, no_runs, added}
+use Rattle.batch_reports.specs.Reports.{tally_of, added}
 use Rattle.batch_reports.specs.Conditions.{Within}
-use Rattle.batch_reports.proofs.TallyLaws.{added_assoc, added_comm, added_none, tally_append}
+use Rattle.batch_reports.proofs.TallyLaws.{added_assoc, tally_append}
 use Rattle.batches.specs.Batches.{Common, Forms, forms_in, single, runs_of, last_memory}
 
 -- a form that was laid into memory and run there, by what `lay_form`, `run`, `count_run` and `add` promise
-module _ (b : Common) (form laid next : List ℕ) (a : Ran) (t one u : Tally) (lay : laid ≡ formed b.start b.address form)
+module _ (b : Common) (form laid next : List ℕ) (a : RunAnswered) (t one u : Tally) (lay : laid ≡ formed b.start b.address form)
     (ran : ran_to b.registers b.budget next a ≡ run_answer (given_of b.setting.order b.setting.table laid b.registers b.budget)) where
   as_single : ran_to b.registers b.budget next a ≡ single b form
   as_single =
@@ -43,29 +42,7 @@ pub record Standing (b : Common) (f : Forms) (m now : List ℕ) (t : Tally) (at 
   pub memory : last_memory now (runs_of b (forms_of left f.size (drop at f.buffer))) ≡ last_memory m (runs_of b (forms_in f))
 
 module _ (b : Common) (f : Forms) (m : List ℕ) where
-  pub batch_begins : (t : Tally) → t ≡ no_runs → Within t → length m ≡ length b.start → f.count * f.size ≤ length f.buffer
-      → Standing b f m m t 0 0
-  batch_begins t e w l h =
-      record {
-        left = f.count;
-        parted = omega arith;
-        long = l;
-        room = omega arith;
-        within = w;
-        counted = ap (λ (x : Tally). x.forms) e;
-        figures = ap (λ (x : Tally). added x (tally_of (runs_of b (forms_in f)))) e ∙ added_none (tally_of (runs_of b (forms_in f)));
-        memory = refl;
-      }
-
-  -- a form more to come: it lies whole in the buffer
-  pub batch_inside : (now : List ℕ) (t : Tally) (at k : ℕ) → k < f.count → Standing b f m now t at k → at + f.size ≤ length f.buffer
-  batch_inside now t at k h s = go s.left s.parted s.room
-    where
-      go : (l : ℕ) → k + l ≡ f.count → at + l * f.size ≤ length f.buffer → at + f.size ≤ length f.buffer
-      go zero p r = absurd (omega arith)
-      go (suc l) p r = omega (arith, suc-mul l f.size)
-
-  -- and once it has run
+  -- a form more, once it has run
   module _ (now next : List ℕ) (t u : Tally) (at k : ℕ) (form : List ℕ) (e : form ≡ take f.size (drop at f.buffer))
       (q : u ≡ added t (tally_of (single b form ∷ []))) (w : Within u) (n : next ≡ (single b form).memory) (long : length next ≡ length b.start) where
     -- the runs still to come, once it is taken off
@@ -105,14 +82,3 @@ module _ (b : Common) (f : Forms) (m : List ℕ) where
               figures = figures l ∙ x;
               memory = memory l ∙ y;
             }
-
-  pub batch_ends : (now : List ℕ) (t : Tally) (at k : ℕ) → f.count ≤ k → Standing b f m now t at k
-      → (t ≡ tally_of (runs_of b (forms_in f))) × (now ≡ last_memory m (runs_of b (forms_in f))) × (Within t × (t.forms ≤ f.count))
-  batch_ends now t at k h s = go s.left s.parted s.figures s.memory
-    where
-      go : (l : ℕ) → k + l ≡ f.count
-          → added t (tally_of (runs_of b (forms_of l f.size (drop at f.buffer)))) ≡ tally_of (runs_of b (forms_in f))
-          → last_memory now (runs_of b (forms_of l f.size (drop at f.buffer))) ≡ last_memory m (runs_of b (forms_in f))
-          → (t ≡ tally_of (runs_of b (forms_in f))) × (now ≡ last_memory m (runs_of b (forms_in f))) × (Within t × (t.forms ≤ f.count))
-      go zero p x y = (sym (added_none t) ∙ added_comm no_runs t ∙ x, y, (s.within, omega (arith, s.counted)))
-      go (suc l) p x y = absurd (omega arith)

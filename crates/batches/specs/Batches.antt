@@ -1,9 +1,8 @@
 -- What a batch leaves and answers. Document 02, (k): every form finds the start memory as it was, with its own bytes in it, and is run from the same
 -- registers with the same budget.
-use Rattle.std.specs.Prelude.{List, [], ◌∷◌, map, ℕ, length}
-use Rattle.cell.specs.Refusals.{refusal_number}
-use Rattle.cell.specs.declared.Judged.{Judged}
-use Rattle.cell.specs.declared.Judged.TheVariants as judged
+use Rattle.std.specs.Prelude.{List, [], ◌∷◌, map, ℕ, length, Result, Ok, Err}
+use Rattle.cell.specs.Refusals.{refusal_number, Judged}
+use Rattle.cell.specs.declared.Refusal.{Refusal}
 use Rattle.machine.specs.declared.Table.{Table}
 use Rattle.areas.specs.declared.RegisterFile.{RegisterFile}
 use Rattle.processor.specs.Answers.{Setting, Given, RunAnswer, run_answer}
@@ -11,8 +10,6 @@ use Rattle.batch_forms.specs.Forms.{forms_of, formed}
 use Rattle.batch_reports.specs.declared.Report.{Report}
 use Rattle.batch_reports.specs.Reports.{report_of}
 use Rattle.batch_judging.specs.Grounds.{judge_batch}
-use Rattle.batches.specs.declared.Batched.{Batched}
-use Rattle.batches.specs.declared.Batched.TheVariants as batched
 
 -- what all forms of a batch are given: byte order and table, the start memory, the address that a form goes to, registers and budget
 pub record Common : Type 0 where
@@ -45,14 +42,18 @@ abbrev pub last_memory : List ℕ → List RunAnswer → List ℕ
 last_memory m [] = m
 last_memory m (r ∷ rs) = last_memory r.memory rs
 
+-- what a batch answers. A refusal stands for a report of zeros
+abbrev pub Batched : Type 0
+Batched = Result Report Refusal
+
 -- the number (0, or the refusal's) and the report (all zeros on a refusal)
 abbrev pub batch_number : Batched → ℕ
-batch_number (batched.Refused n) = refusal_number n
-batch_number (batched.Reported t) = 0
+batch_number (Err n) = refusal_number n
+batch_number (Ok t) = 0
 
 abbrev pub batch_report : Batched → Report
-batch_report (batched.Refused n) = report_of []
-batch_report (batched.Reported t) = t
+batch_report (Err n) = report_of []
+batch_report (Ok t) = t
 
 pub record BatchAnswer : Type 0 where
   pub memory : List ℕ
@@ -86,10 +87,10 @@ judge_common b lent f =
 
 -- where the judgement is no refusal, every form is run
 abbrev pub batch_if : Judged → Common → List ℕ → Forms → BatchAnswer
-batch_if (judged.Refused n) b m f = batched_to m (batched.Refused n)
-batch_if judged.Passed b m f =
+batch_if (Err n) b m f = batched_to m (Err n)
+batch_if (Ok _) b m f =
     let runs = runs_of b (forms_in f) in
-    batched_to (last_memory m runs) (batched.Reported (report_of runs))
+    batched_to (last_memory m runs) (Ok (report_of runs))
 
 -- the batch, with the memory that it was lent to run in
 unfoldable pub batch_answer : Common → List ℕ → Forms → BatchAnswer

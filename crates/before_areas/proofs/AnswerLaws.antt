@@ -1,11 +1,10 @@
 -- With four zeros for areas and two for a table, start, cycle, run and the list machine's calls answer what they answered before.
+use Rattle.std.specs.Prelude.{Ok, Err}
 use mathlib.Core.Path.{◌≡◌, refl}
 use mathlib.Core.List.{List}
 use Prim.Native.Nat.{ℕ}
 use lib.ListN.{length}
-use Rattle.cell.specs.Refusals.{judge_machine, Lent}
-use Rattle.cell.specs.declared.Judged.{Judged}
-use Rattle.cell.specs.declared.Judged.TheVariants.{Passed, Refused}
+use Rattle.cell.specs.Refusals.{judge_machine, Lent, Judged, passed}
 use Rattle.cell.proofs.JudgementLaws.{both_pass, after_passed, machine_good}
 use Rattle.machine.specs.Places.{no_table}
 use Rattle.throws.specs.Throws.{CycleState}
@@ -52,27 +51,27 @@ ran r n (Stopped x) = refl
 
 -- by the judgement
 module _ (order : ℕ) (m : List ℕ) where
-  lent_of : judge_machine (length m) order ≡ Passed → Lent (length m)
+  lent_of : judge_machine (length m) order ≡ passed → Lent (length m)
   lent_of e = (machine_good (length m) order e).lent
 
   start_if_lem : (ep handler : ℕ) (j : Judged) → judge_machine (length m) order ≡ j
       → start_if j order no_areas no_table m ep handler ≡ start_if_before j order m ep handler
-  start_if_lem ep handler (Refused n) e = refl
-  start_if_lem ep handler Passed e =
+  start_if_lem ep handler (Err n) e = refl
+  start_if_lem ep handler (Ok _) e =
       let t : CycleState = start_before order m ep handler in
       rw (same_start order m ep handler (lent_of e), starts t.result.registers t.result.ended)
 
   cycle_if_lem : (r : Registers) (j : Judged) → judge_machine (length m) order ≡ j
       → cycle_if j order no_table m (with_zeros r) ≡ cycle_if_before j order m r
-  cycle_if_lem r (Refused n) e = refl
-  cycle_if_lem r Passed e =
+  cycle_if_lem r (Err n) e = refl
+  cycle_if_lem r (Ok _) e =
       let t : CycleState = cycle_before order m r in
       rw (same_cycle order m r (lent_of e), cycled t.result.registers t.result.ended)
 
   run_if_lem : (r : Registers) (budget : ℕ) (j : Judged) → judge_machine (length m) order ≡ j
       → run_if j (given_of order no_table m (with_zeros r) budget) ≡ run_if_before j order m r budget
-  run_if_lem r budget (Refused n) e = refl
-  run_if_lem r budget Passed e =
+  run_if_lem r budget (Err n) e = refl
+  run_if_lem r budget (Ok _) e =
       let n : ℕ = done_before order budget (begun m r) in
       let t : CycleState = cycles_before order n (begun m r) in
       rw (same_done order budget m r (lent_of e), same_cycles order n m r (lent_of e), ran t.result.registers n t.result.ended)
@@ -96,15 +95,15 @@ unfolding judge_follow judge_begin judge_image judge_before
 judged len order kinds operands base room = rw (no_areas_lem len order)
 
 module _ (order : ℕ) (kinds operands : List ℕ) (base : ℕ) (m : List ℕ) (room : Judged) where
-  passed_lent : judge_before (length m) order kinds operands base room ≡ Passed → Lent (length m)
+  passed_lent : judge_before (length m) order kinds operands base room ≡ passed → Lent (length m)
   unfolding judge_before
   passed_lent e = lent_of order m (both_pass _ _ (both_pass _ _ e).0).0
 
   resume_if : (start : Stand) (items : ℕ) (j : Judged) → judge_before (length m) order kinds operands base room ≡ j
       → follow_if j (machine_of order no_areas no_table (length m)) base (listed kinds operands) m start items
       ≡ resume_if_before j order kinds operands base m start items
-  resume_if start items (Refused r) e = refl
-  resume_if start items Passed e =
+  resume_if start items (Err r) e = refl
+  resume_if start items (Ok _) e =
       let l : Listing = listed kinds operands in
       rw (same_run order base l items (resuming l (position_of m start)) (passed_lent e))
 

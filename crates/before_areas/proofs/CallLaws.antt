@@ -1,24 +1,22 @@
 -- The exported calls, where the four numbers of the areas and the two of the table are zeros, leave and answer what they did.
+use Rattle.std.specs.Prelude.{Ok, Err}
 use mathlib.Core.Path.{◌≡◌, refl}
 use mathlib.Core.List.{List}
 use Prim.Native.Nat.{ℕ, ◌≤◌}
 use native.Mathlib.Omega.{arith}
 use lib.ListN.{length}
 use borrow.Author.Tests.{le-ltb}
-use Rattle.cell.specs.declared.Judged.{Judged}
-use Rattle.cell.specs.declared.Judged.TheVariants.{Passed, Refused}
 use Rattle.machine.specs.Places.{no_table}
 use Rattle.throws.specs.Throws.{CycleState}
 use Rattle.machine.specs.declared.Registers.{Registers}
 use Rattle.machine.specs.declared.Ended.{Ended}
 use Rattle.machine.specs.declared.Ended.TheVariants.{Went, Threw, Stopped}
 use Rattle.areas.specs.Areas.{no_areas}
-use Rattle.cell.specs.Refusals.{judge_machine}
+use Rattle.cell.specs.Refusals.{judge_machine, Judged}
 use Rattle.cycles.specs.Counts.{begun}
 use Rattle.processor.specs.Answers.{given_of}
 use Rattle.list_following.specs.Follow.{FollowResult}
-use Rattle.list_following.specs.declared.Followed.{Followed}
-use Rattle.list_following.specs.declared.Followed.TheVariants as followed
+use Rattle.list_following.specs.Follow.{Followed}
 use Rattle.lent_arrays.specs.Lending.{areas_in}
 use Rattle.processor_calls.specs.Machines.{judge_call, start_told, cycle_told, run_told, start_if, start_call, cycle_if, cycle_call, run_if, run_call}
 use Rattle.list_telling.specs.Telling.{told_by, judge_lent}
@@ -57,16 +55,16 @@ module _ (order : ℕ) (m out : List ℕ) (e a s r : ℕ) (rest : List ℕ) wher
   start_tells : (ep handler : ℕ) (j : Judged)
       → start_told (eight e a s r rest) out (start_if_before j order m ep handler).answer
       ≡ start_told_before (eight e a s r rest) out (start_if_before j order m ep handler).answer
-  start_tells ep handler (Refused n) = refl
-  start_tells ep handler Passed =
+  start_tells ep handler (Err n) = refl
+  start_tells ep handler (Ok _) =
       let t : CycleState = start_before order m ep handler in
       start_told_lem t.result.registers t.result.ended
 
   start_if_lem : (ep handler : ℕ) (j : Judged)
       → start_if j order no_areas no_table m ep handler (eight e a s r rest) out ≡ start_call_if order m (eight e a s r rest) out j ep handler
   unfolding start_answer_before
-  start_if_lem ep handler (Refused n) = refl
-  start_if_lem ep handler Passed =
+  start_if_lem ep handler (Err n) = refl
+  start_if_lem ep handler (Ok _) =
       rw (same_start_answer order m ep handler, start_tells ep handler (judge_machine (length m) order))
 
   -- cycle
@@ -79,15 +77,15 @@ module _ (order : ℕ) (m out : List ℕ) (e a s r : ℕ) (rest : List ℕ) wher
   cycle_tells : (q : Registers) (j : Judged)
       → cycle_told (eight e a s r rest) out (cycle_if_before j order m q).answer
       ≡ cycle_told_before (eight e a s r rest) out (cycle_if_before j order m q).answer
-  cycle_tells q (Refused n) = refl
-  cycle_tells q Passed =
+  cycle_tells q (Err n) = refl
+  cycle_tells q (Ok _) =
       let t : CycleState = cycle_before order m q in
       cycle_told_lem t.result.registers t.result.ended
 
   cycle_if_lem : (j : Judged) → cycle_if j order no_table m (eight e a s r rest) out ≡ cycle_call_if order m (eight e a s r rest) out j
   unfolding cycle_answer_before
-  cycle_if_lem (Refused n) = refl
-  cycle_if_lem Passed =
+  cycle_if_lem (Err n) = refl
+  cycle_if_lem (Ok _) =
       let q : Registers = registers_before (eight e a s r rest) in
       rw (same_cycle_answer order m q, cycle_tells q (judge_machine (length m) order))
 
@@ -101,8 +99,8 @@ module _ (order : ℕ) (m out : List ℕ) (e a s r : ℕ) (rest : List ℕ) wher
   run_tells : (q : Registers) (budget : ℕ) (j : Judged)
       → run_told (eight e a s r rest) out budget (run_if_before j order m q budget).answer
       ≡ run_told_before (eight e a s r rest) out budget (run_if_before j order m q budget).answer
-  run_tells q budget (Refused n) = refl
-  run_tells q budget Passed =
+  run_tells q budget (Err n) = refl
+  run_tells q budget (Ok _) =
       let n : ℕ = done_before order budget (begun m q) in
       let t : CycleState = cycles_before order n (begun m q) in
       run_told_lem budget t.result.registers n t.result.ended
@@ -110,8 +108,8 @@ module _ (order : ℕ) (m out : List ℕ) (e a s r : ℕ) (rest : List ℕ) wher
   run_if_lem : (budget : ℕ) (j : Judged)
       → run_if j (given_of order no_table m (eight e a s r rest) budget) out ≡ run_call_if order m (eight e a s r rest) out j budget
   unfolding run_answer_before
-  run_if_lem budget (Refused n) = refl
-  run_if_lem budget Passed =
+  run_if_lem budget (Err n) = refl
+  run_if_lem budget (Ok _) =
       let q : Registers = registers_before (eight e a s r rest) in
       rw (same_run_answer order m q budget, run_tells q budget (judge_machine (length m) order))
 
@@ -133,8 +131,8 @@ same_run_call order m e a s r rest budget out =
 -- the list machine
 list_told_lem : (s r : ℕ) (rest out : List ℕ) (x : FollowResult) (a : Followed)
     → told_by a (six s r rest) out x ≡ list_told_before a (six s r rest) out x
-list_told_lem s r rest out x (followed.Refused n) = refl
-list_told_lem s r rest out x (followed.Run y) = refl
+list_told_lem s r rest out x (Err n) = refl
+list_told_lem s r rest out x (Ok y) = refl
 
 lends : (size out : ℕ) → 6 ≤ size → judge_lent size out ≡ judge_lent_before size out
 unfolding judge_lent judge_lent_before

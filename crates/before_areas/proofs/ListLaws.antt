@@ -1,10 +1,10 @@
 -- An item of the list machine comes to what it came to, and so does a run.
+use Rattle.cell.specs.Place.{Checked}
 use mathlib.Core.Path.{◌≡◌, refl, ◌∙◌}
 use Prim.Native.Nat.{ℕ, zero, suc}
 use lib.ListN.{length}
 use Rattle.cell.specs.Number.{difference}
 use Rattle.cell.specs.Refusals.{Lent}
-use Rattle.cell.specs.declared.Checked.{Checked}
 use Rattle.cell.specs.declared.Fault.{Fault}
 use Rattle.machine.specs.Places.{one_cell, no_table, unbounded}
 use Rattle.exceptions.specs.Exceptions.{exception_of}

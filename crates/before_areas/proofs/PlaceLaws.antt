@@ -1,4 +1,5 @@
 -- Places: where the stacks may have every cell of memory and there is no table, a place is good just where it was, and a bad one throws what it threw.
+use Rattle.std.specs.Prelude.{Ok, Err}
 use mathlib.Core.Path.{◌≡◌, refl, sym}
 use mathlib.Core.Bool.{Bool, true, false, ◌&&◌, true≢false}
 use mathlib.Core.List.{List}
@@ -11,7 +12,6 @@ use Rattle.cell.specs.Choice.{if}
 use Rattle.cell.specs.Place.{address}
 use Rattle.cell.specs.Refusals.{Lent}
 use Rattle.cell.specs.declared.Fault.TheVariants.{Range, Alignment}
-use Rattle.cell.specs.declared.Checked.TheVariants.{Good, Bad}
 use Rattle.machine.specs.Places.{Width, one_byte, one_cell, whole_memory, no_table, unbounded, within, allowed, fault_at, open_to, place_of, fetch_of, fetch_byte_of}
 use Rattle.exceptions.specs.Exceptions.{exception_of}
 use Rattle.machine.specs.declared.Access.{Access}
@@ -66,8 +66,8 @@ module _ (order len : ℕ) (lent : Lent len) where
     where
       go : (s t : Bool) → (s ≡ true → t ≡ true)
           → Judges (unbounded order no_table len) thrown_before
-          (open_to (if s (if (t && true) Good (Bad (fault_at access a))) (Bad (Range (address a)))) true)
-          (if s Good (Bad (Range (address a))))
+          (open_to (if s (if (t && true) (Ok tt) (Err (fault_at access a))) (Err (Range (address a)))) true)
+          (if s (Ok tt) (Err (Range (address a))))
       go true true all = good
       go true false all = absurd (true≢false (sym (all refl)))
       go false t all = bad (far a)
@@ -77,8 +77,8 @@ module _ (order len : ℕ) (lent : Lent len) where
     where
       go : (s t u : Bool) → (s ≡ true → t ≡ true) → eqb (a % 4) 0 ≡ u
           → Judges (unbounded order no_table len) thrown_before
-          (open_to (if s (if (t && u) Good (Bad (fault_at access a))) (Bad (Range (address a)))) true)
-          (if s (if u Good (Bad (Alignment (address a)))) (Bad (Range (address a))))
+          (open_to (if s (if (t && u) (Ok tt) (Err (fault_at access a))) (Err (Range (address a)))) true)
+          (if s (if u (Ok tt) (Err (Alignment (address a)))) (Err (Range (address a))))
       go true true true all q = good
       go true true false all q = bad (odd access a q)
       go true false u all q = absurd (true≢false (sym (all refl)))

@@ -1,4 +1,5 @@
 -- A throw, a NEXT and a stop leave what they left.
+use Rattle.std.specs.Prelude.{Ok, Err}
 use mathlib.Core.Path.{◌≡◌, refl}
 use mathlib.Core.List.{List}
 use Prim.Native.Nat.{ℕ, ◌%◌}
@@ -6,13 +7,10 @@ use lib.Dec.{ltb, eqb}
 use lib.ListN.{length}
 use Rattle.cell.specs.Choice.{if}
 use Rattle.cell.specs.Number.{difference}
-use Rattle.cell.specs.Place.{address}
+use Rattle.cell.specs.Place.{address, Checked, Fetched}
 use Rattle.cell.specs.Refusals.{Lent}
-use Rattle.cell.specs.declared.Checked.{Checked}
-use Rattle.cell.specs.declared.Checked.TheVariants.{Good, Bad}
 use Rattle.cell.specs.declared.Fault.{Fault}
 use Rattle.cell.specs.declared.Fault.TheVariants as fault
-use Rattle.cell.specs.declared.Fetched.{Fetched}
 use Rattle.machine.specs.Places.{one_cell, no_table, unbounded, place_of, fetch_of}
 use Rattle.exceptions.specs.Exceptions.{exception_of}
 use Rattle.machine.specs.Commits.{Stepped}
@@ -31,7 +29,7 @@ use Rattle.before_areas.proofs.PlaceLaws.{same_place, alike}
 -- no stack is asked where the instruction stream goes on, and no table
 same_stream : (machine : Machine) (m : List ℕ) (a : ℕ) → fetch_of machine Stream m a ≡ fetch_before machine.order m a
 unfolding fetch_of fetch_before place_of place_before
-same_stream machine m a = rw (open_true (if (ltb a (length m)) (if (eqb (a % 4) 0) Good (Bad (fault.Alignment (address a)))) (Bad (fault.Range (address a)))))
+same_stream machine m a = rw (open_true (if (ltb a (length m)) (if (eqb (a % 4) 0) (Ok tt) (Err (fault.Alignment (address a)))) (Err (fault.Range (address a)))))
 
 pub same_handler : (machine : Machine) (m : List ℕ) (r : Registers) (e : Ended) → handler_of machine m r e ≡ handler_before machine.order m r e
 unfolding handler_of handler_before

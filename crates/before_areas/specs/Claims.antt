@@ -1,8 +1,7 @@
 -- With no areas and no table nothing has changed: the machine whose stacks may have every cell of memory, and whose writes no table turns away, is, step by
 -- step, the machine as it was before areas.
 use Rattle.std.specs.Prelude.{◌≡◌, Bool, List, ◌∷◌, ℕ, ◌-◌, length}
-use Rattle.cell.specs.Refusals.{Lent}
-use Rattle.cell.specs.declared.Judged.{Judged}
+use Rattle.cell.specs.Refusals.{Lent, Judged}
 use Rattle.machine.specs.Places.{no_table, unbounded}
 use Rattle.machine.specs.declared.Registers.{Registers}
 use Rattle.cycles.specs.Cycles.{cycle_of, cycles_of}

@@ -1,12 +1,10 @@
 -- The list machine before areas: an item, and a run of items. Document 01, Listings.
-use Rattle.std.specs.Prelude.{List, [], ◌∷◌, ℕ, zero, suc, length}
+use Rattle.cell.specs.Place.{Checked}
+use Rattle.std.specs.Prelude.{List, [], ◌∷◌, ℕ, zero, suc, length, Ok, Err}
 use Rattle.cell.specs.Choice.{if}
 use Rattle.cell.specs.Number.{difference}
-use Rattle.cell.specs.declared.Checked.{Checked}
-use Rattle.cell.specs.declared.Checked.TheVariants.{Good, Bad}
 use Rattle.cell.specs.declared.Fault.{Fault}
 use Rattle.cell.specs.declared.Fault.TheVariants.{Illegal}
-use Rattle.cell.specs.declared.Fetched.TheVariants.{Cell}
 use Rattle.machine.specs.Places.{one_cell}
 use Rattle.machine.specs.Effects.{Store, cell_store, Control, go_on, jump, halt, throwing, Action, Effect, act, raise}
 use Rattle.machine.specs.declared.Access.TheVariants.{Push}
@@ -25,8 +23,8 @@ use Rattle.before_areas.specs.Throws.{code_before, throw_before, throwing_before
 
 -- the store of a throw
 abbrev pub push_before : ℕ → Fault → Checked → List Store
-push_before a f (Bad g) = []
-push_before a f Good = cell_store Push a (code_before f) ∷ []
+push_before a f (Err g) = []
+push_before a f (Ok _) = cell_store Push a (code_before f) ∷ []
 
 module _ (order base : ℕ) (l : Listing) where
   -- what an item asks for: EP stands for the item's EP value
@@ -36,7 +34,7 @@ module _ (order base : ℕ) (l : Listing) where
       plain_before order p.memory (reading_before order p.memory) (ep_value base l p.item) p.sp p.rp
       (decode_of (l.kind p.item))
   effect_as_before (taking form t) p =
-      taking_before (reading_before order p.memory) p.sp p.rp (Cell (operand_at_before order base l p.item t)) (behind base l p.item) t
+      taking_before (reading_before order p.memory) p.sp p.rp (Ok (operand_at_before order base l p.item t)) (behind base l p.item) t
 
   -- an item that raises
   abbrev pub raised_before : Position → Fault → Carried
@@ -56,8 +54,8 @@ module _ (order base : ℕ) (l : Listing) where
 
   -- an action whose places were judged
   abbrev pub acted_before : Position → Action → Checked → Carried
-  acted_before p x (Bad f) = raised_before p f
-  acted_before p x Good =
+  acted_before p x (Err f) = raised_before p f
+  acted_before p x (Ok _) =
       if (writes_image_before order base l x.stores) (outside WritesImage)
       (followed_before x.control (acted_to_before order base l p x))
 

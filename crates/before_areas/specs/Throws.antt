@@ -1,16 +1,13 @@
 -- NEXT, the throw and the stops, before areas. Document 01, The processor. What was thrown was the fault itself; it is told in the words of today, so that both
 -- machines answer in one type.
-use Rattle.std.specs.Prelude.{List, ℕ, ◌-◌, ◌%◌, ◌^◌, eqb, length}
+use Rattle.cell.specs.Place.{Checked, Fetched}
+use Rattle.std.specs.Prelude.{List, ℕ, ◌-◌, ◌%◌, ◌^◌, eqb, length, Ok, Err}
 use Rattle.cell.specs.Choice.{if}
 use Rattle.cell.specs.Memory.{store_cell, cell_at}
 use Rattle.cell.specs.Number.{difference}
-use Rattle.cell.specs.declared.Checked.{Checked}
-use Rattle.cell.specs.declared.Checked.TheVariants.{Good, Bad}
 use Rattle.cell.specs.declared.Fault.{Fault}
 use Rattle.cell.specs.declared.Fault.TheVariants.{Range, Alignment, Data, Return, Divisor, Illegal, Library}
 use Rattle.cell.specs.declared.Fault.TheVariants as fault
-use Rattle.cell.specs.declared.Fetched.{Fetched}
-use Rattle.cell.specs.declared.Fetched.TheVariants.{Cell, Failed}
 use Rattle.machine.specs.Places.{one_cell}
 use Rattle.machine.specs.Commits.{Stepped}
 use Rattle.exceptions.specs.Fixed.{bad_stack, handler_cell, bad_cell, address_cell}
@@ -67,8 +64,8 @@ module _ (order : ℕ) where
 
   -- the push of the code at a place that was judged, and the rest of the throw
   abbrev pub pushed_before : List ℕ → Registers → Fault → ℕ → Checked → CycleState
-  pushed_before m r f sp (Bad g) = cycle_state m r (Stopped bad_stack)
-  pushed_before m r f sp Good =
+  pushed_before m r f sp (Err g) = cycle_state m r (Stopped bad_stack)
+  pushed_before m r f sp (Ok _) =
       handler_before (store_cell order (noted_before order m f) sp (code_before f)) (record { ep = r.ep; a = r.a; sp = sp; rp = r.rp })
       (Threw (thrown_before f))
 
@@ -80,8 +77,8 @@ module _ (order : ℕ) where
   throwing_before m r = if (eqb (r.sp % 4) 0) (handler_before m r Went) (cycle_state m r (Stopped bad_stack))
 
   abbrev pub nexted_before : List ℕ → Registers → Fetched → CycleState
-  nexted_before m r (Cell x) = cycle_state m (entered r.ep x r) Went
-  nexted_before m r (Failed f) = throw_before m r f
+  nexted_before m r (Ok x) = cycle_state m (entered r.ep x r) Went
+  nexted_before m r (Err f) = throw_before m r f
 
   unfoldable pub next_before : List ℕ → Registers → CycleState
   next_before m r = nexted_before m r (fetch_before order m r.ep)

@@ -1,12 +1,11 @@
 -- With two zeros for a table, start, cycle, run and the list machine's calls answer what they answered before.
+use Rattle.std.specs.Prelude.{Ok, Err}
 use mathlib.Core.Path.{◌≡◌, refl}
 use mathlib.Core.Bool.{false}
 use mathlib.Core.List.{List}
 use Prim.Native.Nat.{ℕ}
 use lib.ListN.{length}
-use Rattle.cell.specs.Refusals.{after}
-use Rattle.cell.specs.declared.Judged.{Judged}
-use Rattle.cell.specs.declared.Judged.TheVariants.{Passed, Refused}
+use Rattle.cell.specs.Refusals.{after, Judged, passed}
 use Rattle.cell.proofs.JudgementLaws.{both_pass, after_passed}
 use Rattle.machine.specs.Places.{no_table}
 use Rattle.areas.specs.Areas.{judge_areas}
@@ -39,19 +38,19 @@ no_table_lem len order areas = rw (after_passed (judge_areas len areas))
 module _ (order : ℕ) (m : List ℕ) where
   start_if_lem : (areas : Areas) (ep handler : ℕ) (j : Judged) → judge_bounded_before (length m) order areas ≡ j
       → start_if j order areas no_table m ep handler ≡ start_if_before j order areas m ep handler
-  start_if_lem areas ep handler (Refused n) e = refl
-  start_if_lem areas ep handler Passed e =
+  start_if_lem areas ep handler (Err n) e = refl
+  start_if_lem areas ep handler (Ok _) e =
       rw (same_start order (length m) areas e m ep handler (first_sp (length m) areas) (first_rp (length m) areas))
 
   cycle_if_lem : (r : RegisterFile) (j : Judged) → judge_bounded_before (length m) order r.areas ≡ j
       → cycle_if j order no_table m r ≡ cycle_if_before j order m r
-  cycle_if_lem r (Refused n) e = refl
-  cycle_if_lem r Passed e = rw (same_cycle order (length m) r.areas e m r.registers)
+  cycle_if_lem r (Err n) e = refl
+  cycle_if_lem r (Ok _) e = rw (same_cycle order (length m) r.areas e m r.registers)
 
   run_if_lem : (r : RegisterFile) (budget : ℕ) (j : Judged) → judge_bounded_before (length m) order r.areas ≡ j
       → run_if j (given_of order no_table m r budget) ≡ run_if_before j order m r budget
-  run_if_lem r budget (Refused n) e = refl
-  run_if_lem r budget Passed e =
+  run_if_lem r budget (Err n) e = refl
+  run_if_lem r budget (Ok _) e =
       let n : ℕ = done_before (machine_before order r.areas (length m)) budget (begun m r.registers) in
       rw (
         same_done order (length m) r.areas e budget (begun m r.registers),
@@ -80,15 +79,15 @@ unfolding judge_follow judge_begin judge_follow_before judge_begin_before
 judged len order areas kinds operands base room = rw (no_table_lem len order areas)
 
 module _ (order : ℕ) (areas : Areas) (kinds operands : List ℕ) (base : ℕ) (m : List ℕ) (room : Judged) where
-  passed_taken : judge_follow_before (length m) order areas kinds operands base room ≡ Passed → Taken order (length m) areas
+  passed_taken : judge_follow_before (length m) order areas kinds operands base room ≡ passed → Taken order (length m) areas
   unfolding judge_follow_before judge_begin_before
   passed_taken e = (both_pass _ _ (both_pass _ _ e).0).0
 
   follow_if_lem : (start : Stand) (items : ℕ) (j : Judged) → judge_follow_before (length m) order areas kinds operands base room ≡ j
       → follow_if j (machine_of order areas no_table (length m)) base (listed kinds operands) m start items
       ≡ follow_if_before j (machine_before order areas (length m)) base (listed kinds operands) m start items
-  follow_if_lem start items (Refused r) e = refl
-  follow_if_lem start items Passed e =
+  follow_if_lem start items (Err r) e = refl
+  follow_if_lem start items (Ok _) e =
       let l : Listing = listed kinds operands in
       rw (same_run order (length m) areas (passed_taken e) base l items (resuming l (position_of m start)))
 
@@ -99,7 +98,7 @@ same_resume_in room order areas kinds operands base m start items =
     (follow_if_lem order areas kinds operands base m room start items (judge_follow_before (length m) order areas kinds operands base room) refl)
 
 pub same_resume : SameResume
-same_resume order areas kinds operands base m start items = same_resume_in Passed order areas kinds operands base m start items
+same_resume order areas kinds operands base m start items = same_resume_in passed order areas kinds operands base m start items
 
 pub same_follow : SameFollow
 same_follow order areas kinds operands base m sp rp items =

@@ -1,11 +1,11 @@
 -- The exported calls, where the table is two zeros, leave and answer what they did.
+use Rattle.std.specs.Prelude.{Ok, Err}
+use Rattle.cell.specs.Refusals.{Judged}
 use mathlib.Core.Path.{◌≡◌, refl}
 use mathlib.Core.Bool.{false}
 use mathlib.Core.List.{List}
 use Prim.Native.Nat.{ℕ}
 use lib.ListN.{length}
-use Rattle.cell.specs.declared.Judged.{Judged}
-use Rattle.cell.specs.declared.Judged.TheVariants.{Passed, Refused}
 use Rattle.machine.specs.Places.{no_table}
 use Rattle.areas.specs.declared.Areas.{Areas}
 use Rattle.processor.specs.Answers.{given_of}
@@ -25,17 +25,17 @@ judges len order areas registers out needed = rw (no_table_lem len order areas)
 module _ (order : ℕ) (m registers out : List ℕ) where
   start_if_lem : (j : Judged) (areas : Areas) (ep handler : ℕ)
       → start_if j order areas no_table m ep handler registers out ≡ start_call_if order m registers out j areas ep handler
-  start_if_lem (Refused n) areas ep handler = refl
-  start_if_lem Passed areas ep handler = rw (same_start_answer order areas m ep handler)
+  start_if_lem (Err n) areas ep handler = refl
+  start_if_lem (Ok _) areas ep handler = rw (same_start_answer order areas m ep handler)
 
   cycle_if_lem : (j : Judged) → cycle_if j order no_table m registers out ≡ cycle_call_if order m registers out j
-  cycle_if_lem (Refused n) = refl
-  cycle_if_lem Passed = rw (same_cycle_answer order m (registers_of registers))
+  cycle_if_lem (Err n) = refl
+  cycle_if_lem (Ok _) = rw (same_cycle_answer order m (registers_of registers))
 
   run_if_lem : (j : Judged) (budget : ℕ)
       → run_if j (given_of order no_table m registers budget) out ≡ run_call_if order m registers out j budget
-  run_if_lem (Refused n) budget = refl
-  run_if_lem Passed budget = rw (same_run_answer order m (registers_of registers) budget)
+  run_if_lem (Err n) budget = refl
+  run_if_lem (Ok _) budget = rw (same_run_answer order m (registers_of registers) budget)
 
 pub same_start_call : SameStartCall
 unfolding start_call start_call_before

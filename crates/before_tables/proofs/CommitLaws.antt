@@ -1,10 +1,10 @@
 -- A commit makes the same step, but for the name of the fault that it raises.
+use Rattle.cell.specs.Place.{Checked}
 use mathlib.Core.Path.{◌≡◌, refl}
 use mathlib.Core.Bool.{true}
 use mathlib.Core.List.{List, [], ◌∷◌}
 use Prim.Native.Nat.{ℕ}
 use lib.ListN.{length}
-use Rattle.cell.specs.declared.Checked.{Checked}
 use Rattle.cell.specs.declared.Fault.{Fault}
 use Rattle.cell.proofs.BooleanLaws.{both_true}
 use Rattle.machine.specs.Places.{Width, one_byte, one_cell}

@@ -1,18 +1,15 @@
 -- What a machine and a machine of before find and ask for, over what was told of a fault: judgements, fetches and effects are the same, but for the names of faults
 -- for which the same is thrown.
+use Rattle.std.specs.Prelude.{Ok, Err}
 use mathlib.Core.Path.{◌≡◌}
 use mathlib.Core.Bool.{Bool, true, false, ◌&&◌}
 use mathlib.Core.List.{List, [], ◌∷◌}
 use Prim.Native.Nat.{ℕ}
 use Rattle.cell.specs.Choice.{if}
-use Rattle.cell.specs.Place.{read}
+use Rattle.cell.specs.Place.{read, Checked, Fetched}
 use Rattle.cell.specs.declared.Address.{Address}
 use Rattle.cell.specs.declared.Fault.{Fault}
 use Rattle.cell.specs.declared.Fault.TheVariants.{Range, Alignment, Divisor, Illegal, Library}
-use Rattle.cell.specs.declared.Checked.{Checked}
-use Rattle.cell.specs.declared.Checked.TheVariants.{Good, Bad}
-use Rattle.cell.specs.declared.Fetched.{Fetched}
-use Rattle.cell.specs.declared.Fetched.TheVariants.{Cell, Failed}
 use Rattle.machine.specs.Places.{Width, one_byte, one_cell, fetch_of, fetch_byte_of}
 use Rattle.exceptions.specs.Exceptions.{exception_of}
 use Rattle.machine.specs.Effects.{Store, Action, Effect, act, raise, fetched}
@@ -29,13 +26,13 @@ Told machine before f g = exception_of machine f ≡ before g
 
 -- two judgements of a place
 pub data Judges (machine : Machine) (before : Fault → Exception) : Checked → Checked → Type 0 where
-  good : Judges machine before Good Good
-  bad : {f g : Fault} → Told machine before f g → Judges machine before (Bad f) (Bad g)
+  good : Judges machine before (Ok tt) (Ok tt)
+  bad : {f g : Fault} → Told machine before f g → Judges machine before (Err f) (Err g)
 
 -- two fetches
 pub data Fetches (machine : Machine) (before : Fault → Exception) : Fetched → Fetched → Type 0 where
-  cell : {x : ℕ} → Fetches machine before (Cell x) (Cell x)
-  fails : {f g : Fault} → Told machine before f g → Fetches machine before (Failed f) (Failed g)
+  cell : {x : ℕ} → Fetches machine before (Ok x) (Ok x)
+  fails : {f g : Fault} → Told machine before f g → Fetches machine before (Err f) (Err g)
 
 -- a byte is named by an operand, for no stack is made of bytes
 abbrev pub named : Width → Access → Bool

@@ -5,8 +5,7 @@ use Prim.Native.Nat.{ℕ, ◌+◌, ◌-◌, ◌*◌, ◌/◌, ◌%◌, ◌≤◌
 use native.Mathlib.Omega.{arith}
 use lib.Dec.{ltb, leb, eqb}
 use borrow.Author.Tests.{ltb-true, leb-true, leb-false, eqb-true, eqb-false, le-ltb, le-leb, lt-leb, ne_eqb}
-use Rattle.cell.specs.Refusals.{Lent}
-use Rattle.cell.specs.declared.Judged.TheVariants.{Passed}
+use Rattle.cell.specs.Refusals.{Lent, passed}
 use Rattle.machine.specs.Places.{no_table, in_table, guarded_of, end_in, span_at, within, allowed, table_allows}
 use Rattle.machine.specs.declared.Span.{Span}
 use Rattle.machine.specs.declared.Machine.{Machine}
@@ -75,14 +74,14 @@ none_held floor cells a h = go (ltb a (floor + 4 * cells)) refl
     go true e = rw (ne_eqb a 0xFFFFFFFF (omega (arith, h, ltb-true a (floor + 4 * cells) e))) (sym (and_true (leb floor a && true)))
     go false e = rw (and_false (leb floor a))
 
-module _ (order len : ℕ) (areas : Areas) (lent : Lent len) (passed : judge_areas len areas ≡ Passed) where
+module _ (order len : ℕ) (areas : Areas) (lent : Lent len) (areas_pass : judge_areas len areas ≡ passed) where
   pub stack_ends : Ends (untabled order len areas).stack (before order len areas).stack
   stack_ends = go (none areas) refl
     where
       go : (b : Bool) → none areas ≡ b → Ends (untabled order len areas).stack (before order len areas).stack
       go true q = rw q (record { end = omega (arith, lent.whole, lent.least); cells = refl })
       go false q =
-          let s = (taken len areas q passed).stack in
+          let s = (taken len areas q areas_pass).stack in
           rw q (record { end = omega (arith, s.begins, s.some); cells = refl })
 
   pub returns_end : Ends (untabled order len areas).returns (before order len areas).returns
@@ -91,7 +90,7 @@ module _ (order len : ℕ) (areas : Areas) (lent : Lent len) (passed : judge_are
       go : (b : Bool) → none areas ≡ b → Ends (untabled order len areas).returns (before order len areas).returns
       go true q = rw q (record { end = omega (arith, lent.whole, lent.least); cells = refl })
       go false q =
-          let s = (taken len areas q passed).returns in
+          let s = (taken len areas q areas_pass).returns in
           rw q (record { end = omega (arith, s.begins, s.some); cells = refl })
 
   -- an aligned place of the data stack is written where it was
@@ -107,7 +106,7 @@ module _ (order len : ℕ) (areas : Areas) (lent : Lent len) (passed : judge_are
           (ap (λ b. b && eqb (a % 4) 0)
           (within_same (span_at (len - 4) (len / 4)) (span_from 0 (len / 4)) a e ∙ none_held 0 (len / 4) a (omega (arith, lent.most))))
       go false q =
-          let s = (taken len areas q passed).stack in
+          let s = (taken len areas q areas_pass).stack in
           let top : ℕ = areas.stack.top.0 in
           let cells : ℕ = areas.stack.cells.0 in
           let floor : ℕ = top - 4 * (cells + 1) in

@@ -1,15 +1,14 @@
 -- Places: where there is no table, a place is judged as it was, and the same is thrown for a fault.
+use Rattle.std.specs.Prelude.{Ok, Err}
+use Rattle.cell.specs.Place.{Checked}
 use mathlib.Core.Path.{◌≡◌, refl}
 use mathlib.Core.Bool.{true, false≢true}
 use mathlib.Core.List.{List}
 use Prim.Native.Nat.{ℕ}
 use lib.ListN.{length}
-use Rattle.cell.specs.Refusals.{Lent, judge_machine}
+use Rattle.cell.specs.Refusals.{Lent, judge_machine, passed}
 use Rattle.cell.specs.declared.Fault.{Fault}
 use Rattle.cell.specs.declared.Fault.TheVariants as fault
-use Rattle.cell.specs.declared.Checked.{Checked}
-use Rattle.cell.specs.declared.Checked.TheVariants.{Good, Bad}
-use Rattle.cell.specs.declared.Judged.TheVariants.{Passed}
 use Rattle.cell.proofs.JudgementLaws.{both_pass, machine_good}
 use Rattle.machine.specs.Places.{Width, one_byte, one_cell, open_to, place_of, fetch_of, fetch_byte_of}
 use Rattle.exceptions.specs.Exceptions.{exception_of}
@@ -25,24 +24,24 @@ use Rattle.before_tables.proofs.EffectLaws.{Judges, good, bad, named, Alike, rea
 use Rattle.before_tables.proofs.MachineLaws.{stack_ends, returns_end, allowed_same, spared}
 
 pub open_true : (c : Checked) → open_to c true ≡ c
-open_true Good = refl
-open_true (Bad f) = refl
+open_true (Ok _) = refl
+open_true (Err f) = refl
 
 module _ (order len : ℕ) (areas : Areas) (t : Taken order len areas) where
   lent : Lent len
   unfolding judge_bounded_before
   lent = (machine_good len order (both_pass (judge_machine len order) (judge_areas len areas) t).0).lent
 
-  passed : judge_areas len areas ≡ Passed
+  areas_pass : judge_areas len areas ≡ passed
   unfolding judge_bounded_before
-  passed = (both_pass (judge_machine len order) (judge_areas len areas) t).1
+  areas_pass = (both_pass (judge_machine len order) (judge_areas len areas) t).1
 
   -- in a memory of any size
   module _ (size a : ℕ) where
     cells : (access : Access) → place_of (untabled order len areas) one_cell access size a ≡ place_before (before order len areas) one_cell access size a
     unfolding place_of place_before
     cells access =
-        rw (spared (untabled order len areas) refl access a, allowed_same order len areas lent passed access a) (open_true _)
+        rw (spared (untabled order len areas) refl access a, allowed_same order len areas lent areas_pass access a) (open_true _)
 
     pub place_same : (w : Width) (access : Access) → named w access ≡ true
         → place_of (untabled order len areas) w access size a ≡ place_before (before order len areas) w access size a
@@ -61,16 +60,16 @@ module _ (order len : ℕ) (areas : Areas) (t : Taken order len areas) where
   unfolding exception_of exception_before
   told_same (fault.Range a) = refl
   told_same (fault.Alignment a) = refl
-  told_same (fault.Data a) = rw (stack_ends order len areas lent passed).end
-  told_same (fault.Return a) = rw (returns_end order len areas lent passed).end
+  told_same (fault.Data a) = rw (stack_ends order len areas lent areas_pass).end
+  told_same (fault.Return a) = rw (returns_end order len areas lent areas_pass).end
   told_same fault.Table = refl
   told_same fault.Divisor = refl
   told_same fault.Illegal = refl
   told_same fault.Library = refl
 
   judges : (c : Checked) → Judges (untabled order len areas) (exception_before (before order len areas)) c c
-  judges Good = good
-  judges (Bad f) = bad (told_same f)
+  judges (Ok _) = good
+  judges (Err f) = bad (told_same f)
 
   pub judged_same : (size a : ℕ) (w : Width) (access : Access) → named w access ≡ true
       → Judges (untabled order len areas) (exception_before (before order len areas)) (place_of (untabled order len areas) w access size a)

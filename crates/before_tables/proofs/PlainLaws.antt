@@ -1,4 +1,5 @@
 -- The instructions that take no operand ask for what they asked for, where what they read is the same.
+use Rattle.std.specs.Prelude.{Err}
 use mathlib.Core.Path.{◌≡◌, refl}
 use mathlib.Core.Bool.{Bool, true, false}
 use mathlib.Core.List.{List}
@@ -6,11 +7,9 @@ use Prim.Native.Nat.{ℕ, zero, suc, ◌+◌, ◌*◌, ◌%◌, ◌^◌}
 use lib.Dec.{ltb, eqb}
 use Rattle.cell.specs.Choice.{if}
 use Rattle.cell.specs.Number.{sum, byte_address}
-use Rattle.cell.specs.Place.{address}
+use Rattle.cell.specs.Place.{address, Fetched}
 use Rattle.cell.specs.declared.Fault.{Fault}
 use Rattle.cell.specs.declared.Fault.TheVariants.{Range}
-use Rattle.cell.specs.declared.Fetched.{Fetched}
-use Rattle.cell.specs.declared.Fetched.TheVariants.{Failed}
 use Rattle.machine.specs.Places.{fetch_of}
 use Rattle.machine.specs.Effects.{Effect, fetched, roll_stores, rolled}
 use Rattle.machine.specs.declared.Machine.{Machine}
@@ -63,8 +62,8 @@ module _ {machine : Machine} {before : Fault → Exception} {m : List ℕ} {r : 
   deep a = go (ltb a (2 ^ 32))
     where
       go : (t : Bool)
-          → Fetches machine before (if t (fetch_of machine DataRead m a) (Failed (Range (address (a % 2 ^ 32)))))
-          (if t (r.cell DataRead a) (Failed (Range (address (a % 2 ^ 32)))))
+          → Fetches machine before (if t (fetch_of machine DataRead m a) (Err (Range (address (a % 2 ^ 32)))))
+          (if t (r.cell DataRead a) (Err (Range (address (a % 2 ^ 32)))))
       go true = w.cells DataRead a
       go false = fails (w.range (address (a % 2 ^ 32)))
 

@@ -1,10 +1,10 @@
 -- The instructions that take an operand ask for what they asked for, where what they read is the same.
+use Rattle.cell.specs.Place.{Fetched}
 use mathlib.Core.Path.{refl}
 use mathlib.Core.List.{List}
 use Prim.Native.Nat.{ℕ}
 use lib.Dec.{eqb}
 use Rattle.cell.specs.declared.Fault.{Fault}
-use Rattle.cell.specs.declared.Fetched.{Fetched}
 use Rattle.machine.specs.declared.Machine.{Machine}
 use Rattle.machine.specs.declared.Registers.{Registers}
 use Rattle.machine.specs.declared.Access.TheVariants.{Stream, DataRead, ReturnRead}

@@ -1,12 +1,11 @@
 -- A throw, a NEXT and a stop leave what they left.
+use Rattle.cell.specs.Place.{Checked, Fetched}
 use mathlib.Core.Path.{◌≡◌, refl}
 use mathlib.Core.List.{List}
 use Prim.Native.Nat.{ℕ}
 use lib.ListN.{length}
 use Rattle.cell.specs.Number.{difference}
-use Rattle.cell.specs.declared.Checked.{Checked}
 use Rattle.cell.specs.declared.Fault.{Fault}
-use Rattle.cell.specs.declared.Fetched.{Fetched}
 use Rattle.machine.specs.Places.{one_cell}
 use Rattle.exceptions.specs.Exceptions.{exception_of}
 use Rattle.machine.specs.Commits.{Stepped}

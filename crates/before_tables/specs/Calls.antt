@@ -1,8 +1,6 @@
 -- What the exported calls of the machine left and answered before tables. Document 01, and document 02, (a).
-use Rattle.std.specs.Prelude.{Bool, false, List, ℕ, length}
-use Rattle.cell.specs.Refusals.{refusal_number}
-use Rattle.cell.specs.declared.Judged.{Judged}
-use Rattle.cell.specs.declared.Judged.TheVariants as judged
+use Rattle.std.specs.Prelude.{Bool, false, List, ℕ, length, Ok, Err}
+use Rattle.cell.specs.Refusals.{refusal_number, Judged}
 use Rattle.areas.specs.declared.Areas.{Areas}
 use Rattle.lent_arrays.specs.Lending.{areas_in, registers_of, with_room}
 use Rattle.processor_calls.specs.Machines.{start_told, cycle_told, run_told, Called, called}
@@ -21,8 +19,8 @@ judge_with_before len order registers out needed = judge_call_before len order (
 module _ (order : ℕ) (m registers out : List ℕ) where
   -- start
   abbrev pub start_call_if : Judged → Areas → ℕ → ℕ → Called
-  start_call_if (judged.Refused n) areas ep handler = called m registers out (refusal_number n)
-  start_call_if judged.Passed areas ep handler =
+  start_call_if (Err n) areas ep handler = called m registers out (refusal_number n)
+  start_call_if (Ok _) areas ep handler =
       let s = start_answer_before order areas m ep handler in
       record { memory = s.memory; told = start_told registers out s.answer }
 
@@ -32,8 +30,8 @@ module _ (order : ℕ) (m registers out : List ℕ) where
 
   -- cycle
   abbrev pub cycle_call_if : Judged → Called
-  cycle_call_if (judged.Refused n) = called m registers out (refusal_number n)
-  cycle_call_if judged.Passed =
+  cycle_call_if (Err n) = called m registers out (refusal_number n)
+  cycle_call_if (Ok _) =
       let s = cycle_answer_before order m (registers_of registers) in
       record { memory = s.memory; told = cycle_told registers out s.answer }
 
@@ -42,8 +40,8 @@ module _ (order : ℕ) (m registers out : List ℕ) where
 
   -- run
   abbrev pub run_call_if : Judged → ℕ → Called
-  run_call_if (judged.Refused n) budget = called m registers out (refusal_number n)
-  run_call_if judged.Passed budget =
+  run_call_if (Err n) budget = called m registers out (refusal_number n)
+  run_call_if (Ok _) budget =
       let s = run_answer_before order m (registers_of registers) budget in
       record { memory = s.memory; told = run_told registers out budget s.answer }
 

@@ -1,8 +1,7 @@
 -- With no table nothing has changed: the machine whose table is two zeros is, step by step and whatever its areas are, the machine as it was before tables.
+use Rattle.cell.specs.Refusals.{Judged, passed}
 use Rattle.std.specs.Prelude.{◌≡◌, Bool, List, ℕ}
 use Rattle.cell.specs.declared.Fault.{Fault}
-use Rattle.cell.specs.declared.Judged.{Judged}
-use Rattle.cell.specs.declared.Judged.TheVariants.{Passed}
 use Rattle.machine.specs.Places.{Width, one_byte, one_cell, no_table, place_of}
 use Rattle.exceptions.specs.Exceptions.{exception_of}
 use Rattle.throws.specs.Throws.{CycleState, throw_of, next_of}
@@ -36,7 +35,7 @@ use Rattle.before_tables.specs.Calls.{start_call_before, cycle_call_before, run_
 
 -- areas that are not refused, with a memory and a byte order that are not
 abbrev pub Taken : ℕ → ℕ → Areas → Type 0
-Taken order len areas = judge_bounded_before len order areas ≡ Passed
+Taken order len areas = judge_bounded_before len order areas ≡ passed
 
 module _ (order len : ℕ) (areas : Areas) where
   -- the machine without a table, and the machine as it was

@@ -1,8 +1,7 @@
 -- The commit of an effect, before tables: every place is judged, and then all is written. Document 01, The processor.
-use Rattle.std.specs.Prelude.{List, [], ◌∷◌, ℕ, length, set}
+use Rattle.cell.specs.Place.{Checked, good}
+use Rattle.std.specs.Prelude.{List, [], ◌∷◌, ℕ, length, set, Ok, Err}
 use Rattle.cell.specs.Memory.{store_cell}
-use Rattle.cell.specs.declared.Checked.{Checked}
-use Rattle.cell.specs.declared.Checked.TheVariants.{Good, Bad}
 use Rattle.machine.specs.Places.{Width, one_byte, one_cell}
 use Rattle.machine.specs.Effects.{Store, Action, Effect, act, raise}
 use Rattle.machine.specs.Commits.{first_bad, Stepped, stepped, controlled, raised}
@@ -11,7 +10,7 @@ use Rattle.before_tables.specs.Machines.{MachineBefore}
 use Rattle.before_tables.specs.Places.{place_before}
 
 unfoldable pub places_before : MachineBefore → ℕ → List Store → Checked
-places_before machine len [] = Good
+places_before machine len [] = good
 places_before machine len (s ∷ ss) = first_bad (place_before machine s.width s.access len s.at) (places_before machine len ss)
 
 abbrev pub put_before : ℕ → List ℕ → Width → ℕ → ℕ → List ℕ
@@ -23,8 +22,8 @@ stored_before order m [] = m
 stored_before order m (s ∷ ss) = stored_before order (put_before order m s.width s.at s.value) ss
 
 abbrev pub carried_before : ℕ → List ℕ → Registers → Action → Checked → Stepped
-carried_before order m r x (Bad f) = raised m r f
-carried_before order m r x Good =
+carried_before order m r x (Err f) = raised m r f
+carried_before order m r x (Ok _) =
     stepped (stored_before order m x.stores) (controlled x.control (record { ep = r.ep; a = r.a; sp = x.sp; rp = x.rp }))
 
 unfoldable pub commit_before : MachineBefore → List ℕ → Registers → Effect → Stepped

@@ -1,11 +1,9 @@
 -- The list machine before tables: an item, and a run of items. Document 01, Listings.
-use Rattle.std.specs.Prelude.{List, [], ◌∷◌, ℕ, zero, suc, length}
+use Rattle.cell.specs.Place.{Checked}
+use Rattle.std.specs.Prelude.{List, [], ◌∷◌, ℕ, zero, suc, length, Ok, Err}
 use Rattle.cell.specs.Choice.{if}
 use Rattle.cell.specs.Number.{difference}
-use Rattle.cell.specs.declared.Checked.{Checked}
-use Rattle.cell.specs.declared.Checked.TheVariants.{Good, Bad}
 use Rattle.cell.specs.declared.Fault.TheVariants.{Illegal}
-use Rattle.cell.specs.declared.Fetched.TheVariants.{Cell}
 use Rattle.machine.specs.Places.{one_cell}
 use Rattle.exceptions.specs.Exceptions.{exception_code}
 use Rattle.machine.specs.Effects.{Store, cell_store, Control, go_on, jump, halt, throwing, Action, Effect, act, raise}
@@ -27,8 +25,8 @@ use Rattle.before_tables.specs.Items.{operand_at_before, writes_image_before, tr
 
 -- the store of a throw
 abbrev pub push_before : ℕ → Exception → Checked → List Store
-push_before a e (Bad f) = []
-push_before a e Good = cell_store Push a (exception_code e) ∷ []
+push_before a e (Err f) = []
+push_before a e (Ok _) = cell_store Push a (exception_code e) ∷ []
 
 module _ (machine : MachineBefore) (base : ℕ) (l : Listing) where
   -- what an item asks for: EP stands for the item's EP value
@@ -38,7 +36,7 @@ module _ (machine : MachineBefore) (base : ℕ) (l : Listing) where
       plain_before machine.order p.memory (reading_before machine p.memory) (ep_value base l p.item) p.sp p.rp
       (decode_of (l.kind p.item))
   effect_as_before (taking form t) p =
-      taking_before (reading_before machine p.memory) p.sp p.rp (Cell (operand_at_before machine.order base l p.item t))
+      taking_before (reading_before machine p.memory) p.sp p.rp (Ok (operand_at_before machine.order base l p.item t))
       (behind base l p.item)
       t
 
@@ -61,8 +59,8 @@ module _ (machine : MachineBefore) (base : ℕ) (l : Listing) where
 
   -- an action whose places were judged
   abbrev pub acted_before : Position → Action → Checked → Carried
-  acted_before p x (Bad f) = thrown_before p (exception_before machine f)
-  acted_before p x Good =
+  acted_before p x (Err f) = thrown_before p (exception_before machine f)
+  acted_before p x (Ok _) =
       if (writes_image_before machine.order base l x.stores) (outside WritesImage)
       (followed_before x.control (acted_to_before machine.order base l p x))
 

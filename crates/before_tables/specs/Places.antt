@@ -1,12 +1,9 @@
 -- Places before tables: inside memory, then a multiple of 4 for a cell, then where its stack might have it. Document 01, The processor, and document 02, (a).
-use Rattle.std.specs.Prelude.{◌&&◌, List, ℕ, ◌%◌, ltb, eqb, length, get_or}
+use Rattle.std.specs.Prelude.{◌&&◌, List, ℕ, ◌%◌, ltb, eqb, length, get_or, Err}
 use Rattle.cell.specs.Choice.{if}
 use Rattle.cell.specs.Memory.{cell_at}
-use Rattle.cell.specs.Place.{address, read}
+use Rattle.cell.specs.Place.{address, read, Checked, good, Fetched}
 use Rattle.cell.specs.declared.Fault.TheVariants.{Range}
-use Rattle.cell.specs.declared.Checked.{Checked}
-use Rattle.cell.specs.declared.Checked.TheVariants.{Good, Bad}
-use Rattle.cell.specs.declared.Fetched.{Fetched}
 use Rattle.machine.specs.Places.{Width, one_byte, one_cell, fault_at}
 use Rattle.machine.specs.declared.Access.{Access}
 use Rattle.machine.specs.declared.Access.TheVariants.{NamedRead}
@@ -14,9 +11,9 @@ use Rattle.before_tables.specs.Machines.{MachineBefore, allowed_before}
 
 -- whether a place might be touched
 unfoldable pub place_before : MachineBefore → Width → Access → ℕ → ℕ → Checked
-place_before machine one_byte access len a = if (ltb a len) Good (Bad (Range (address a)))
+place_before machine one_byte access len a = if (ltb a len) good (Err (Range (address a)))
 place_before machine one_cell access len a =
-    if (ltb a len) (if (allowed_before machine access a && eqb (a % 4) 0) Good (Bad (fault_at access a))) (Bad (Range (address a)))
+    if (ltb a len) (if (allowed_before machine access a && eqb (a % 4) 0) good (Err (fault_at access a))) (Err (Range (address a)))
 
 unfoldable pub fetch_before : MachineBefore → Access → List ℕ → ℕ → Fetched
 fetch_before machine access m a = read (place_before machine one_cell access (length m) a) (cell_at machine.order m a)

@@ -1,16 +1,14 @@
 -- The effects of the instructions that take no operand, before tables: the same clauses as in crate `instruction` (Plain, which has the stack pictures), over the
 -- reading of that time. The machine before areas (crate `before_areas`) had the same clauses over its own.
-use Rattle.std.specs.Prelude.{not, List, [], ◌∷◌, ℕ, ◌+◌, ◌*◌, ◌%◌, ◌^◌, ltb, eqb}
+use Rattle.std.specs.Prelude.{not, List, [], ◌∷◌, ℕ, ◌+◌, ◌*◌, ◌%◌, ◌^◌, ltb, eqb, Err}
 use Rattle.std.specs.Int.Bits.{bit_and, bit_or, bit_xor}
 use Rattle.cell.specs.Choice.{if}
 use Rattle.cell.specs.Number.{sum, difference, product, negated, less, magnitude, greater, lesser, flag, inverted, shifted_left, shifted_right, halved, byte_address}
 use Rattle.cell.specs.Division.{unsigned_of, symmetric_of, floored_of}
 use Rattle.cell.specs.Memory.{byte0}
-use Rattle.cell.specs.Place.{address}
+use Rattle.cell.specs.Place.{address, Fetched}
 use Rattle.cell.specs.declared.Fault.TheVariants.{Range, Divisor, Library}
 use Rattle.cell.specs.declared.Fault.TheVariants as fault
-use Rattle.cell.specs.declared.Fetched.{Fetched}
-use Rattle.cell.specs.declared.Fetched.TheVariants.{Failed}
 use Rattle.machine.specs.Places.{one_byte}
 use Rattle.machine.specs.Effects.{cell_store, go_on, jump, throwing, Effect, raise, fetched, rolled}
 use Rattle.machine.specs.declared.Access.{Access}
@@ -37,7 +35,7 @@ module _ (reads : Reading) where
 
   -- PICK's and ROLL's deep item
   abbrev pub fetch_deep_before : ℕ → Fetched
-  fetch_deep_before a = if (ltb a (2 ^ 32)) (reads.cell DataRead a) (Failed (Range (address (a % 2 ^ 32))))
+  fetch_deep_before a = if (ltb a (2 ^ 32)) (reads.cell DataRead a) (Err (Range (address (a % 2 ^ 32))))
 
 module _ (order : ℕ) (m : List ℕ) (reads : Reading) (ep sp rp : ℕ) where
   unfoldable pub plain_before : Instruction → Effect

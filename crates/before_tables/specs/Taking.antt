@@ -1,9 +1,8 @@
 -- The instructions that take an operand from the instruction stream, before tables: as in crate `instruction` (Taking), over the reading of that time.
-use Rattle.std.specs.Prelude.{[], ◌∷◌, ℕ, ◌+◌, ◌*◌, ◌%◌, ◌^◌, eqb}
+use Rattle.cell.specs.Place.{Fetched}
+use Rattle.std.specs.Prelude.{[], ◌∷◌, ℕ, ◌+◌, ◌*◌, ◌%◌, ◌^◌, eqb, Ok}
 use Rattle.cell.specs.Choice.{if}
 use Rattle.cell.specs.Number.{sum, difference}
-use Rattle.cell.specs.declared.Fetched.{Fetched}
-use Rattle.cell.specs.declared.Fetched.TheVariants.{Cell}
 use Rattle.machine.specs.Effects.{cell_store, go_on, jump, Effect, fetched}
 use Rattle.machine.specs.declared.Registers.{Registers}
 use Rattle.machine.specs.declared.Access.TheVariants.{DataRead, ReturnRead, ReturnWrite, Stream}
@@ -41,7 +40,7 @@ module _ (reads : Reading) where
   -- the cell at EP, or what the rest of A comes to
   abbrev pub operand_in : OperandForm → ℕ → ℕ → Fetched
   operand_in InCell ep x = reads.cell Stream ep
-  operand_in Immediate ep x = Cell x
+  operand_in Immediate ep x = Ok x
 
   -- where a branch leads; a literal's value
   abbrev pub operand_before : OperandForm → Taking → ℕ → ℕ → Fetched

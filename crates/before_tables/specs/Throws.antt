@@ -1,15 +1,11 @@
 -- What was thrown, NEXT, the throw and the stops, before tables. Document 01, The processor, and document 02, (a).
-use Rattle.std.specs.Prelude.{List, ℕ, ◌%◌, ltb, eqb, length}
+use Rattle.std.specs.Prelude.{List, ℕ, ◌%◌, ltb, eqb, length, Ok, Err}
 use Rattle.cell.specs.Choice.{if}
 use Rattle.cell.specs.Memory.{store_cell, cell_at}
 use Rattle.cell.specs.Number.{difference}
-use Rattle.cell.specs.Place.{address}
-use Rattle.cell.specs.declared.Checked.{Checked}
-use Rattle.cell.specs.declared.Checked.TheVariants.{Good, Bad}
+use Rattle.cell.specs.Place.{address, Checked, Fetched}
 use Rattle.cell.specs.declared.Fault.{Fault}
 use Rattle.cell.specs.declared.Fault.TheVariants as fault
-use Rattle.cell.specs.declared.Fetched.{Fetched}
-use Rattle.cell.specs.declared.Fetched.TheVariants.{Cell, Failed}
 use Rattle.machine.specs.Places.{one_cell}
 use Rattle.exceptions.specs.Exceptions.{exception_code}
 use Rattle.machine.specs.Commits.{Stepped}
@@ -67,8 +63,8 @@ module _ (machine : MachineBefore) where
 
   -- the push of the code at a place that was judged, and the rest of the throw
   abbrev pub pushed_before : List ℕ → Registers → Exception → ℕ → Checked → CycleState
-  pushed_before m r e sp (Bad f) = cycle_state m r (Stopped bad_stack)
-  pushed_before m r e sp Good =
+  pushed_before m r e sp (Err f) = cycle_state m r (Stopped bad_stack)
+  pushed_before m r e sp (Ok _) =
       handler_before (store_cell machine.order (noted_before machine.order m e) sp (exception_code e))
       (record { ep = r.ep; a = r.a; sp = sp; rp = r.rp })
       (Threw e)
@@ -82,8 +78,8 @@ module _ (machine : MachineBefore) where
   throwing_before m r = if (eqb (r.sp % 4) 0) (handler_before m r Went) (cycle_state m r (Stopped bad_stack))
 
   abbrev pub nexted_before : List ℕ → Registers → Fetched → CycleState
-  nexted_before m r (Cell x) = cycle_state m (entered r.ep x r) Went
-  nexted_before m r (Failed f) = throw_before m r (exception_before machine f)
+  nexted_before m r (Ok x) = cycle_state m (entered r.ep x r) Went
+  nexted_before m r (Err f) = throw_before m r (exception_before machine f)
 
   unfoldable pub next_before : List ℕ → Registers → CycleState
   next_before m r = nexted_before m r (fetch_before machine Stream m r.ep)

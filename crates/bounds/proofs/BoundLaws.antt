@@ -3,8 +3,7 @@ use mathlib.Core.Path.{◌≡◌, refl}
 use mathlib.Core.Bool.{Bool, true, false}
 use Prim.Native.Nat.{ℕ}
 use native.Mathlib.Omega.{arith}
-use Rattle.cell.specs.Refusals.{after, judge_machine, Lent}
-use Rattle.cell.specs.declared.Judged.TheVariants.{Passed}
+use Rattle.cell.specs.Refusals.{passed, after, judge_machine, Lent}
 use Rattle.cell.proofs.JudgementLaws.{both_pass, machine_good}
 use Rattle.machine.specs.Places.{Fits}
 use Rattle.machine.specs.declared.Table.{Table}
@@ -16,7 +15,7 @@ use Rattle.code_tables.proofs.TableLaws.{table_guards}
 use Rattle.bounds.specs.Bounds.{judge_bounded, machine_of}
 
 -- the machine of areas that were taken fits a memory that is lent
-pub machine_fits : (order len : ℕ) (areas : Areas) (table : Table) → Lent len → judge_areas len areas ≡ Passed → judge_table len table ≡ Passed
+pub machine_fits : (order len : ℕ) (areas : Areas) (table : Table) → Lent len → judge_areas len areas ≡ passed → judge_table len table ≡ passed
     → Fits (machine_of order areas table len) len
 machine_fits order len areas table l e j = go (none areas) refl
   where
@@ -44,18 +43,18 @@ machine_fits order len areas table l e j = go (none areas) refl
         }
 
 -- a judgement that passed
-module _ (len order : ℕ) (areas : Areas) (table : Table) (e : judge_bounded len order areas table ≡ Passed) where
-  parts : (judge_machine len order ≡ Passed) × (after (judge_areas len areas) (judge_table len table) ≡ Passed)
+module _ (len order : ℕ) (areas : Areas) (table : Table) (e : judge_bounded len order areas table ≡ passed) where
+  parts : (judge_machine len order ≡ passed) × (after (judge_areas len areas) (judge_table len table) ≡ passed)
   unfolding judge_bounded
   parts = both_pass (judge_machine len order) (after (judge_areas len areas) (judge_table len table)) e
 
   pub lent : Lent len
   lent = (machine_good len order parts.0).lent
 
-  pub areas_pass : judge_areas len areas ≡ Passed
+  pub areas_pass : judge_areas len areas ≡ passed
   areas_pass = (both_pass (judge_areas len areas) (judge_table len table) parts.1).0
 
-  pub table_pass : judge_table len table ≡ Passed
+  pub table_pass : judge_table len table ≡ passed
   table_pass = (both_pass (judge_areas len areas) (judge_table len table) parts.1).1
 
   pub passed_fits : Fits (machine_of order areas table len) len

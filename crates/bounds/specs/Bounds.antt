@@ -2,8 +2,7 @@
 -- else in its area, and the data stack in the held cell too, the lowest that it may have. Document 02, (b): the table goes with it as it is.
 use Rattle.std.specs.Prelude.{ℕ, ◌+◌, ◌-◌}
 use Rattle.cell.specs.Choice.{if}
-use Rattle.cell.specs.Refusals.{after, judge_machine}
-use Rattle.cell.specs.declared.Judged.{Judged}
+use Rattle.cell.specs.Refusals.{Judged, after, judge_machine}
 use Rattle.machine.specs.Places.{span_at, unbounded}
 use Rattle.machine.specs.declared.Span.{Span}
 use Rattle.machine.specs.declared.Table.{Table}

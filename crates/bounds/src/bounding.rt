@@ -1,6 +1,8 @@
 // The machine that areas bound.
+#![tactic(auto, using(areas::proofs::AreaLaws::taken))]
+
 ghost use Rattle.std.specs.Prelude.{◌≡◌, ◌≤◌};
-ghost use Rattle.cell.specs.declared.Judged.TheVariants as judged;
+ghost use Rattle.cell.specs.Refusals.{passed};
 ghost use Rattle.areas.specs.Areas as areas;
 ghost use Rattle.bounds.specs.Bounds as bounds;
 
@@ -27,7 +29,7 @@ fn span_of(held: u32, area: Area) -> Span
 // The machine of areas that were taken.
 pub fn machine_of(order: u8, given: Areas, table: Table, length: usize) -> Machine
     requires in_bounds { (4 ≤ length) × (length ≤ 16777216) }
-    requires given_value { areas.judge_areas length given ≡ judged.Passed }
+    requires given_value { areas.judge_areas length given ≡ passed }
     ensures { result ≡ bounds.machine_of order given table length }
 {
     if is_none(given) {

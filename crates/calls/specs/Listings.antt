@@ -1,25 +1,20 @@
 -- What `beetle_pack` and `beetle_pack_file` leave and answer.
-use Rattle.std.specs.Prelude.{List, [], ◌∷◌, ℕ, length}
-use Rattle.cell.specs.Refusals.{refusal_number}
-use Rattle.cell.specs.declared.Judged.{Judged}
-use Rattle.cell.specs.declared.Judged.TheVariants as judged
+use Rattle.std.specs.Prelude.{List, ℕ, length, Ok, Err}
+use Rattle.cell.specs.Refusals.{Judged, refusal_number}
 use Rattle.pack_refusals.specs.Judgement.{judge_pack}
-use Rattle.packer.specs.Pack.{PackResult, pack_of}
-use Rattle.packer.specs.declared.Packed.{Packed}
-use Rattle.packer.specs.declared.Packed.TheVariants as packed
+use Rattle.packer.specs.Pack.{Packed, PackResult, pack_of}
 use Rattle.pack_files.specs.Files.{judge_pack_file, pack_file_of}
-use Rattle.lent_arrays.specs.Lending.{written, with_room}
-use Rattle.calls.specs.Modules.{Noted, noted, Moved, moved}
+use Rattle.lent_arrays.specs.Lending.{with_room}
+use Rattle.calls.specs.Modules.{Noted, Moved, moved, load_noted}
 
--- 0 and the cells, or a refusal's number with nothing written
+-- as of a load: 0 and the cells, or a refusal's number with nothing written
 abbrev pub pack_noted : List ℕ → Packed → Noted
-pack_noted out (packed.Refused r) = noted out (refusal_number r)
-pack_noted out (packed.Cells l) = noted (written (l.0 ∷ []) out) 0
+pack_noted = load_noted
 
 -- a judgement of all that was lent, and the result that crate packer gives
 abbrev pub pack_if : Judged → PackResult → List ℕ → List ℕ → Moved
-pack_if (judged.Refused n) result output out = moved output out (refusal_number n)
-pack_if judged.Passed result output out = record { bytes = result.output; noted = pack_noted out result.answer }
+pack_if (Err n) result output out = moved output out (refusal_number n)
+pack_if (Ok _) result output out = record { bytes = result.output; noted = pack_noted out result.answer }
 
 unfoldable pub pack_call : ℕ → List ℕ → List ℕ → ℕ → List ℕ → List ℕ → Moved
 pack_call order kinds operands base output out =

@@ -2,29 +2,28 @@
 use Rattle.std.proofs.Common.{◌≡◌, ℕ, ◌%◌, Bool, true, false, not, ◌||◌, eqb, ltb, [], ◌∷◌, refl, arith, ltb-false, eqb-true}
 use borrow.Author.Tests.{not-false}
 use Rattle.cell.specs.Choice.{if}
-use Rattle.cell.specs.Refusals.{refusal_number, judge, after, memory_length, byte_order, judge_machine, GoodMachine}
+use Rattle.cell.specs.Refusals.{refusal_number, Judged, passed, judge, after, memory_length, byte_order, judge_machine, GoodMachine}
 use Rattle.cell.specs.declared.Refusal.{Refusal}
 use Rattle.cell.specs.declared.Refusal.TheVariants as refusal
-use Rattle.cell.specs.declared.Judged.{Judged}
-use Rattle.cell.specs.declared.Judged.TheVariants.{Passed, Refused}
+use Rattle.std.specs.Prelude.{Ok, Err}
 use Rattle.cell.proofs.BooleanLaws.{neither}
 
 -- both judgements pass; of a list judged in order, the first and the rest
-pub both_pass : (i j : Judged) → after i j ≡ Passed → (i ≡ Passed) × (j ≡ Passed)
-both_pass Passed j e = (refl, e)
-both_pass (Refused r) j e = absurd (let z : ◌≡◌ {A = ℕ} 0 1 = cc in omega arith)
+pub both_pass : (i j : Judged) → after i j ≡ passed → (i ≡ passed) × (j ≡ passed)
+both_pass (Ok _) j e = (refl, e)
+both_pass (Err r) j e = absurd (let z : ◌≡◌ {A = ℕ} 0 1 = cc in omega arith)
 
 -- a judgement that nothing follows, and three in order
-pub after_passed : (j : Judged) → after j Passed ≡ j
-after_passed Passed = refl
-after_passed (Refused r) = refl
+pub after_passed : (j : Judged) → after j passed ≡ j
+after_passed (Ok _) = refl
+after_passed (Err r) = refl
 
 pub after_after : (i j k : Judged) → after (after i j) k ≡ after i (after j k)
-after_after Passed j k = refl
-after_after (Refused r) j k = refl
+after_after (Ok _) j k = refl
+after_after (Err r) j k = refl
 
 -- a ground that does not refuse does not apply
-pub one_clear : (t : Bool) (r : Refusal) (j : Judged) → if t (Refused r) j ≡ Passed → (t ≡ false) × (j ≡ Passed)
+pub one_clear : (t : Bool) (r : Refusal) (j : Judged) → if t (Err r) j ≡ passed → (t ≡ false) × (j ≡ passed)
 one_clear true r j e = absurd (let z : ◌≡◌ {A = ℕ} 0 1 = cc in omega arith)
 one_clear false r j e = (refl, e)
 
@@ -48,11 +47,11 @@ refusal_some refusal.Base e = omega arith
 refusal_some refusal.NoListing e = omega arith
 refusal_some refusal.ModuleSet e = omega arith
 
-pub machine_good : (len order : ℕ) → judge_machine len order ≡ Passed → GoodMachine len order
+pub machine_good : (len order : ℕ) → judge_machine len order ≡ passed → GoodMachine len order
 unfolding judge_machine
 machine_good len order e =
     let p = one_clear (memory_length len).applies refusal.MemoryLength (judge (byte_order order ∷ [])) e in
-    let q = one_clear (ltb 1 order) refusal.ByteOrder Passed p.1 in
+    let q = one_clear (ltb 1 order) refusal.ByteOrder passed p.1 in
     let s = neither (ltb len 1024) (ltb 16777216 len || not (eqb (len % 4) 0)) p.0 in
     let t = neither (ltb 16777216 len) (not (eqb (len % 4) 0)) s.1 in
     record {

@@ -3,10 +3,6 @@ use Rattle.std.proofs.Common.{◌≡◌, ℕ, ◌+◌, ◌*◌, ◌/◌, ◌%◌
 use Rattle.cell.specs.Shift.{asr8}
 use Rattle.cell.specs.Number.{magnitude, negated, halved}
 
--- the product of two cells fits 64 bits
-pub product_fits : (a b : ℕ) → a < 2 ^ 32 → b < 2 ^ 32 → a * b < 2 ^ 64
-product_fits a b ha hb = lt_of_le_of_lt (mul-le-mul_left a (le_of_lt hb)) (mul-lt-mul_of_pos_right ha (pow_pos 32))
-
 -- b < a is the opposite of a ≤ b
 pub lt_not_le : (a b : ℕ) → ltb b a ≡ not (leb a b)
 lt_not_le a b = go (leb a b) refl
@@ -24,18 +20,18 @@ magnitude_pos a p h = go (leb 0x80000000 a) refl
     go false e = rw e p
 
 -- a shift to the right that adds half of the range, cuts, and takes the half away again keeps the sign
-pub halved_is : (a r : ℕ) → a < 2 ^ 32 → r < 2 ^ 32 → (r + 0x40000000) % 2 ^ 32 ≡ (a / 2 + 0x40000000) % 0x80000000 → r ≡ halved a
+pub halved_is : (a : ℕ) → a < 2 ^ 32 → ((a / 2 + 0x40000000) % 0x80000000 + 0xC0000000) % 2 ^ 32 ≡ halved a
 unfolding halved
-halved_is a r h k e = go (leb 0x80000000 a) refl
+halved_is a h = go (leb 0x80000000 a) refl
   where
-    go : (t : Bool) → leb 0x80000000 a ≡ t → r ≡ halved a
+    go : (t : Bool) → leb 0x80000000 a ≡ t → ((a / 2 + 0x40000000) % 0x80000000 + 0xC0000000) % 2 ^ 32 ≡ halved a
     go true q = rw q (let l = leb-true 0x80000000 a q in omega arith)
     go false q = rw q (let l = leb-false 0x80000000 a q in omega arith)
 
-pub asr8_is : (a r : ℕ) → a < 2 ^ 32 → r < 2 ^ 32 → (r + 0x800000) % 2 ^ 32 ≡ (a / 256 + 0x800000) % 0x1000000 → r ≡ asr8 a
+pub asr8_is : (a : ℕ) → a < 2 ^ 32 → ((a / 256 + 0x800000) % 0x1000000 + 0xFF800000) % 2 ^ 32 ≡ asr8 a
 unfolding asr8
-asr8_is a r h k e = go (leb 0x80000000 a) refl
+asr8_is a h = go (leb 0x80000000 a) refl
   where
-    go : (t : Bool) → leb 0x80000000 a ≡ t → r ≡ asr8 a
+    go : (t : Bool) → leb 0x80000000 a ≡ t → ((a / 256 + 0x800000) % 0x1000000 + 0xFF800000) % 2 ^ 32 ≡ asr8 a
     go true q = rw q (let l = leb-true 0x80000000 a q in omega arith)
     go false q = rw q (let l = leb-false 0x80000000 a q in omega arith)

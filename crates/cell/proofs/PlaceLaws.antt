@@ -1,8 +1,8 @@
 -- What the check of a place tells.
 use Rattle.std.proofs.Common.{◌≡◌, ℕ, ◌+◌, ◌*◌, ◌/◌, ◌%◌, ◌^◌, ◌<◌, ◌≤◌, Bool, true, false, eqb, ltb, refl, arith, ltb-true, eqb-true}
 use Rattle.cell.specs.Choice.{if}
-use Rattle.cell.specs.Place.{check_byte, check_cell, address}
-use Rattle.cell.specs.declared.Checked.TheVariants.{Good, Bad}
+use Rattle.std.specs.Prelude.{Err}
+use Rattle.cell.specs.Place.{good, check_byte, check_cell, address}
 use Rattle.cell.specs.declared.Fault.TheVariants.{Range, Alignment}
 
 -- a good place of a cell: inside memory, and a multiple of 4
@@ -10,24 +10,24 @@ pub record Place (len a : ℕ) : Type 0 where
   pub inside : a < len
   pub aligned : a % 4 ≡ 0
 
-pub good_place : (len a : ℕ) → check_cell len a ≡ Good → Place len a
+pub good_place : (len a : ℕ) → check_cell len a ≡ good → Place len a
 good_place len a = go (ltb a len) (eqb (a % 4) 0) refl refl
   where
     go : (s t : Bool) → ltb a len ≡ s → eqb (a % 4) 0 ≡ t
-        → if s (if t Good (Bad (Alignment (address a)))) (Bad (Range (address a))) ≡ Good → Place len a
+        → if s (if t good (Err (Alignment (address a)))) (Err (Range (address a))) ≡ good → Place len a
     go true true p q e = record { inside = ltb-true a len p; aligned = eqb-true (a % 4) 0 q }
     go true false p q e = absurd (let z : ◌≡◌ {A = ℕ} 0 1 = cc in omega arith)
     go false t p q e = absurd (let z : ◌≡◌ {A = ℕ} 0 1 = cc in omega arith)
 
 -- all four bytes of a cell at a good place are in memory
-pub room : (len a : ℕ) → len % 4 ≡ 0 → check_cell len a ≡ Good → a + 4 ≤ len
+pub room : (len a : ℕ) → len % 4 ≡ 0 → check_cell len a ≡ good → a + 4 ≤ len
 room len a w e = let g = good_place len a e in omega (arith, g.inside, g.aligned)
 
 -- a good place of a byte is inside memory
-pub good_byte : (len a : ℕ) → check_byte len a ≡ Good → a < len
+pub good_byte : (len a : ℕ) → check_byte len a ≡ good → a < len
 good_byte len a = go (ltb a len) refl
   where
-    go : (s : Bool) → ltb a len ≡ s → if s Good (Bad (Range (address a))) ≡ Good → a < len
+    go : (s : Bool) → ltb a len ≡ s → if s good (Err (Range (address a))) ≡ good → a < len
     go true p e = ltb-true a len p
     go false p e = absurd (let z : ◌≡◌ {A = ℕ} 0 1 = cc in omega arith)
 

@@ -2,12 +2,10 @@
 -- the order below them: what a call is lent comes first, then its input, then places, and the room of outputs last. Document 02, (a) and (b): areas
 -- come after the byte order, then the table; (l): a short file's -4119 is a part of the input list; (h): -4116 comes after -4110; (d): -4113 comes after
 -- every module has passed by itself.
-use Rattle.std.specs.Prelude.{◌≡◌, ℕ, ◌-◌, ◌%◌, ◌^◌, ◌≤◌, Bool, not, ◌||◌, List, [], ◌∷◌, ◌==◌, nat_lt}
+use Rattle.std.specs.Prelude.{◌≡◌, ℕ, ◌-◌, ◌%◌, ◌^◌, ◌≤◌, Bool, not, ◌||◌, List, [], ◌∷◌, Result, Ok, Err, ◌==◌, nat_lt}
 use Rattle.cell.specs.Choice.{if}
 use Rattle.cell.specs.declared.Refusal.{Refusal}
 use Rattle.cell.specs.declared.Refusal.TheVariants.{MemoryLength, ByteOrder, StackAreas, Table, Header, FileLength, Unaligned, Outside, ShortOutput, ItemCount, OperandCount, Kind, PlainOperand, Target, Base, NoListing, ModuleSet}
-use Rattle.cell.specs.declared.Judged.{Judged}
-use Rattle.cell.specs.declared.Judged.TheVariants.{Passed, Refused}
 
 -- the number of each refusal, as a cell in two's complement
 abbrev pub refusal_number : Refusal → ℕ
@@ -29,24 +27,36 @@ refusal_number Base = 2 ^ 32 - 4110
 refusal_number NoListing = 2 ^ 32 - 4116
 refusal_number ModuleSet = 2 ^ 32 - 4113
 
+-- the number of an answer: 0, or the refusal's number
+abbrev pub answer_number : {A : Type 0} → Result A Refusal → ℕ
+answer_number (Ok _) = 0
+answer_number (Err r) = refusal_number r
+
 -- a refusal, with whether it applies
 pub record Ground : Type 0 where
   pub applies : Bool
   pub refusal : Refusal
 
+-- a judgement: it passes, or it refuses
+abbrev pub Judged : Type 0
+Judged = Result Unit Refusal
+
+abbrev pub passed : Judged
+passed = Ok tt
+
 -- the first that applies
 abbrev pub judge : List Ground → Judged
-judge [] = Passed
-judge (g ∷ gs) = if g.applies (Refused g.refusal) (judge gs)
+judge [] = passed
+judge (g ∷ gs) = if g.applies (Err g.refusal) (judge gs)
 
 -- the second judgement, where the first passes
 abbrev pub after : Judged → Judged → Judged
-after Passed j = j
-after (Refused r) j = Refused r
+after (Ok _) j = j
+after (Err r) j = Err r
 
 -- of judgements in order, the first that refuses
 abbrev pub in_order : List Judged → Judged
-in_order [] = Passed
+in_order [] = passed
 in_order (j ∷ js) = after j (in_order js)
 
 -- -4101: a memory under 1,024 bytes, over 16,777,216, or not of whole cells

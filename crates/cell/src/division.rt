@@ -1,4 +1,6 @@
 // The three divisions. Each requires that the divisor is not 0: an instruction raises -10 first.
+#![tactic(auto, using(crate::proofs::NumberLaws::magnitude_pos), unfolding(crate::specs::Division::symmetric_of, crate::specs::Division::floored_of))]
+
 ghost use Rattle.std.specs.Prelude.{◌≡◌, ◌<◌};
 ghost use Rattle.cell.specs.Division as division;
 

@@ -15,7 +15,7 @@ pub struct Address(pub u32);
 #[derive(Clone, Copy)]
 pub struct CellCount(pub u32);
 
-// Why an instruction raises. What is thrown for it, `machine` tells.
+// Why an instruction raises. What is thrown for it, `machine` tells. The check of a place answers `Ok` or its fault, a fetch the cell or its fault.
 #[derive(Clone, Copy)]
 pub enum Fault {
     // -9: the address lies outside memory
@@ -36,20 +36,6 @@ pub enum Fault {
     Library,
 }
 
-// What the check of a place says.
-#[derive(Clone, Copy)]
-pub enum Checked {
-    Good,
-    Bad(Fault),
-}
-
-// What a fetch answers.
-#[derive(Clone, Copy)]
-pub enum Fetched {
-    Cell(u32),
-    Failed(Fault),
-}
-
 // What a division gives.
 #[derive(Clone, Copy)]
 pub struct Quotient {
@@ -57,7 +43,7 @@ pub struct Quotient {
     pub remainder: u32,
 }
 
-// Why a call is refused. specs/Refusals.antt has the number of each.
+// Why a call is refused. specs/Refusals.antt has the number of each. The judgement of a call's input answers `Ok` or its refusal.
 #[derive(Clone, Copy)]
 pub enum Refusal {
     MemoryLength,
@@ -77,11 +63,4 @@ pub enum Refusal {
     Base,
     NoListing,
     ModuleSet,
-}
-
-// What the judgement of a call's input says.
-#[derive(Clone, Copy)]
-pub enum Judged {
-    Passed,
-    Refused(Refusal),
 }

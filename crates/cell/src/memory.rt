@@ -1,5 +1,7 @@
 // Cells in bytes. A cell is loaded and stored least byte first, and its bytes are reversed where the order is 1. In memory a cell has an address;
 // in bytes that are no memory, as those of a file, it has a position.
+#![tactic(auto, using(crate::proofs::BytesLaws::reverse_loaded, crate::proofs::BytesLaws::reverse_stored, crate::proofs::BytesLaws::reverse_other), unfolding(crate::specs::Memory::cell_at, crate::specs::Memory::store_cell))]
+
 ghost use Rattle.std.specs.Prelude.{◌≡◌, ◌+◌, ◌≤◌, length};
 ghost use Rattle.cell.specs.Memory as mem;
 

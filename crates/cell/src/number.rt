@@ -1,39 +1,39 @@
 // The arithmetic of cells, modulo 2^32.
+#![tactic(auto, using(crate::proofs::NumberLaws::halved_is, crate::proofs::NumberLaws::asr8_is), unfolding(crate::specs::Number::sum, crate::specs::Number::difference, crate::specs::Number::product, crate::specs::Number::negated, crate::specs::Number::less, crate::specs::Number::shifted_left, crate::specs::Number::shifted_right))]
+
 ghost use Rattle.std.specs.Prelude.{◌≡◌};
 ghost use Rattle.cell.specs.Shift as shift;
 ghost use Rattle.cell.specs.Number as number;
 
-use std::num::{wrapping_add_u32, wrapping_sub_u32};
-
 pub fn add(a: u32, b: u32) -> u32
     ensures { result ≡ number.sum a b }
 {
-    wrapping_add_u32(a, b)
+    a.wrapping_add(b)
 }
 
 pub fn subtract(a: u32, b: u32) -> u32
     ensures { result ≡ number.difference a b }
 {
-    wrapping_sub_u32(a, b)
+    a.wrapping_sub(b)
 }
 
 pub fn multiply(a: u32, b: u32) -> u32
     ensures { result ≡ number.product a b }
 {
-    ((a as u64) * (b as u64) % 0x1_0000_0000) as u32
+    a.wrapping_mul(b)
 }
 
 pub fn negate(a: u32) -> u32
     ensures { result ≡ number.negated a }
 {
-    wrapping_sub_u32(0, a)
+    a.wrapping_neg()
 }
 
 // The order of signed numbers.
 pub fn is_less(a: u32, b: u32) -> bool
     ensures { result ≡ number.less a b }
 {
-    wrapping_add_u32(a, 0x80000000) < wrapping_add_u32(b, 0x80000000)
+    a.wrapping_add(0x80000000) < b.wrapping_add(0x80000000)
 }
 
 pub fn magnitude(a: u32) -> u32
@@ -76,14 +76,14 @@ pub fn shift_right(a: u32, u: u32) -> u32
 pub fn halve(a: u32) -> u32
     ensures { result ≡ number.halved a }
 {
-    wrapping_sub_u32((a / 2 + 0x40000000) % 0x80000000, 0x40000000)
+    ((a / 2 + 0x40000000) % 0x80000000).wrapping_sub(0x40000000)
 }
 
 // A, one byte further.
 pub fn shift_byte(a: u32) -> u32
     ensures { result ≡ shift.asr8 a }
 {
-    wrapping_sub_u32((a / 256 + 0x800000) % 0x1000000, 0x800000)
+    ((a / 256 + 0x800000) % 0x1000000).wrapping_sub(0x800000)
 }
 
 // The address of a byte for C@ and C!.

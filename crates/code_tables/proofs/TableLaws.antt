@@ -5,7 +5,7 @@ use Prim.Native.Nat.{ℕ, ◌+◌, ◌%◌, ◌^◌, ◌≤◌}
 use native.Mathlib.Omega.{arith}
 use lib.Dec.{ltb, eqb}
 use borrow.Author.Tests.{ltb-false, eqb-true, not-false}
-use Rattle.cell.specs.declared.Judged.TheVariants.{Passed}
+use Rattle.cell.specs.Refusals.{passed}
 use Rattle.cell.specs.declared.Refusal.TheVariants as refusal
 use Rattle.cell.proofs.BooleanLaws.{both_true, neither}
 use Rattle.cell.proofs.JudgementLaws.{one_clear}
@@ -14,12 +14,12 @@ use Rattle.machine.specs.declared.Table.{Table}
 use Rattle.code_tables.specs.Tables.{none_given, own_cells, bad_table, judge_table, Kept}
 
 -- a table that was taken, where one was given
-pub kept : (len : ℕ) (table : Table) → none_given table ≡ false → judge_table len table ≡ Passed → Kept len table
+pub kept : (len : ℕ) (table : Table) → none_given table ≡ false → judge_table len table ≡ passed → Kept len table
 unfolding judge_table
 kept len table n e =
     let first = table.first.0 in
     let end = table.end.0 in
-    let b = (one_clear (bad_table len table) refusal.Table Passed (rw n at e)).0 in
+    let b = (one_clear (bad_table len table) refusal.Table passed (rw n at e)).0 in
     let p = neither (not (eqb (first % 4) 0)) (not (eqb (end % 4) 0) || (ltb end first || (ltb first own_cells || ltb len end))) b in
     let q = neither (not (eqb (end % 4) 0)) (ltb end first || (ltb first own_cells || ltb len end)) p.1 in
     let r = neither (ltb end first) (ltb first own_cells || ltb len end) q.1 in
@@ -33,7 +33,7 @@ kept len table n e =
     }
 
 -- the bytes of a table that was taken end in 32 bits
-pub table_guards : (len : ℕ) (table : Table) → len ≤ 16777216 → judge_table len table ≡ Passed → (guarded_of table).first.0 + (guarded_of table).bytes ≤ 2 ^ 32
+pub table_guards : (len : ℕ) (table : Table) → len ≤ 16777216 → judge_table len table ≡ passed → (guarded_of table).first.0 + (guarded_of table).bytes ≤ 2 ^ 32
 table_guards len table l e = go (none_given table) refl
   where
     go : (b : Bool) → none_given table ≡ b → (guarded_of table).first.0 + (guarded_of table).bytes ≤ 2 ^ 32

@@ -2,10 +2,8 @@
 -- any other pair away that is unaligned, reversed, below 10h or past memory. A table may be empty.
 use Rattle.std.specs.Prelude.{◌≡◌, Bool, not, ◌&&◌, ◌||◌, [], ◌∷◌, ℕ, ◌%◌, ◌≤◌, ltb, eqb}
 use Rattle.cell.specs.Choice.{if}
-use Rattle.cell.specs.Refusals.{judge}
+use Rattle.cell.specs.Refusals.{Judged, passed, judge}
 use Rattle.cell.specs.declared.Refusal.TheVariants as refusal
-use Rattle.cell.specs.declared.Judged.{Judged}
-use Rattle.cell.specs.declared.Judged.TheVariants.{Passed}
 use Rattle.machine.specs.declared.Table.{Table}
 
 abbrev pub none_given : Table → Bool
@@ -24,7 +22,7 @@ bad_table len table =
 -- -4112
 unfoldable pub judge_table : ℕ → Table → Judged
 judge_table len table =
-    if (none_given table) Passed (judge (record { applies = bad_table len table; refusal = refusal.Table } ∷ []))
+    if (none_given table) passed (judge (record { applies = bad_table len table; refusal = refusal.Table } ∷ []))
 
 -- what a table that was taken is, where one was given
 pub record Kept (len : ℕ) (table : Table) : Type 0 where

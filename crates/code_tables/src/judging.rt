@@ -1,8 +1,10 @@
 // Which tables are taken.
+#![tactic(auto, unfolding(crate::specs::Tables::judge_table))]
+
 ghost use Rattle.std.specs.Prelude.{◌≡◌};
 ghost use Rattle.code_tables.specs.Tables as tables;
 
-use cell::{Judged, Refusal};
+use cell::Refusal;
 use machine::Table;
 
 // Whether both numbers of a table are 0.
@@ -20,29 +22,18 @@ fn is_bad_table(length: usize, table: Table) -> bool
 {
     let first = table.first;
     let end = table.end;
-    if first.0 % 4 != 0 {
-        return true;
-    }
-    if end.0 % 4 != 0 {
-        return true;
-    }
-    if end.0 < first.0 {
-        return true;
-    }
-    if first.0 < 0x10 {
-        return true;
-    }
-    length < end.0 as usize
+    first.0 % 4 != 0
+        || end.0 % 4 != 0
+        || end.0 < first.0
+        || first.0 < 0x10
+        || length < end.0 as usize
 }
 
-pub fn judge_table(length: usize, table: Table) -> Judged
+pub fn judge_table(length: usize, table: Table) -> Result<(), Refusal>
     ensures { result ≡ tables.judge_table length table }
 {
-    if is_none_given(table) {
-        return Judged::Passed;
+    if !is_none_given(table) && is_bad_table(length, table) {
+        return Err(Refusal::Table);
     }
-    if is_bad_table(length, table) {
-        return Judged::Refused(Refusal::Table);
-    }
-    Judged::Passed
+    Ok(())
 }

@@ -1,5 +1,7 @@
 -- The loops of ROLL: the places that are still to be judged decide for all; and what is still to be stored, with the values of the start, gives the
 -- memory that is asked for.
+use Rattle.std.specs.Prelude.{Err}
+use Rattle.cell.specs.Place.{Checked, good}
 use mathlib.Core.Path.{◌≡◌, refl, sym, ◌∙◌, ap}
 use mathlib.Core.List.{List}
 use mathlib.Core.Logic.{inr}
@@ -8,8 +10,6 @@ use native.Mathlib.Omega.{arith}
 use lib.ListN.{length}
 use Rattle.cell.specs.Memory.{cell_at, store_cell, Alike}
 use Rattle.cell.proofs.MemoryLaws.{cell_alike, cell_frame, alike_refl, alike_trans, alike_narrow, store_length}
-use Rattle.cell.specs.declared.Checked.{Checked}
-use Rattle.cell.specs.declared.Checked.TheVariants.{Good, Bad}
 use Rattle.cell.specs.declared.Fault.{Fault}
 use Rattle.machine.specs.Places.{one_cell, place_of}
 use Rattle.machine.specs.Effects.{roll_stores, rolled}
@@ -88,14 +88,14 @@ module _ (machine : Machine) (m : List ℕ) (top depth : ℕ) where
       record { within = omega arith; ahead = ap (places_of machine (length m)) (rolled_some machine.order m top depth n) }
 
   -- a bad place
-  pub judge_bad : (k : ℕ) (c : Checked) (f : Fault) → 0 < k → c ≡ place_of machine one_cell DataWrite (length m) (top + 4 * k) → c ≡ Bad f
+  pub judge_bad : (k : ℕ) (c : Checked) (f : Fault) → 0 < k → c ≡ place_of machine one_cell DataWrite (length m) (top + 4 * k) → c ≡ Err f
       → Judging machine m top depth k → c ≡ places_of machine (length m) (rolled machine.order m top depth)
   unfolding places_of roll_stores
   judge_bad zero c f h e b s = absurd (omega arith)
   judge_bad (suc k) c f h e b s = b ∙ sym (s.ahead ∙ simp (sym e ∙ b))
 
   -- one place passed
-  pub judge_again : (k : ℕ) (c : Checked) → 0 < k → c ≡ place_of machine one_cell DataWrite (length m) (top + 4 * k) → c ≡ Good
+  pub judge_again : (k : ℕ) (c : Checked) → 0 < k → c ≡ place_of machine one_cell DataWrite (length m) (top + 4 * k) → c ≡ good
       → Judging machine m top depth k → Judging machine m top depth (k - 1)
   unfolding places_of roll_stores
   judge_again zero c h e g s = absurd (omega arith)
@@ -112,7 +112,7 @@ module _ (machine : Machine) (m : List ℕ) (top depth : ℕ) where
 
 -- where all places are good, the cells lie in memory
 pub rolled_room : (machine : Machine) (m : List ℕ) (top depth : ℕ) → length m % 4 ≡ 0
-    → places_of machine (length m) (rolled machine.order m top depth) ≡ Good → 0 < depth → top + 4 * depth + 4 ≤ length m
+    → places_of machine (length m) (rolled machine.order m top depth) ≡ good → 0 < depth → top + 4 * depth + 4 ≤ length m
 unfolding places_of roll_stores
 rolled_room machine m top zero w e h = absurd (omega arith)
 rolled_room machine m top (suc u) w e h = room_place machine DataWrite (length m) (top + 4 * suc u) w (both_good _ _ e)

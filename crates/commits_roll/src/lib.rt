@@ -1,35 +1,34 @@
 // ROLL: its places judged, its cells moved, its commit.
-#![tactic(auto)]
+#![tactic(auto, using(crate::proofs::RollLaws::rolled_room), unfolding(machine::specs::Commits::commit_of, machine::specs::Commits::places_of))]
 
-ghost use Rattle.std.specs.Prelude.{◌≡◌, ◌+◌, ◌*◌, ◌<◌, ◌≤◌, ◌^◌, length};
+ghost use Rattle.std.specs.Prelude.{◌≡◌, ◌+◌, ◌*◌, ◌<◌, ◌≤◌, ◌^◌, length, IfOk};
 ghost use Rattle.machine.specs.Places as places;
 ghost use Rattle.machine.specs.Effects as effects;
 ghost use Rattle.machine.specs.Commits as commits;
 
 use cell::memory::{load, store};
 use cell::place::address_at;
-use cell::{Address, CellCount, Checked};
-use commits::commit::{fault_of, raise, settle};
+use cell::{Address, CellCount, Fault};
+use commits::commit::settle;
 use machine::places::check_data_write;
 use machine::{Machine, Registers, RollStores, Step};
 
 // The places that ROLL writes, deepest first: the first bad one.
-pub fn check_roll(machine: Machine, memory: &[u8], top: Address, depth: CellCount) -> Checked
+pub fn check_roll(
+    machine: Machine,
+    memory: &[u8],
+    top: Address,
+    depth: CellCount,
+) -> Result<(), Fault>
     requires depth_bound { top.0 + 4 * depth.0 < 2 ^ 32 }
     requires fits { places.Fits machine (length memory.now) }
     ensures { result ≡ commits.places_of machine (length memory.now) (effects.rolled machine.order memory.now top.0 depth.0) }
 {
     if depth.0 == 0 {
-        return Checked::Good;
+        return Ok(());
     }
-    let mut k = depth.0;
-    while 0 < k {
-        let at = address_at(top, CellCount(k));
-        let place = check_data_write(machine, memory.len(), at);
-        let Checked::Good = place else {
-            return place;
-        };
-        k -= 1;
+    for k in (0..depth.0).rev() {
+        check_data_write(machine, memory.len(), address_at(top, CellCount(k + 1)))?;
     }
     check_data_write(machine, memory.len(), top)
 }
@@ -44,48 +43,25 @@ fn roll_cells(machine: Machine, memory: &mut [u8], top: Address, depth: CellCoun
         return;
     }
     let last = load(machine.order, memory, address_at(top, depth));
-    let mut k = depth.0;
-    while 0 < k {
-        let next = k - 1;
-        let x = load(machine.order, memory, address_at(top, CellCount(next)));
-        store(machine.order, memory, address_at(top, CellCount(k)), x);
-        k = next;
+    for k in (0..depth.0).rev() {
+        let x = load(machine.order, memory, address_at(top, CellCount(k)));
+        store(machine.order, memory, address_at(top, CellCount(k + 1)), x);
     }
     store(machine.order, memory, top, last)
 }
 
-pub fn commit_roll(machine: Machine, memory: &mut [u8], r: Registers, e: RollStores) -> Step
+pub fn commit_roll(
+    machine: Machine,
+    memory: &mut [u8],
+    r: Registers,
+    asked: Result<RollStores, Fault>,
+) -> Result<Step, Fault>
     requires fits { places.Fits machine (length memory.old) }
-    requires reached { effects.Reached e }
-    ensures { commits.stepped memory.new result ≡ commits.commit_of machine memory.old r (effects.roll_effect machine.order memory.old e) }
+    requires reached { IfOk asked effects.Reached }
+    ensures { commits.stepped memory.new (commits.step_of r result) ≡ commits.commit_of machine memory.old r (effects.asked (effects.roll_effect machine.order memory.old) asked) }
 {
-    let then = e.then;
-    let top = e.top;
-    let depth = e.depth;
-    let reading = fault_of(then);
-    let Checked::Good = reading else {
-        return raise(
-            Registers {
-                ep: r.ep,
-                a: r.a,
-                sp: r.sp,
-                rp: r.rp,
-            },
-            reading,
-        );
-    };
-    let place = check_roll(machine, memory, top, depth);
-    let Checked::Good = place else {
-        return raise(
-            Registers {
-                ep: r.ep,
-                a: r.a,
-                sp: r.sp,
-                rp: r.rp,
-            },
-            place,
-        );
-    };
-    roll_cells(machine, memory, top, depth);
-    settle(r.ep, r.a, e.sp, e.rp, then)
+    let e = asked?;
+    check_roll(machine, memory, e.top, e.depth)?;
+    roll_cells(machine, memory, e.top, e.depth);
+    Ok(settle(r.ep, r.a, e.sp, e.rp, e.then))
 }

@@ -2,7 +2,7 @@
 use mathlib.Core.Path.{◌≡◌, refl, sym, ◌∙◌, ap}
 use mathlib.Core.Bool.{true, false, true≢false}
 use mathlib.Core.List.{List}
-use Prim.Native.Nat.{ℕ, suc, ◌+◌, ◌-◌, ◌<◌, ◌≤◌}
+use Prim.Native.Nat.{ℕ, zero, suc, ◌+◌, ◌-◌, ◌<◌, ◌≤◌}
 use native.Mathlib.Omega.{arith}
 use lib.ListN.{length}
 use borrow.Author.Tests.{eqb-true, eqb-false}
@@ -15,17 +15,10 @@ use Rattle.machine.specs.declared.Outcome.TheVariants as outcome
 use Rattle.machine.specs.declared.Ended.{Ended}
 use Rattle.machine.specs.declared.Ended.TheVariants.{Went, Threw, Stopped}
 use Rattle.cycles.specs.Cycles.{cycle_of, advance, cycles_of}
+use Rattle.cycles.specs.Running.{Running, Looping, Stalled}
 use Rattle.cycles.specs.Counts.{is_stop, is_last, counted, done_of, begun}
 use Rattle.machine.specs.declared.Registers.{Registers}
-use Rattle.cycles.proofs.CycleLaws.{cycles_suc, goes}
-
-pub record Running (machine : Machine) (m0 : List ℕ) (t0 : CycleResult) (budget : ℕ) (m : List ℕ) (t : CycleResult) (left : ℕ) : Type 0 where
-  pub within : left ≤ budget
-  pub going : is_stop t.ended ≡ false
-  pub spent : left ≡ 0 → t.ended ≡ Went
-  pub long : length m ≡ length m0
-  pub here : with_result m t ≡ cycles_of machine (budget - left) (with_result m0 t0)
-  pub ahead : done_of machine budget (with_result m0 t0) ≡ (budget - left) + done_of machine left (with_result m t)
+use Rattle.cycles.proofs.CycleLaws.{cycles_suc, cycles_cut, goes}
 
 -- a run that has come to its end: what is left and what was done make the budget, and the state is that after what was done
 pub record Done (machine : Machine) (m0 : List ℕ) (t0 : CycleResult) (budget left : ℕ) (m : List ℕ) (t : CycleResult) : Type 0 where
@@ -98,10 +91,6 @@ module _ (machine : Machine) (m0 : List ℕ) (t0 : CycleResult) (budget : ℕ) w
       record { count = rw d (omega arith); state = rw d (rw (← s.spent refl) (rw z at s.here)) }
 
 -- what the loop keeps: it carries the registers from cycle to cycle, and not how the last cycle ended
-pub record Looping (machine : Machine) (m0 : List ℕ) (r0 : Registers) (budget : ℕ) (m : List ℕ) (r : Registers) (left : ℕ) : Type 0 where
-  pub last : Ended
-  pub running : Running machine m0 (record { registers = r0; ended = Went }) budget m (record { registers = r; ended = last }) left
-
 module _ (machine : Machine) (m0 : List ℕ) (r0 : Registers) (budget : ℕ) where
   pub loop_begins : Looping machine m0 r0 budget m0 r0 budget
   loop_begins = record { last = Went; running = run_begins machine m0 _ budget refl }
@@ -140,3 +129,62 @@ pub one_cycle : (machine : Machine) (m : List ℕ) (r : Registers) (s : CycleSta
 unfolding done_of cycles_of
 one_cycle machine m r s q =
     (rw (counted_first (advance machine (begun m r)).result.ended) at q) ∙ goes machine (begun m r) refl
+
+-- a run may be taken up where it stands, as one that begins there
+module _ (machine : Machine) (m0 : List ℕ) (r0 : Registers) (budget : ℕ) (m : List ℕ) (r : Registers) (left : ℕ)
+    (a : Looping machine m0 r0 budget m r left) where
+  abbrev stood : CycleState
+  stood = with_result m (record { registers = r; ended = a.last })
+
+  abbrev afresh : CycleState
+  afresh = with_result m (record { registers = r; ended = Went })
+
+  one_way : advance machine stood ≡ advance machine afresh
+  one_way = goes machine stood a.running.going ∙ sym (goes machine afresh refl)
+
+  counts_one : (k : ℕ) → done_of machine k stood ≡ done_of machine k afresh
+  unfolding done_of
+  counts_one zero = refl
+  counts_one (suc k) = rw one_way
+
+  at_start : cycles_of machine 0 afresh ≡ afresh
+  unfolding cycles_of
+  at_start = refl
+
+  leads_one : (n : ℕ) → cycles_of machine (suc n) stood ≡ cycles_of machine (suc n) afresh
+  unfolding cycles_of
+  leads_one n = rw one_way
+
+  onward : (n : ℕ) → cycles_of machine (suc n) afresh ≡ cycles_of machine ((budget - left) + suc n) (with_result m0 (record { registers = r0; ended = Went }))
+  onward n =
+      let h : cycles_of machine (suc n) stood ≡ cycles_of machine (suc n) (cycles_of machine (budget - left) (with_result m0 (record { registers = r0; ended = Went }))) =
+      ap (cycles_of machine (suc n)) a.running.here in
+      sym (leads_one n) ∙ h ∙ sym (cycles_cut machine (budget - left) (suc n) (with_result m0 (record { registers = r0; ended = Went })))
+
+  pub taken_up : (m1 : List ℕ) (r1 : Registers) (k : ℕ) → Looping machine m r left m1 r1 k → Looping machine m0 r0 budget m1 r1 k
+  taken_up m1 r1 k b = go (left - k) refl
+    where
+      go : (n : ℕ) → left - k ≡ n → Looping machine m0 r0 budget m1 r1 k
+      go zero e =
+          let n : k ≡ left = omega (arith, e, b.running.within) in
+          let h : with_result m1 (record { registers = r1; ended = b.last }) ≡ afresh = b.running.here ∙ rw e at_start in
+          let hm : m1 ≡ m = ap (λ (s : CycleState). s.memory) h in
+          let hr : r1 ≡ r = ap (λ (s : CycleState). s.result.registers) h in
+          rw (n, hm, hr) a
+      go (suc n) e =
+          let w : k ≤ budget = omega (arith, a.running.within, b.running.within) in
+          let split : budget - k ≡ (budget - left) + suc n = omega (arith, e, a.running.within, b.running.within) in
+          record {
+            last = b.last;
+            running = record {
+              within = w;
+              going = b.running.going;
+              spent = b.running.spent;
+              long = b.running.long ∙ a.running.long;
+              here = rw split (b.running.here ∙ rw e (onward n));
+              ahead =
+                  let c : done_of machine left stood ≡ (left - k) + done_of machine k (with_result m1 (record { registers = r1; ended = b.last })) =
+                  counts_one left ∙ b.running.ahead in
+                  rw split (a.running.ahead ∙ rw (c, e) (omega arith));
+            };
+          }

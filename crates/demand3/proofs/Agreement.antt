@@ -1,4 +1,5 @@
 -- One item: a cycle of the processor at the item does what the list machine does with it.
+use Rattle.std.specs.Prelude.{Ok}
 use mathlib.Core.Path.{◌≡◌, refl, sym, ap, ◌∙◌}
 use mathlib.Core.Bool.{Bool, true, false, false≢true, true≢false}
 use mathlib.Core.List.{List}
@@ -7,7 +8,6 @@ use Prim.Native.Nat.{ℕ, zero, suc, ◌+◌, ◌*◌, ◌%◌, ◌^◌, ◌<◌
 use native.Mathlib.Omega.{arith}
 use Rattle.cell.specs.Number.{sum}
 use Rattle.cell.specs.Shift.{asr8}
-use Rattle.cell.specs.declared.Fetched.TheVariants.{Cell}
 use Rattle.machine.specs.Places.{fetch_of}
 use Rattle.machine.specs.Commits.{stepped, commit_of}
 use Rattle.throws.specs.Throws.{cycle_state, finish_of}
@@ -160,37 +160,37 @@ module _ (machine : Machine) (base : ℕ) (l : Listing) (ok : Legal base l) (i :
       }
 
   -- the operand cell is in the image
-  operand_fetch : (m : List ℕ) → Holds machine base l m → form_at (layout l) i ≡ InCell → fetch_of machine Stream m (ep_value base l i) ≡ Cell (value base l i)
+  operand_fetch : (m : List ℕ) → Holds machine base l m → form_at (layout l) i ≡ InCell → fetch_of machine Stream m (ep_value base l i) ≡ Ok (value base l i)
   operand_fetch m holds q =
       image_fetch machine base l ok m holds (mid (layout l) i).next (omega (arith, size_is base l ok, operand_inside base l ok i inside q))
-      ∙ ap Cell (operand_cell base l ok i inside q)
+      ∙ ap Ok (operand_cell base l ok i inside q)
 
   -- what the processor finds is what the listing says
   literal_cell : (m : List ℕ) → Holds machine base l m → (t : Taking) → leads t ≡ false → kinds.class_of (l.kind i) ≡ Literal → form_at (layout l) i ≡ InCell
-      → operand_of machine stream-form.InCell t m (ep_value base l i) rest ≡ Cell (operand_at machine base l i t)
+      → operand_of machine stream-form.InCell t m (ep_value base l i) rest ≡ Ok (operand_at machine base l i t)
   literal_cell m holds t d c q =
       literal_operand_lem machine stream-form.InCell m (ep_value base l i) rest t d
       ∙ operand_fetch m holds q
-      ∙ ap Cell (literal_value base l ok i c ∙ sym (literal_at machine base l i t d))
+      ∙ ap Ok (literal_value base l ok i c ∙ sym (literal_at machine base l i t d))
 
   literal_rest : (m : List ℕ) (t : Taking) → leads t ≡ false → kinds.class_of (l.kind i) ≡ Literal → form_at (layout l) i ≡ Immediate
-      → operand_of machine stream-form.Immediate t m (ep_value base l i) rest ≡ Cell (operand_at machine base l i t)
+      → operand_of machine stream-form.Immediate t m (ep_value base l i) rest ≡ Ok (operand_at machine base l i t)
   literal_rest m t d c q =
       literal_operand_lem machine stream-form.Immediate m (ep_value base l i) rest t d
-      ∙ ap Cell (immediate_value base l ok i inside q ∙ literal_value base l ok i c ∙ sym (literal_at machine base l i t d))
+      ∙ ap Ok (immediate_value base l ok i inside q ∙ literal_value base l ok i c ∙ sym (literal_at machine base l i t d))
 
   branch_to : (m : List ℕ) → Holds machine base l m → (t : Taking) → leads t ≡ true → kinds.class_of (l.kind i) ≡ Branch → form_at (layout l) i ≡ InCell
-      → operand_of machine stream-form.InCell t m (ep_value base l i) rest ≡ Cell (operand_at machine base l i t)
+      → operand_of machine stream-form.InCell t m (ep_value base l i) rest ≡ Ok (operand_at machine base l i t)
   branch_to m holds t d c q =
       branch_operand_lem machine stream-form.InCell m (ep_value base l i) rest t d
       ∙ operand_fetch m holds q
-      ∙ ap Cell (branch_cell base l ok i c q ∙ sym (branch_at machine base l i t d))
+      ∙ ap Ok (branch_cell base l ok i c q ∙ sym (branch_at machine base l i t d))
 
   branch_by : (m : List ℕ) (t : Taking) → leads t ≡ true → kinds.class_of (l.kind i) ≡ Branch → form_at (layout l) i ≡ Immediate
-      → operand_of machine stream-form.Immediate t m (ep_value base l i) rest ≡ Cell (operand_at machine base l i t)
+      → operand_of machine stream-form.Immediate t m (ep_value base l i) rest ≡ Ok (operand_at machine base l i t)
   branch_by m t d c q =
       branch_operand_lem machine stream-form.Immediate m (ep_value base l i) rest t d
-      ∙ ap Cell
+      ∙ ap Ok
       (ap (λ (v : ℕ). (ep_value base l i + 4 * v) % 2 ^ 32) (immediate_value base l ok i inside q)
       ∙ branch_lands base l ok i inside c q
       ∙ sym (branch_at machine base l i t d))
@@ -213,9 +213,9 @@ module _ (machine : Machine) (base : ℕ) (l : Listing) (ok : Legal base l) (i :
 
   -- where the operand is what the listing says, so is the effect
   effect_is : (m : List ℕ) (sp rp : ℕ) (form : stream.OperandForm) (t : Taking)
-      → operand_of machine form t m (ep_value base l i) rest ≡ Cell (operand_at machine base l i t)
+      → operand_of machine form t m (ep_value base l i) rest ≡ Ok (operand_at machine base l i t)
       → after_of form (ep_value base l i) ≡ behind base l i
-      → taking_at machine form t m (here sp rp) ≡ taking_of machine t m sp rp (Cell (operand_at machine base l i t)) (behind base l i)
+      → taking_at machine form t m (here sp rp) ≡ taking_of machine t m sp rp (Ok (operand_at machine base l i t)) (behind base l i)
   effect_is m sp rp form t p q = rw (p, q)
 
   module _ (ran : Bool) (m : List ℕ) (sp rp : ℕ) (holds : Holds machine base l m) where
@@ -227,7 +227,7 @@ module _ (machine : Machine) (base : ℕ) (l : Listing) (ok : Legal base l) (i :
         (carried_meets machine base l ok i rest inside (λ s. s) (plain_way q) ran m sp rp (plain_at machine (decode_of (l.kind i)) m (here sp rp)) holds)
 
     cell_meets : form_at (layout l) i ≡ InCell → (t : Taking) → operand_class (decode_of (l.kind i)) ≡ taking stream-form.InCell t
-        → operand_of machine stream-form.InCell t m (ep_value base l i) rest ≡ Cell (operand_at machine base l i t)
+        → operand_of machine stream-form.InCell t m (ep_value base l i) rest ≡ Ok (operand_at machine base l i t)
         → Meets machine base l (carry_out machine base l (stands_at i ran m sp rp)) (cycle_of machine m (at_item base l i sp rp))
     unfolding carry_out
     cell_meets q t d o =
@@ -238,11 +238,11 @@ module _ (machine : Machine) (base : ℕ) (l : Listing) (ok : Legal base l) (i :
           effect_is m sp rp stream-form.InCell t o (past_operand q),
         )
         (carried_meets machine base l ok i rest inside (taken stream-form.InCell) (cell_way q) ran m sp rp
-        (taking_of machine t m sp rp (Cell (operand_at machine base l i t)) (behind base l i)) holds)
+        (taking_of machine t m sp rp (Ok (operand_at machine base l i t)) (behind base l i)) holds)
 
     immediate_meets : form_at (layout l) i ≡ Immediate → (t : Taking) → operand_class (decode_of (l.kind i)) ≡ taking stream-form.InCell t
         → operand_class (decode_of (l.kind i + 1)) ≡ taking stream-form.Immediate t
-        → operand_of machine stream-form.Immediate t m (ep_value base l i) rest ≡ Cell (operand_at machine base l i t)
+        → operand_of machine stream-form.Immediate t m (ep_value base l i) rest ≡ Ok (operand_at machine base l i t)
         → Meets machine base l (carry_out machine base l (stands_at i ran m sp rp)) (cycle_of machine m (at_item base l i sp rp))
     unfolding carry_out
     immediate_meets q t d e o =
@@ -253,7 +253,7 @@ module _ (machine : Machine) (base : ℕ) (l : Listing) (ok : Legal base l) (i :
           effect_is m sp rp stream-form.Immediate t o (omega (arith, ap extra q)),
         )
         (carried_meets machine base l ok i rest inside (taken stream-form.Immediate) (immediate_way q) ran m sp rp
-        (taking_of machine t m sp rp (Cell (operand_at machine base l i t)) (behind base l i)) holds)
+        (taking_of machine t m sp rp (Ok (operand_at machine base l i t)) (behind base l i)) holds)
 
     literal_meets : kinds.class_of (l.kind i) ≡ Literal
         → Meets machine base l (carry_out machine base l (stands_at i ran m sp rp)) (cycle_of machine m (at_item base l i sp rp))

@@ -1,9 +1,9 @@
 -- `run` with a budget of the counted cycles.
+use Rattle.cell.specs.Refusals.{passed}
 use mathlib.Core.Path.{◌≡◌, refl, ap, ◌∙◌}
 use mathlib.Core.List.{List}
 use Prim.Native.Nat.{ℕ}
 use lib.ListN.{length}
-use Rattle.cell.specs.declared.Judged.TheVariants.{Passed}
 use Rattle.throws.specs.Throws.{CycleState}
 use Rattle.machine.specs.declared.Machine.{Machine}
 use Rattle.machine.specs.declared.Registers.{Registers}
@@ -26,7 +26,7 @@ ran_as_lem areas r n Went = refl
 ran_as_lem areas r n (Threw f) = refl
 ran_as_lem areas r n (Stopped x) = refl
 
-budgeted : (order : ℕ) (areas : Areas) (table : Table) (base : ℕ) (m : List ℕ) (sp rp : ℕ) (r : Run) → judge_bounded (length m) order areas table ≡ Passed
+budgeted : (order : ℕ) (areas : Areas) (table : Table) (base : ℕ) (m : List ℕ) (sp rp : ℕ) (r : Run) → judge_bounded (length m) order areas table ≡ passed
     → Agree (machine_of order areas table (length m)) (begun m (first_registers (machine_of order areas table (length m)) base m sp rp)) r
     → RunAgrees order areas table base m sp rp r
 unfolding run_answer

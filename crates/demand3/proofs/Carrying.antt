@@ -1,4 +1,6 @@
 -- An effect committed by the processor and carried out by the list machine.
+use Rattle.std.specs.Prelude.{Ok, Err, Some, None}
+use Rattle.cell.specs.Place.{Checked, good}
 use mathlib.Core.Path.{◌≡◌, refl}
 use mathlib.Core.Bool.{Bool, true, false, not}
 use mathlib.Core.List.{List}
@@ -7,8 +9,6 @@ use borrow.Author.Tests.{ltb-true}
 use lib.Dec.{ltb}
 use lib.ListN.{length}
 use Rattle.cell.specs.Choice.{if}
-use Rattle.cell.specs.declared.Checked.{Checked}
-use Rattle.cell.specs.declared.Checked.TheVariants.{Good, Bad}
 use Rattle.machine.specs.Effects.{Control, go_on, jump, halt, throwing, Action, Effect, act, raise}
 use Rattle.machine.specs.Commits.{Stepped, stepped, places_of, stored_of, controlled, carried_out, commit_of}
 use Rattle.throws.specs.Throws.{cycle_state, next_of, finish_of}
@@ -20,9 +20,7 @@ use Rattle.machine.specs.declared.Ended.TheVariants as ended
 use Rattle.length_laws.proofs.LengthLaws.{stored_length}
 use Rattle.pack_layout.specs.Listing.{Listing}
 use Rattle.pack_layout.specs.Layout.{form_at}
-use Rattle.pack_layout.specs.Packing.{layout, image_cells, ep_value, entry_at, Legal}
-use Rattle.pack_layout.specs.declared.Entry.{Entry}
-use Rattle.pack_layout.specs.declared.Entry.TheVariants.{Item, Nothing}
+use Rattle.pack_layout.specs.Packing.{layout, image_cells, ep_value, entry_at, Legal, Entry}
 use Rattle.pack_layout.proofs.Placing.{entry_opens}
 use Rattle.pack_layout.proofs.Finding.{found}
 use Rattle.list_machine.specs.declared.Outside.TheVariants.{WritesImage, NoEntry, PastEnd}
@@ -67,8 +65,8 @@ module _ (machine : Machine) (base : ℕ) (l : Listing) (ok : Legal base l) (i a
     where
       go : (n : Entry) → entry_at base l to ≡ n
           → Meets machine base l (entered_at NoEntry n (stands_at i ran m sp rp)) (next_of machine m (record { ep = to; a = a; sp = sp; rp = rp }))
-      go Nothing q = tt
-      go (Item j) q =
+      go None q = tt
+      go (Some j) q =
           let f = found base l to j.0 q in
           rw (← f.there, next_enters machine base l ok m holds j.0 sp rp a f.item (entry_opens (layout l) j.0 f.entered))
           (record { memory = refl; registers = refl; goes = refl; sound = record { item = f.item; holds = holds } })
@@ -96,13 +94,13 @@ module _ (machine : Machine) (base : ℕ) (l : Listing) (ok : Legal base l) (i a
   acted_meets : (ran : Bool) (m : List ℕ) (sp rp : ℕ) (x : Action) (c : Checked) → Holds machine base l m
       → Meets machine base l (acted machine base l (stands_at i ran m sp rp) x c) (finish_of machine (onward (carried_out machine m (here sp rp) x c)))
   unfolding finish_of
-  acted_meets ran m sp rp x (Bad f) holds =
+  acted_meets ran m sp rp x (Err f) holds =
       rw (w.kept m (here sp rp) (Raise f) refl) (throw_meets machine base l ok (stands_at i ran m sp rp) (exception_of machine f) a holds)
-  acted_meets ran m sp rp x Good holds = go (writes_image machine base l x.stores) refl
+  acted_meets ran m sp rp x (Ok _) holds = go (writes_image machine base l x.stores) refl
     where
       go : (b : Bool) → writes_image machine base l x.stores ≡ b
           → Meets machine base l (if b (outside WritesImage) (followed machine base l x.control (acted_to machine (stands_at i ran m sp rp) x)))
-          (finish_of machine (onward (carried_out machine m (here sp rp) x Good)))
+          (finish_of machine (onward (carried_out machine m (here sp rp) x good)))
       go true q = tt
       go false q =
           followed_meets ran (stored_of machine m x.stores) x.sp x.rp x.control

@@ -1,4 +1,5 @@
 -- The image in memory: its cells are fetched, NEXT at a cell enters the item that opens it, and stores elsewhere leave it there.
+use Rattle.std.specs.Prelude.{Ok}
 use mathlib.Core.Path.{◌≡◌, ap, ◌∙◌}
 use mathlib.Core.Bool.{true}
 use mathlib.Core.List.{List}
@@ -8,7 +9,6 @@ use borrow.Author.Tests.{lt-ltb, eq-eqb}
 use lib.ListN.{length, get_or}
 use Rattle.cell.specs.Memory.{cell_at, Alike}
 use Rattle.cell.specs.Number.{sum}
-use Rattle.cell.specs.declared.Fetched.TheVariants.{Cell}
 use Rattle.cell.proofs.MemoryLaws.{cell_alike}
 use Rattle.machine.specs.Places.{place_of, fetch_of}
 use Rattle.throws.specs.Throws.{cycle_state, next_of}
@@ -23,7 +23,7 @@ use Rattle.pack_layout.proofs.Packing.{placed, at_inside}
 use Rattle.pack_layout.proofs.Meet.{enter}
 use Rattle.demand3.specs.Demand3.{Holds}
 
-fetch_good : (machine : Machine) (m : List ℕ) (a : ℕ) → a < length m → a % 4 ≡ 0 → fetch_of machine Stream m a ≡ Cell (cell_at machine.order m a)
+fetch_good : (machine : Machine) (m : List ℕ) (a : ℕ) → a < length m → a % 4 ≡ 0 → fetch_of machine Stream m a ≡ Ok (cell_at machine.order m a)
 unfolding fetch_of place_of
 fetch_good machine m a h q = rw (lt-ltb a (length m) h, eq-eqb (a % 4) 0 q)
 
@@ -42,13 +42,13 @@ module _ (machine : Machine) (base : ℕ) (l : Listing) (ok : Legal base l) wher
 
   module _ (m : List ℕ) (h : Holds machine base l m) where
     -- a fetch from the instruction stream
-    pub image_fetch : (j : ℕ) → j < image_cells l → fetch_of machine Stream m (base + 4 * j) ≡ Cell (get_or (image base l) j 0)
+    pub image_fetch : (j : ℕ) → j < image_cells l → fetch_of machine Stream m (base + 4 * j) ≡ Ok (get_or (image base l) j 0)
     image_fetch j c =
         fetch_good machine m (base + 4 * j) (omega (arith, h.inside)) (omega (arith, (placed base l ok).aligned))
-        ∙ ap Cell (h.cells j c)
+        ∙ ap Ok (h.cells j c)
 
-    pub entry_cell : (i : ℕ) → i < l.count → opens (layout l) i ≡ true → fetch_of machine Stream m (address_of base l i) ≡ Cell (register base l i)
-    entry_cell i c o = image_fetch (mid (layout l) i).at (at_inside base l ok i c) ∙ ap Cell (enter base l ok i o).cell
+    pub entry_cell : (i : ℕ) → i < l.count → opens (layout l) i ≡ true → fetch_of machine Stream m (address_of base l i) ≡ Ok (register base l i)
+    entry_cell i c o = image_fetch (mid (layout l) i).at (at_inside base l ok i c) ∙ ap Ok (enter base l ok i o).cell
 
     pub ep_after : (i : ℕ) → i < l.count → opens (layout l) i ≡ true → sum (address_of base l i) 4 ≡ ep_value base l i
     unfolding sum

@@ -1,9 +1,9 @@
 -- How the processor stands when the list machine is in front of an item, and what a cycle has to come to by what the item comes to.
+use Rattle.std.specs.Prelude.{Ok, Some, None}
 use mathlib.Core.Path.{◌≡◌, refl}
 use mathlib.Core.Bool.{Bool, true, false, ◌&&◌}
 use Prim.Native.Nat.{ℕ, ◌<◌}
 use Rattle.cell.specs.Number.{sum}
-use Rattle.cell.specs.declared.Fetched.TheVariants.{Cell}
 use Rattle.machine.specs.Places.{fetch_of}
 use Rattle.throws.specs.Throws.{CycleState, cycle_state, entered}
 use Rattle.machine.specs.declared.Machine.{Machine}
@@ -14,9 +14,7 @@ use Rattle.machine.specs.declared.Ended.TheVariants.{Stopped}
 use Rattle.cycles.specs.Counts.{is_stop}
 use Rattle.pack_layout.specs.Listing.{Listing}
 use Rattle.pack_layout.specs.Layout.{opens}
-use Rattle.pack_layout.specs.Packing.{layout, address_of, ep_value, register, entry_at, Legal}
-use Rattle.pack_layout.specs.declared.Entry.{Entry}
-use Rattle.pack_layout.specs.declared.Entry.TheVariants.{Item, Nothing}
+use Rattle.pack_layout.specs.Packing.{layout, address_of, ep_value, register, entry_at, Legal, Entry}
 use Rattle.pack_layout.proofs.Placing.{entry_opens}
 use Rattle.pack_layout.proofs.Finding.{found}
 use Rattle.list_machine.specs.declared.Outside.{Outside}
@@ -57,17 +55,17 @@ Meets machine base l (outside why) t = Unit {0}
 -- the processor enters the cell at an address: the list machine is in front of the entry placed there, or outside
 module _ (machine : Machine) (base : ℕ) (l : Listing) (ok : Legal base l) where
   pub enters : (why : Outside) (p : Position) (h x a ep : ℕ) (e : Ended) → is_stop e ≡ false → Holds machine base l p.memory
-      → fetch_of machine Stream p.memory h ≡ Cell x
+      → fetch_of machine Stream p.memory h ≡ Ok x
       → Meets machine base l (transferred machine base l why h p) (cycle_state p.memory (entered h x (record { ep = ep; a = a; sp = p.sp; rp = p.rp })) e)
   enters why p h x a ep e going holds fetched = go (entry_at base l h) refl
     where
       go : (n : Entry) → entry_at base l h ≡ n
           → Meets machine base l (entered_at why n p) (cycle_state p.memory (entered h x (record { ep = ep; a = a; sp = p.sp; rp = p.rp })) e)
-      go Nothing q = tt
-      go (Item j) q =
+      go None q = tt
+      go (Some j) q =
           let f = found base l h j.0 q in
           let o : opens (layout l) j.0 ≡ true = entry_opens (layout l) j.0 f.entered in
           let s : sum h 4 ≡ ep_value base l j.0 = rw (← f.there) (ep_after machine base l ok p.memory holds j.0 f.item o) in
-          let c : fetch_of machine Stream p.memory h ≡ Cell (register base l j.0) = rw (← f.there) (entry_cell machine base l ok p.memory holds j.0 f.item o) in
+          let c : fetch_of machine Stream p.memory h ≡ Ok (register base l j.0) = rw (← f.there) (entry_cell machine base l ok p.memory holds j.0 f.item o) in
           let v : x ≡ register base l j.0 = cc in
           record { memory = refl; registers = rw (s, v); goes = going; sound = record { item = f.item; holds = holds } }

@@ -1,4 +1,6 @@
 -- A throw of the processor and of the list machine. They differ in A, which plays no part until the handler's cell is in it.
+use Rattle.std.specs.Prelude.{Ok, Err}
+use Rattle.cell.specs.Place.{Checked, Fetched}
 use mathlib.Core.Path.{◌≡◌, refl}
 use mathlib.Core.Bool.{Bool, true, false, true≢false}
 use mathlib.Core.List.{List, [], ◌∷◌}
@@ -10,10 +12,6 @@ use lib.ListN.{length}
 use Rattle.cell.specs.Choice.{if}
 use Rattle.cell.specs.Memory.{cell_at, store_cell, Alike}
 use Rattle.cell.specs.Number.{difference}
-use Rattle.cell.specs.declared.Checked.{Checked}
-use Rattle.cell.specs.declared.Checked.TheVariants.{Good, Bad}
-use Rattle.cell.specs.declared.Fetched.{Fetched}
-use Rattle.cell.specs.declared.Fetched.TheVariants.{Cell, Failed}
 use Rattle.cell.proofs.MemoryLaws.{store_length, cell_frame, alike_refl}
 use Rattle.machine.specs.Places.{one_cell, place_of, fetch_of}
 use Rattle.exceptions.specs.Exceptions.{exception_code}
@@ -77,14 +75,14 @@ module _ (machine : Machine) (base : ℕ) (l : Listing) (ok : Legal base l) wher
           → Meets machine base l
           (handled machine base l p (handed m2 (record { ep = ep; a = 0; sp = sp; rp = rp }) e (cell_at machine.order m2 handler_cell) g))
           (handed m2 (record { ep = ep; a = a; sp = sp; rp = rp }) e (cell_at machine.order m2 handler_cell) g)
-      go (Failed f) q e going = record { memory = refl; sp = refl; rp = refl; ended = refl }
-      go (Cell x) q Went going =
+      go (Err f) q e going = record { memory = refl; sp = refl; rp = refl; ended = refl }
+      go (Ok x) q Went going =
           enters machine base l ok _ (record { item = p.item; ran = p.ran; memory = m2; sp = sp; rp = rp })
           (cell_at machine.order m2 handler_cell) x a ep Went refl kept q
-      go (Cell x) q (Threw f) going =
+      go (Ok x) q (Threw f) going =
           enters machine base l ok _ (record { item = p.item; ran = p.ran; memory = m2; sp = sp; rp = rp })
           (cell_at machine.order m2 handler_cell) x a ep (Threw f) refl kept q
-      go (Cell x) q (Stopped y) going = absurd (true≢false going)
+      go (Ok x) q (Stopped y) going = absurd (true≢false going)
 
   -- an item that raises
   pub throw_meets : (p : Position) (e : Exception) (a : ℕ) → Holds machine base l p.memory
@@ -107,8 +105,8 @@ module _ (machine : Machine) (base : ℕ) (l : Listing) (ok : Legal base l) wher
           (if b (outside WritesImage) (handled machine base l p (pushed machine p.memory (registers_at machine base l p) e sp c)))
           (pushed machine p.memory (record { ep = ep_value base l p.item; a = a; sp = p.sp; rp = p.rp }) e sp c)
       go c true q = tt
-      go (Bad f) false q = record { memory = refl; sp = refl; rp = refl; ended = refl }
-      go Good false q =
+      go (Err f) false q = record { memory = refl; sp = refl; rp = refl; ended = refl }
+      go (Ok _) false q =
           handler_meets p (store_cell machine.order (noted machine p.memory e) sp (exception_code e))
           (still_holds machine base l ok (noted machine p.memory e) (store_cell machine.order (noted machine p.memory e) sp (exception_code e)) noting
           (pushed_frame machine base (base + 4 * image_cells l) (noted machine p.memory e) sp (exception_code e) q)

@@ -9,9 +9,9 @@
 -- The cycles that its items count: the run's `cycles`, and so many cycles of the processor are made: `cycles_of`.
 -- The same memory, SP and RP, and stopped exactly if the list machine is, with the same reason: `Agree`. Its `exact` says that the processor had not
 -- stopped before the last of the counted cycles.
-use Rattle.std.specs.Prelude.{◌≡◌, List, ℕ, ◌+◌, ◌*◌, ◌≤◌, ◌<◌, length, get_or}
+use Rattle.cell.specs.Refusals.{passed}
+use Rattle.std.specs.Prelude.{◌≡◌, List, ℕ, ◌+◌, ◌*◌, ◌≤◌, ◌<◌, length, get_or, Ok}
 use Rattle.cell.specs.Memory.{cell_at}
-use Rattle.cell.specs.declared.Judged.TheVariants.{Passed}
 use Rattle.throws.specs.Throws.{CycleState}
 use Rattle.machine.specs.declared.Machine.{Machine}
 use Rattle.machine.specs.declared.Registers.{Registers}
@@ -24,8 +24,7 @@ use Rattle.areas.specs.declared.Areas.{Areas}
 use Rattle.areas.specs.declared.RegisterFile.{RegisterFile}
 use Rattle.cycles.specs.Cycles.{cycles_of}
 use Rattle.cycles.specs.Counts.{begun, done_of}
-use Rattle.processor.specs.Answers.{ran_to, given_of, run_answer}
-use Rattle.processor.specs.declared.Ran.{Ran}
+use Rattle.processor.specs.Answers.{ran_to, given_of, run_answer, RunAnswered}
 use Rattle.processor.specs.declared.Ran.TheVariants.{Spent, Stopped}
 use Rattle.pack_layout.specs.Listing.{Listing}
 use Rattle.pack_layout.specs.Output.{bytes_of}
@@ -81,9 +80,9 @@ abbrev pub PackedHolds : Type 0
 PackedHolds = (machine : Machine) (base : ℕ) (l : Listing) (m : List ℕ) → Legal base l → HoldsBytes machine base l m → Holds machine base l m
 
 -- what `run` answers with a budget of the counted cycles: stopped, with the reason and that many cycles done, or spent
-abbrev pub ran_with : Stop → RegisterFile → ℕ → Ran
-ran_with running r n = Spent r
-ran_with (stopped_with x) r n = Stopped r x n
+abbrev pub ran_with : Stop → RegisterFile → ℕ → RunAnswered
+ran_with running r n = Ok (Spent r)
+ran_with (stopped_with x) r n = Ok (Stopped r x n)
 
 pub record RunAgrees (order : ℕ) (areas : Areas) (table : Table) (base : ℕ) (m : List ℕ) (sp rp : ℕ) (r : Run) : Type 0 where
   pub registers : Registers
@@ -97,7 +96,7 @@ pub record RunAgrees (order : ℕ) (areas : Areas) (table : Table) (base : ℕ) 
 abbrev pub RunFollows : Type 0
 RunFollows =
     (order : ℕ) (areas : Areas) (table : Table) (base : ℕ) (l : Listing) (m : List ℕ) (sp rp k : ℕ)
-    → judge_bounded (length m) order areas table ≡ Passed
+    → judge_bounded (length m) order areas table ≡ passed
     → Legal base l
     → Holds (machine_of order areas table (length m)) base l m
     → RunAgrees order areas table base m sp rp (run_of (machine_of order areas table (length m)) base l k (beginning l m sp rp))

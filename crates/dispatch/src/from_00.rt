@@ -1,10 +1,13 @@
 // Opcodes 00h to 15h: the data stack, comparison.
+#![tactic(auto, unfolding(instruction::specs::Dispatch::execute_of, instruction::specs::Dispatch::decode_of, instruction::specs::Plain::plain_of))]
+
 ghost use Rattle.std.specs.Prelude.{◌≡◌, length};
 ghost use Rattle.machine.specs.Places as places;
 ghost use Rattle.machine.specs.Commits as commits;
 ghost use Rattle.instruction.specs.Dispatch as dispatch;
 
 use crate::from_16::execute_from_16;
+use cell::Fault;
 use commits::commit::{commit_maybe, commit_none, commit_one};
 use commits_roll::commit_roll;
 use commits_several::{commit_three, commit_two};
@@ -15,21 +18,21 @@ use storage::rolling::roll;
 use storage::stack::{drop, dup, nip, over, pick, question_dup, r_fetch, r_from, to_r};
 
 // One instruction by its opcode, up to its NEXT, throw or stop: its effect, then the commit of the effect's shape.
-pub fn execute_from_00(machine: Machine, memory: &mut [u8], r: Registers, opcode: u32) -> Step
+pub fn execute_from_00(
+    machine: Machine,
+    memory: &mut [u8],
+    r: Registers,
+    opcode: u32,
+) -> Result<Step, Fault>
     requires { places.Fits machine (length memory.old) }
-    ensures { commits.stepped memory.new result ≡ dispatch.execute_of machine memory.old r (dispatch.decode_of opcode) }
+    ensures { commits.stepped memory.new (commits.step_of r result) ≡ dispatch.execute_of machine memory.old r (dispatch.decode_of opcode) }
 {
     match opcode {
         // NEXT
-        0x00 => Step {
-            registers: Registers {
-                ep: r.ep,
-                a: r.a,
-                sp: r.sp,
-                rp: r.rp,
-            },
+        0x00 => Ok(Step {
+            registers: r,
             outcome: Outcome::Next,
-        },
+        }),
         // DUP
         0x01 => commit_one(machine, memory, r, dup(machine, memory, r)),
         // DROP
@@ -49,26 +52,7 @@ pub fn execute_from_00(machine: Machine, memory: &mut [u8], r: Registers, opcode
         // PICK
         0x09 => commit_one(machine, memory, r, pick(machine, memory, r)),
         // ROLL
-        0x0A => commit_roll(
-            machine,
-            memory,
-            Registers {
-                ep: r.ep,
-                a: r.a,
-                sp: r.sp,
-                rp: r.rp,
-            },
-            roll(
-                machine,
-                memory,
-                Registers {
-                    ep: r.ep,
-                    a: r.a,
-                    sp: r.sp,
-                    rp: r.rp,
-                },
-            ),
-        ),
+        0x0A => commit_roll(machine, memory, r, roll(machine, memory, r)),
         // ?DUP
         0x0B => commit_maybe(machine, memory, r, question_dup(machine, memory, r)),
         // >R

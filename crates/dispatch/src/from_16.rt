@@ -1,9 +1,12 @@
 // Opcodes 16h to 2Bh: comparison, constants, arithmetic.
+#![tactic(auto, unfolding(instruction::specs::Dispatch::execute_of, instruction::specs::Dispatch::decode_of, instruction::specs::Plain::plain_of))]
+
 ghost use Rattle.std.specs.Prelude.{◌≡◌, ◌≤◌, length};
 ghost use Rattle.machine.specs.Places as places;
 ghost use Rattle.machine.specs.Commits as commits;
 ghost use Rattle.instruction.specs.Dispatch as dispatch;
 
+use cell::Fault;
 use commits::commit::commit_one;
 use commits_several::commit_two;
 use dispatch_2c::from_2c::execute_from_2c;
@@ -15,10 +18,15 @@ use operators::arithmetic::{
 };
 use operators::comparison::{u_greater, u_less, zero_not_equal};
 
-pub fn execute_from_16(machine: Machine, memory: &mut [u8], r: Registers, opcode: u32) -> Step
+pub fn execute_from_16(
+    machine: Machine,
+    memory: &mut [u8],
+    r: Registers,
+    opcode: u32,
+) -> Result<Step, Fault>
     requires fits { places.Fits machine (length memory.old) }
     requires le_opcode { 22 ≤ opcode }
-    ensures { commits.stepped memory.new result ≡ dispatch.execute_of machine memory.old r (dispatch.decode_of opcode) }
+    ensures { commits.stepped memory.new (commits.step_of r result) ≡ dispatch.execute_of machine memory.old r (dispatch.decode_of opcode) }
 {
     match opcode {
         // 0<>
@@ -28,15 +36,15 @@ pub fn execute_from_16(machine: Machine, memory: &mut [u8], r: Registers, opcode
         // U>
         0x18 => commit_one(machine, memory, r, u_greater(machine, memory, r)),
         // 0
-        0x19 => commit_one(machine, memory, r, push(r, 0)),
+        0x19 => commit_one(machine, memory, r, Ok(push(r, 0))),
         // 1
-        0x1A => commit_one(machine, memory, r, push(r, 1)),
+        0x1A => commit_one(machine, memory, r, Ok(push(r, 1))),
         // -1
-        0x1B => commit_one(machine, memory, r, push(r, 0xFFFFFFFF)),
+        0x1B => commit_one(machine, memory, r, Ok(push(r, 0xFFFFFFFF))),
         // CELL
-        0x1C => commit_one(machine, memory, r, push(r, 4)),
+        0x1C => commit_one(machine, memory, r, Ok(push(r, 4))),
         // -CELL
-        0x1D => commit_one(machine, memory, r, push(r, 0xFFFFFFFC)),
+        0x1D => commit_one(machine, memory, r, Ok(push(r, 0xFFFFFFFC))),
         // +
         0x1E => commit_one(machine, memory, r, plus(machine, memory, r)),
         // -

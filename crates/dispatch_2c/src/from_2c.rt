@@ -1,9 +1,12 @@
 // Opcodes 2Ch to 41h: arithmetic, logic, memory, the stack pointers.
+#![tactic(auto, unfolding(instruction::specs::Dispatch::execute_of, instruction::specs::Dispatch::decode_of, instruction::specs::Plain::plain_of))]
+
 ghost use Rattle.std.specs.Prelude.{◌≡◌, ◌≤◌, length};
 ghost use Rattle.machine.specs.Places as places;
 ghost use Rattle.machine.specs.Commits as commits;
 ghost use Rattle.instruction.specs.Dispatch as dispatch;
 
+use cell::Fault;
 use commits::commit::{commit_byte, commit_none, commit_one};
 use dispatch_42::from_42::execute_from_42;
 use instruction::shape::push;
@@ -13,10 +16,15 @@ use operators::logic::{and, invert, l_shift, one_l_shift, one_r_shift, or, r_shi
 use storage::memory::{c_fetch, c_store, fetch_named, plus_store, store_named};
 use storage::registers::{rp_store, sp_store};
 
-pub fn execute_from_2c(machine: Machine, memory: &mut [u8], r: Registers, opcode: u32) -> Step
+pub fn execute_from_2c(
+    machine: Machine,
+    memory: &mut [u8],
+    r: Registers,
+    opcode: u32,
+) -> Result<Step, Fault>
     requires fits { places.Fits machine (length memory.old) }
     requires le_opcode { 44 ≤ opcode }
-    ensures { commits.stepped memory.new result ≡ dispatch.execute_of machine memory.old r (dispatch.decode_of opcode) }
+    ensures { commits.stepped memory.new (commits.step_of r result) ≡ dispatch.execute_of machine memory.old r (dispatch.decode_of opcode) }
 {
     match opcode {
         // CELLS
@@ -56,11 +64,11 @@ pub fn execute_from_2c(machine: Machine, memory: &mut [u8], r: Registers, opcode
         // +!
         0x3D => commit_one(machine, memory, r, plus_store(machine, memory, r)),
         // SP@
-        0x3E => commit_one(machine, memory, r, push(r, r.sp)),
+        0x3E => commit_one(machine, memory, r, Ok(push(r, r.sp))),
         // SP!
         0x3F => commit_none(machine, memory, r, sp_store(machine, memory, r)),
         // RP@
-        0x40 => commit_one(machine, memory, r, push(r, r.rp)),
+        0x40 => commit_one(machine, memory, r, Ok(push(r, r.rp))),
         // RP!
         0x41 => commit_none(machine, memory, r, rp_store(machine, memory, r)),
         _ => execute_from_42(machine, memory, r, opcode),

@@ -1,4 +1,6 @@
 // Opcodes 42h to FFh: control, literals, exceptions.
+#![tactic(auto, unfolding(instruction::specs::Dispatch::execute_of, instruction::specs::Dispatch::decode_of, instruction::specs::Plain::plain_of))]
+
 ghost use Rattle.std.specs.Prelude.{◌≡◌, ◌≤◌, length};
 ghost use Rattle.machine.specs.Places as places;
 ghost use Rattle.machine.specs.Commits as commits;
@@ -16,136 +18,81 @@ use instruction::shape::onward;
 use loops::{outer_index, start_loop, unloop};
 use machine::{Machine, NoStore, Outcome, Registers, Step, Then};
 
-pub fn execute_from_42(machine: Machine, memory: &mut [u8], r: Registers, opcode: u32) -> Step
+pub fn execute_from_42(
+    machine: Machine,
+    memory: &mut [u8],
+    r: Registers,
+    opcode: u32,
+) -> Result<Step, Fault>
     requires fits { places.Fits machine (length memory.old) }
     requires le_opcode { 66 ≤ opcode }
-    ensures { commits.stepped memory.new result ≡ dispatch.execute_of machine memory.old r (dispatch.decode_of opcode) }
+    ensures { commits.stepped memory.new (commits.step_of r result) ≡ dispatch.execute_of machine memory.old r (dispatch.decode_of opcode) }
 {
     match opcode {
         // BRANCH
-        0x42 => onward(
+        0x42 => Ok(onward(
             OperandForm::InCell,
             commit_none(
                 machine,
                 memory,
                 r,
-                branch(
-                    machine,
-                    memory,
-                    Registers {
-                        ep: r.ep,
-                        a: r.a,
-                        sp: r.sp,
-                        rp: r.rp,
-                    },
-                    OperandForm::InCell,
-                ),
-            ),
-        ),
+                branch(machine, memory, r, OperandForm::InCell),
+            )?,
+        )),
         // BRANCHI
-        0x43 => onward(
+        0x43 => Ok(onward(
             OperandForm::Immediate,
             commit_none(
                 machine,
                 memory,
                 r,
-                branch(
-                    machine,
-                    memory,
-                    Registers {
-                        ep: r.ep,
-                        a: r.a,
-                        sp: r.sp,
-                        rp: r.rp,
-                    },
-                    OperandForm::Immediate,
-                ),
-            ),
-        ),
+                branch(machine, memory, r, OperandForm::Immediate),
+            )?,
+        )),
         // ?BRANCH
-        0x44 => onward(
+        0x44 => Ok(onward(
             OperandForm::InCell,
             commit_none(
                 machine,
                 memory,
                 r,
-                question_branch(
-                    machine,
-                    memory,
-                    Registers {
-                        ep: r.ep,
-                        a: r.a,
-                        sp: r.sp,
-                        rp: r.rp,
-                    },
-                    OperandForm::InCell,
-                ),
-            ),
-        ),
+                question_branch(machine, memory, r, OperandForm::InCell),
+            )?,
+        )),
         // ?BRANCHI
-        0x45 => onward(
+        0x45 => Ok(onward(
             OperandForm::Immediate,
             commit_none(
                 machine,
                 memory,
                 r,
-                question_branch(
-                    machine,
-                    memory,
-                    Registers {
-                        ep: r.ep,
-                        a: r.a,
-                        sp: r.sp,
-                        rp: r.rp,
-                    },
-                    OperandForm::Immediate,
-                ),
-            ),
-        ),
+                question_branch(machine, memory, r, OperandForm::Immediate),
+            )?,
+        )),
         // EXECUTE
         0x46 => commit_one(machine, memory, r, execute(machine, memory, r)),
         // @EXECUTE
         0x47 => commit_one(machine, memory, r, fetch_execute(machine, memory, r)),
         // CALL
-        0x48 => onward(
+        0x48 => Ok(onward(
             OperandForm::InCell,
             commit_one(
                 machine,
                 memory,
                 r,
-                call(
-                    machine,
-                    memory,
-                    Registers {
-                        ep: r.ep,
-                        a: r.a,
-                        sp: r.sp,
-                        rp: r.rp,
-                    },
-                    OperandForm::InCell,
-                ),
-            ),
-        ),
+                call(machine, memory, r, OperandForm::InCell),
+            )?,
+        )),
         // CALLI
-        0x49 => onward(
+        0x49 => Ok(onward(
             OperandForm::Immediate,
             commit_one(
                 machine,
                 memory,
                 r,
-                call(
-                    machine,
-                    memory,
-                    Registers {
-                        ep: r.ep,
-                        a: r.a,
-                        sp: r.sp,
-                        rp: r.rp,
-                    },
-                    OperandForm::Immediate,
-                ),
-            ),
-        ),
+                call(machine, memory, r, OperandForm::Immediate),
+            )?,
+        )),
         // EXIT
         0x4A => commit_none(machine, memory, r, exit(machine, memory, r)),
         // (DO)
@@ -157,84 +104,47 @@ pub fn execute_from_42(machine: Machine, memory: &mut [u8], r: Registers, opcode
         // J
         0x51 => commit_one(machine, memory, r, outer_index(machine, memory, r)),
         // (LITERAL)
-        0x52 => onward(
+        0x52 => Ok(onward(
             OperandForm::InCell,
             commit_one(
                 machine,
                 memory,
                 r,
-                literal(
-                    machine,
-                    memory,
-                    Registers {
-                        ep: r.ep,
-                        a: r.a,
-                        sp: r.sp,
-                        rp: r.rp,
-                    },
-                    OperandForm::InCell,
-                ),
-            ),
-        ),
+                literal(machine, memory, r, OperandForm::InCell),
+            )?,
+        )),
         // (LITERAL)I
-        0x53 => onward(
+        0x53 => Ok(onward(
             OperandForm::Immediate,
             commit_one(
                 machine,
                 memory,
                 r,
-                literal(
-                    machine,
-                    memory,
-                    Registers {
-                        ep: r.ep,
-                        a: r.a,
-                        sp: r.sp,
-                        rp: r.rp,
-                    },
-                    OperandForm::Immediate,
-                ),
-            ),
-        ),
+                literal(machine, memory, r, OperandForm::Immediate),
+            )?,
+        )),
         // THROW
-        0x54 => commit_none(
-            machine,
-            memory,
-            r,
-            NoStore {
+        0x54 => {
+            let throwing = NoStore {
                 sp: r.sp,
                 rp: r.rp,
                 then: Then::Throw,
-            },
-        ),
+            };
+            commit_none(machine, memory, r, Ok(throwing))
+        }
         // HALT
         0x55 => commit_none(machine, memory, r, halt(machine, memory, r)),
         // LIB
         0x57 => commit_none(machine, memory, r, lib(machine, memory, r)),
         // NEXT at FFh, tested here so that the table of jumps ends at 57h; the other opcodes raise -256
         _ => {
-            if opcode == 0xFF {
-                return Step {
-                    registers: Registers {
-                        ep: r.ep,
-                        a: r.a,
-                        sp: r.sp,
-                        rp: r.rp,
-                    },
-                    outcome: Outcome::Next,
-                };
+            if opcode != 0xFF {
+                return Err(Fault::Illegal);
             }
-            commit_none(
-                machine,
-                memory,
-                r,
-                // the pointers are never read: a fault follows
-                NoStore {
-                    sp: r.sp,
-                    rp: r.rp,
-                    then: Then::Raise(Fault::Illegal),
-                },
-            )
+            Ok(Step {
+                registers: r,
+                outcome: Outcome::Next,
+            })
         }
     }
 }

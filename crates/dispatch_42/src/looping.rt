@@ -1,4 +1,6 @@
 // Opcodes 4Ch to 4Fh: the loops. Their two forms share one call of each effect, so that the compiler lays it into the dispatch.
+#![tactic(auto, using(instruction::proofs::OpcodeLaws::loop_is), unfolding(instruction::specs::Dispatch::execute_of))]
+
 ghost use Rattle.std.specs.Prelude.{◌≡◌, ◌/◌, length};
 ghost use Rattle.machine.specs.Places as places;
 ghost use Rattle.machine.specs.Effects as effects;
@@ -6,6 +8,7 @@ ghost use Rattle.machine.specs.Commits as commits;
 ghost use Rattle.instruction.specs.Taking as taking;
 ghost use Rattle.instruction.specs.Dispatch as dispatch;
 
+use cell::Fault;
 use commits::commit::commit_maybe;
 use instruction::OperandForm;
 use instruction::shape::onward;
@@ -29,9 +32,9 @@ fn loop_effect(
     r: Registers,
     form: OperandForm,
     opcode: u32,
-) -> MaybeStore
+) -> Result<MaybeStore, Fault>
     requires { places.Fits machine (length memory.now) }
-    ensures { effects.maybe_store result ≡ taking.taking_at machine form (dispatch.loop_of opcode) memory.now r }
+    ensures { effects.asked effects.maybe_store result ≡ taking.taking_at machine form (dispatch.loop_of opcode) memory.now r }
 {
     if opcode < 0x4E {
         return step_loop(machine, memory, r, form);
@@ -39,23 +42,17 @@ fn loop_effect(
     step_plus_loop(machine, memory, r, form)
 }
 
-pub fn execute_loop(machine: Machine, memory: &mut [u8], r: Registers, opcode: u32) -> Step
+pub fn execute_loop(
+    machine: Machine,
+    memory: &mut [u8],
+    r: Registers,
+    opcode: u32,
+) -> Result<Step, Fault>
     requires fits { places.Fits machine (length memory.old) }
     requires opcode_value { opcode / 4 ≡ 0x13 }
-    ensures { commits.stepped memory.new result ≡ dispatch.execute_of machine memory.old r (dispatch.decode_of opcode) }
+    ensures { commits.stepped memory.new (commits.step_of r result) ≡ dispatch.execute_of machine memory.old r (dispatch.decode_of opcode) }
 {
     let form = form_of(opcode);
-    let e = loop_effect(
-        machine,
-        memory,
-        Registers {
-            ep: r.ep,
-            a: r.a,
-            sp: r.sp,
-            rp: r.rp,
-        },
-        form,
-        opcode,
-    );
-    onward(form, commit_maybe(machine, memory, r, e))
+    let asked = loop_effect(machine, memory, r, form, opcode);
+    Ok(onward(form, commit_maybe(machine, memory, r, asked)?))
 }

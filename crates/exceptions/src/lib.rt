@@ -1,5 +1,5 @@
 // What is thrown for a fault.
-#![tactic(auto)]
+#![tactic(auto, unfolding(crate::specs::Exceptions::exception_of))]
 
 pub mod fixed;
 
@@ -49,6 +49,7 @@ pub fn tell(machine: Machine, f: Fault) -> Exception
     }
 }
 
+// The code that a throw pushes.
 pub fn code_of(e: Exception) -> u32
     ensures { result ≡ exceptions.exception_code e }
 {

@@ -1,12 +1,12 @@
 // The processor's calls. Each judges first, and writes nothing that was lent where it refuses.
+#![tactic(auto, using(processor_calls::proofs::CallLaws::call_roomy), unfolding(processor_calls::specs::Machines::cycle_call, processor_calls::specs::Machines::run_call))]
+
 ghost use Rattle.std.specs.Prelude.{◌≡◌};
 ghost use Rattle.processor_calls.specs.Machines as machines;
 ghost use Rattle.processor.specs.Answers as answers;
 ghost use Rattle.machine.specs.Places.{table_of};
 ghost use Rattle.areas.specs.Areas.{areas_of};
 
-use cell::Judged;
-use cell::judgement::refusal_number;
 use lent_arrays::lending::{make_areas, make_table, read_registers};
 use processor::entry::{cycle, run};
 use processor_calls::machines::{judge_with, tell_cycled, tell_ran};
@@ -47,8 +47,8 @@ pub extern "C" fn beetle_cycle(
 {
     let given = make_table(table, table_end);
     match judge_with(memory.len(), order, given, registers, out.len(), 1) {
-        Judged::Refused(n) => refusal_number(n),
-        Judged::Passed => {
+        Err(n) => u32::from(n),
+        Ok(()) => {
             let r = read_registers(registers);
             tell_cycled(cycle(order, memory, given, r), registers, out)
         }
@@ -69,8 +69,8 @@ pub extern "C" fn beetle_run(
 {
     let given = make_table(table, table_end);
     match judge_with(memory.len(), order, given, registers, out.len(), 2) {
-        Judged::Refused(n) => refusal_number(n),
-        Judged::Passed => {
+        Err(n) => u32::from(n),
+        Ok(()) => {
             let r = read_registers(registers);
             tell_ran(run(order, memory, given, r, budget), budget, registers, out)
         }

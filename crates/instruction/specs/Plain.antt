@@ -2,25 +2,21 @@
 -- Document 01, The processor: what is read comes from the data stack, the top item first, then from the return stack, then from the cells that those
 -- items name; a divisor of 0 is found after that. What is written goes to the data stack, the return stack and the named cell in this order, and on
 -- each stack the deepest place comes first; an item that stays where it was is not written again. EP is given for the calls alone; what follows an instruction is its `Control`.
-use Rattle.std.specs.Prelude.{not, List, [], ◌∷◌, ℕ, ◌+◌, ◌*◌, ◌%◌, ◌^◌, ltb, eqb}
+use Rattle.std.specs.Prelude.{not, List, [], ◌∷◌, ℕ, ◌+◌, ◌*◌, ◌%◌, ◌^◌, ltb, eqb, Ok, Err}
 use Rattle.std.specs.Int.Bits.{bit_and, bit_or, bit_xor}
 use Rattle.cell.specs.Choice.{if}
 use Rattle.cell.specs.Number.{sum, difference, product, negated, less, magnitude, greater, lesser, flag, inverted, shifted_left, shifted_right, halved, byte_address}
 use Rattle.cell.specs.Division.{unsigned_of, symmetric_of, floored_of}
 use Rattle.cell.specs.Memory.{byte0}
-use Rattle.cell.specs.Place.{address}
+use Rattle.cell.specs.Place.{address, Fetched}
 use Rattle.cell.specs.declared.Quotient.{Quotient}
 use Rattle.cell.specs.declared.Fault.TheVariants.{Range, Alignment, Divisor, Library}
 use Rattle.cell.specs.declared.Fault.TheVariants as fault
-use Rattle.cell.specs.declared.Fetched.{Fetched}
-use Rattle.cell.specs.declared.Fetched.TheVariants as fetch
 use Rattle.machine.specs.Places.{one_byte, fetch_of, fetch_byte_of}
 use Rattle.machine.specs.Effects.{Store, cell_store, Control, go_on, jump, halt, throwing, Effect, act, raise, fetched, rolled}
 use Rattle.exceptions.specs.Fixed.{bad_stack}
 use Rattle.machine.specs.declared.Machine.{Machine}
 use Rattle.machine.specs.declared.Registers.{Registers}
-use Rattle.machine.specs.declared.Then.{Then}
-use Rattle.machine.specs.declared.Then.TheVariants as then
 use Rattle.machine.specs.declared.Access.TheVariants.{DataRead, DataWrite, ReturnRead, ReturnWrite, NamedRead, NamedWrite}
 use Rattle.instruction.specs.declared.Instruction.{Instruction}
 use Rattle.instruction.specs.declared.Instruction.TheVariants.{Next, Dup, Drop, Swap, Over, Rot, MinusRot, Tuck, Nip, Pick, Roll, QuestionDup, ToR, RFrom, RFetch, Less, Greater, Equal, NotEqual, ZeroLess, ZeroGreater, ZeroEqual, ZeroNotEqual, ULess, UGreater, Zero, One, MinusOne, CellSize, MinusCell, Plus, Minus, SwapMinus, OnePlus, OneMinus, CellPlus, CellMinus, Star, Slash, Mod, SlashMod, USlashMod, SSlashRem, TwoSlash, Cells, Abs, Negate, Max, Min, Invert, And, Or, Xor, LShift, RShift, OneLShift, OneRShift, FetchCell, StoreCell, CFetch, CStore, PlusStore, SpFetch, SpStore, RpFetch, RpStore, Branch, BranchI, QuestionBranch, QuestionBranchI, Execute, FetchExecute, Call, CallI, Exit, Do, Loop, LoopI, PlusLoop, PlusLoopI, Unloop, J, Literal, LiteralI, Throw, Halt, Lib, Illegal}
@@ -65,7 +61,7 @@ module _ (machine : Machine) (m : List ℕ) where
 
   -- PICK and ROLL reach down by an exact sum, which may pass 2^32: the fault is then -9 and names the sum modulo 2^32
   abbrev pub fetch_deep : ℕ → Fetched
-  fetch_deep a = if (ltb a (2 ^ 32)) (fetch_of machine DataRead m a) (fetch.Failed (Range (address (a % 2 ^ 32))))
+  fetch_deep a = if (ltb a (2 ^ 32)) (fetch_of machine DataRead m a) (Err (Range (address (a % 2 ^ 32))))
 
 -- both results of a division, the remainder below the quotient
 abbrev pub divided_both : ℕ → ℕ → Quotient → Effect
@@ -78,8 +74,8 @@ aligned x e = if (eqb (x % 4) 0) e (raise (Alignment (address x)))
 
 -- HALT stops with the item that it pops, or with -258 where there is none to pop; SP then stays
 abbrev pub halted : ℕ → ℕ → Fetched → Effect
-halted sp rp (fetch.Cell x) = action (sum sp 4) rp [] (halt x)
-halted sp rp (fetch.Failed f) = action sp rp [] (halt bad_stack)
+halted sp rp (Ok x) = action (sum sp 4) rp [] (halt x)
+halted sp rp (Err f) = action sp rp [] (halt bad_stack)
 
 unfoldable pub plain_of : Machine → Instruction → List ℕ → ℕ → ℕ → ℕ → Effect
 -- 01h DUP ( x -- x x )
@@ -288,12 +284,3 @@ moved sp rp = action sp rp [] go_on
 
 abbrev pub deep_address : ℕ → ℕ → ℕ
 deep_address sp u = sp + 4 + 4 * u
-
--- the fault that the code raises for a fetch that failed; of a cell nothing is ever asked
-abbrev pub failed : Fetched → Effect
-failed (fetch.Cell x) = raise fault.Illegal
-failed (fetch.Failed f) = raise f
-
-abbrev pub failure : Fetched → Then
-failure (fetch.Cell x) = then.Raise fault.Illegal
-failure (fetch.Failed f) = then.Raise f

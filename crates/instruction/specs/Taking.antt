@@ -1,10 +1,9 @@
 -- The instructions that take an operand from the instruction stream, each in two forms: the operand in the cell at EP, or in what is left of A.
 -- For a branch the operand is the address it leads to; for a literal its value. The operand is given as the answer of a fetch.
-use Rattle.std.specs.Prelude.{List, [], ◌∷◌, ℕ, ◌+◌, ◌*◌, ◌%◌, ◌^◌, eqb}
+use Rattle.cell.specs.Place.{Fetched}
+use Rattle.std.specs.Prelude.{List, [], ◌∷◌, ℕ, ◌+◌, ◌*◌, ◌%◌, ◌^◌, eqb, Ok}
 use Rattle.cell.specs.Choice.{if}
 use Rattle.cell.specs.Number.{sum, difference}
-use Rattle.cell.specs.declared.Fetched.{Fetched}
-use Rattle.cell.specs.declared.Fetched.TheVariants.{Cell}
 use Rattle.machine.specs.Places.{fetch_of}
 use Rattle.machine.specs.Effects.{cell_store, go_on, jump, Effect, fetched}
 use Rattle.machine.specs.declared.Machine.{Machine}
@@ -51,12 +50,12 @@ taking_of machine literal m sp rp operand after = fetched operand (λ x. pushes 
 -- where a branch leads: the cell at EP, or EP + 4 A
 abbrev pub branch_operand : Machine → OperandForm → List ℕ → ℕ → ℕ → Fetched
 branch_operand machine InCell m ep a = fetch_of machine Stream m ep
-branch_operand machine Immediate m ep a = Cell ((ep + 4 * a) % 2 ^ 32)
+branch_operand machine Immediate m ep a = Ok ((ep + 4 * a) % 2 ^ 32)
 
 -- a literal's value: the cell at EP, or A
 abbrev pub literal_operand : Machine → OperandForm → List ℕ → ℕ → ℕ → Fetched
 literal_operand machine InCell m ep a = fetch_of machine Stream m ep
-literal_operand machine Immediate m ep a = Cell a
+literal_operand machine Immediate m ep a = Ok a
 
 abbrev pub operand_of : Machine → OperandForm → Taking → List ℕ → ℕ → ℕ → Fetched
 operand_of machine form branch m ep a = branch_operand machine form m ep a

@@ -1,4 +1,6 @@
 -- Memory keeps its length: through stores, a commit, a throw, a NEXT and a stop.
+use Rattle.std.specs.Prelude.{Ok, Err}
+use Rattle.cell.specs.Place.{Checked, Fetched}
 use mathlib.Core.Path.{◌≡◌, refl, ◌∙◌}
 use mathlib.Core.Bool.{Bool, true, false}
 use mathlib.Core.List.{List, [], ◌∷◌}
@@ -8,10 +10,6 @@ use lib.ListN.{length, length-set}
 use Rattle.cell.specs.Choice.{if}
 use Rattle.cell.specs.Memory.{store_cell, cell_at}
 use Rattle.cell.specs.Number.{difference}
-use Rattle.cell.specs.declared.Checked.{Checked}
-use Rattle.cell.specs.declared.Checked.TheVariants.{Good, Bad}
-use Rattle.cell.specs.declared.Fetched.{Fetched}
-use Rattle.cell.specs.declared.Fetched.TheVariants.{Cell, Failed}
 use Rattle.cell.proofs.MemoryLaws.{store_length}
 use Rattle.machine.specs.declared.Exception.{Exception}
 use Rattle.machine.specs.declared.Exception.TheVariants.{Range, Alignment, DataOverflow, DataUnderflow, ReturnOverflow, ReturnUnderflow, ReadOnly, Divisor, Illegal, Library}
@@ -40,8 +38,8 @@ module _ (machine : Machine) where
   stored_length m (s ∷ ss) = stored_length (put_store machine m s.width s.at s.value) ss ∙ put_length m s.width s.at s.value
 
   carried_length : (m : List ℕ) (r : Registers) (x : Action) (c : Checked) → length (carried_out machine m r x c).memory ≡ length m
-  carried_length m r x (Bad f) = refl
-  carried_length m r x Good = stored_length m x.stores
+  carried_length m r x (Err f) = refl
+  carried_length m r x (Ok _) = stored_length m x.stores
 
   pub commit_length : (m : List ℕ) (r : Registers) (e : Effect) → length (commit_of machine m r e).memory ≡ length m
   unfolding commit_of
@@ -49,8 +47,8 @@ module _ (machine : Machine) where
   commit_length m r (act x) = carried_length m r x (places_of machine (length m) x.stores)
 
   handed_length : (m : List ℕ) (r : Registers) (e : Ended) (h : ℕ) (g : Fetched) → length (handed m r e h g).memory ≡ length m
-  handed_length m r e h (Cell x) = refl
-  handed_length m r e h (Failed f) = refl
+  handed_length m r e h (Ok x) = refl
+  handed_length m r e h (Err f) = refl
 
   handler_length : (m : List ℕ) (r : Registers) (e : Ended) → length (handler_of machine m r e).memory ≡ length m
   unfolding handler_of
@@ -72,8 +70,8 @@ module _ (machine : Machine) where
   noted_length m Library = refl
 
   pushed_length : (m : List ℕ) (r : Registers) (e : Exception) (sp : ℕ) (c : Checked) → length (pushed machine m r e sp c).memory ≡ length m
-  pushed_length m r e sp (Bad f) = refl
-  pushed_length m r e sp Good =
+  pushed_length m r e sp (Err f) = refl
+  pushed_length m r e sp (Ok _) =
       handler_length _ _ _ ∙ store_length machine.order (noted machine m e) sp (exception_code e) ∙ noted_length m e
 
   pub throw_length : (m : List ℕ) (r : Registers) (e : Exception) → length (throw_of machine m r e).memory ≡ length m
@@ -91,8 +89,8 @@ module _ (machine : Machine) where
       go false = refl
 
   nexted_length : (m : List ℕ) (r : Registers) (g : Fetched) → length (nexted machine m r g).memory ≡ length m
-  nexted_length m r (Cell x) = refl
-  nexted_length m r (Failed f) = throw_length m r (exception_of machine f)
+  nexted_length m r (Ok x) = refl
+  nexted_length m r (Err f) = throw_length m r (exception_of machine f)
 
   pub next_length : (m : List ℕ) (r : Registers) → length (next_of machine m r).memory ≡ length m
   unfolding next_of

@@ -8,10 +8,9 @@ ghost use Rattle.short_judging.specs.ShortFile.{short_count, short_kind, short_l
 ghost use Rattle.short_files.specs.Files.{kind_byte, operand_bytes};
 ghost use Rattle.short_files.specs.Converted as answers;
 
-use cell::{Judged, Refusal};
+use cell::Refusal;
 use pack_judging::file::cell_at;
 use pack_judging::kinds::class_of;
-use short_files::Converted;
 use short_files::writing::put;
 use short_judging::operands::{operand_at, operands_of};
 use short_judging::short::judge_short;
@@ -23,14 +22,12 @@ fn write_items(file: &[u8], n: usize, output: &mut [u8])
     ensures { output.new ≡ sets (sets output.old 8 (in_turn (kind_byte (short_listing file.now)) n)) (8 + n) (in_turn (operand_bytes (short_listing file.now)) n) }
 {
     let mut at = 12 + n;
-    let mut i: usize = 0;
-    while i < n {
+    for i in 0..n {
         let kind = file[12 + i];
         output[8 + i] = kind;
         let c = class_of(kind);
         put(output, 8 + n + 4 * i, operand_at(file, c, at));
         at += 4 * operands_of(c) as usize;
-        i += 1;
     }
 }
 
@@ -47,28 +44,22 @@ fn write_long(file: &[u8], output: &mut [u8])
 }
 
 // A lengthening into an output of some size.
-pub fn judge_lengthen(file: &[u8], size: usize) -> Judged
+#[tactic(auto, using(short_files::proofs::Answering::room_refused), unfolding(short_files::specs::Converted::judge_lengthen))]
+pub fn judge_lengthen(file: &[u8], size: usize) -> Result<(), Refusal>
     ensures { result ≡ answers.judge_lengthen file.now size }
 {
-    match judge_short(file) {
-        Judged::Refused(r) => Judged::Refused(r),
-        Judged::Passed => {
-            if size < 8 + 5 * (cell_at(file, 0) as usize) {
-                return Judged::Refused(Refusal::ShortOutput);
-            }
-            Judged::Passed
-        }
+    judge_short(file)?;
+    if size < 8 + 5 * (cell_at(file, 0) as usize) {
+        return Err(Refusal::ShortOutput);
     }
+    Ok(())
 }
 
-pub fn lengthen(file: &[u8], output: &mut [u8]) -> Converted
+#[tactic(auto, using(short_files::proofs::Answering::convert_refused), unfolding(short_files::specs::Converted::lengthen_of))]
+pub fn lengthen(file: &[u8], output: &mut [u8]) -> Result<u32, Refusal>
     ensures { answers.converted_to output.new result ≡ answers.lengthen_of file.now output.old }
 {
-    match judge_lengthen(file, output.len()) {
-        Judged::Refused(r) => Converted::Refused(r),
-        Judged::Passed => {
-            write_long(file, output);
-            Converted::Bytes(8 + 5 * cell_at(file, 0))
-        }
-    }
+    judge_lengthen(file, output.len())?;
+    write_long(file, output);
+    Ok(8 + 5 * cell_at(file, 0))
 }

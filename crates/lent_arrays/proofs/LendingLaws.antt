@@ -6,21 +6,19 @@ use borrow.Author.Tests.{ltb-false, le-ltb}
 use native.Mathlib.Omega.{arith}
 use lib.Dec.{ltb}
 use lib.ListN.{length, length-append, length-drop}
-use Rattle.cell.specs.Refusals.{judge}
+use Rattle.cell.specs.Refusals.{Judged, passed, judge}
 use Rattle.cell.specs.declared.Refusal.TheVariants.{ShortOutput}
-use Rattle.cell.specs.declared.Judged.{Judged}
-use Rattle.cell.specs.declared.Judged.TheVariants.{Passed}
 use Rattle.cell.proofs.JudgementLaws.{both_pass, one_clear}
 use Rattle.lent_arrays.specs.Lending.{written, areas_at, areas_in, short_array, with_room}
 
 pub record Roomy (j : Judged) (size needed : ℕ) : Type 0 where
-  pub passed : j ≡ Passed
+  pub passed : j ≡ passed
   pub room : needed ≤ size
 
-pub roomy : (j : Judged) (size needed : ℕ) → with_room j size needed ≡ Passed → Roomy j size needed
+pub roomy : (j : Judged) (size needed : ℕ) → with_room j size needed ≡ passed → Roomy j size needed
 roomy j size needed e =
     let p = both_pass j (judge (short_array size needed ∷ [])) e in
-    record { passed = p.0; room = ltb-false size needed (one_clear (ltb size needed) ShortOutput Passed p.1).0 }
+    record { passed = p.0; room = ltb-false size needed (one_clear (ltb size needed) ShortOutput passed p.1).0 }
 
 -- an array keeps its length where there is room for what is written
 pub written_length : (xs lent : List ℕ) → length xs ≤ length lent → length (written xs lent) ≡ length lent

@@ -1,10 +1,8 @@
 -- Lent arrays: what is read from their first places and written there, and their judgement. Document 02, (a): the areas join the registers.
-use Rattle.std.specs.Prelude.{List, [], ◌∷◌, ◌++◌, ℕ, ◌+◌, ltb, length, get_or, drop}
+use Rattle.std.specs.Prelude.{List, [], ◌∷◌, ◌++◌, ℕ, ◌+◌, ltb, length, get_or, drop, Ok, Err}
 use Rattle.cell.specs.Choice.{if}
-use Rattle.cell.specs.Refusals.{Ground, refusal_number, judge, after}
+use Rattle.cell.specs.Refusals.{Ground, Judged, refusal_number, judge, after}
 use Rattle.cell.specs.declared.Refusal.TheVariants.{ShortOutput}
-use Rattle.cell.specs.declared.Judged.{Judged}
-use Rattle.cell.specs.declared.Judged.TheVariants as judged
 use Rattle.areas.specs.Areas.{areas_of, no_areas, filed}
 use Rattle.areas.specs.declared.Areas.{Areas}
 use Rattle.areas.specs.declared.RegisterFile.{RegisterFile}
@@ -42,5 +40,5 @@ with_room j size needed = after j (judge (short_array size needed ∷ []))
 
 -- the number answered where `out` has no place: -4105, unless the input or the output is refused before it
 abbrev pub no_place : Judged → ℕ
-no_place (judged.Refused r) = refusal_number r
-no_place judged.Passed = refusal_number ShortOutput
+no_place (Err r) = refusal_number r
+no_place (Ok _) = refusal_number ShortOutput

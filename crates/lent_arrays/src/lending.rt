@@ -5,34 +5,25 @@ ghost use Rattle.areas.specs.Areas.{areas_of};
 ghost use Rattle.lent_arrays.specs.Lending as lending;
 
 use areas::{Area, Areas, RegisterFile};
-use cell::judgement::refusal_number;
-use cell::{Address, CellCount, Judged, Refusal};
+use cell::{Address, CellCount, Refusal};
 use machine::{Registers, Table};
 
 // A judgement so far, and then whether a lent array has room for what a success writes.
-pub fn with_room(judged: Judged, size: usize, needed: usize) -> Judged
+pub fn with_room(judged: Result<(), Refusal>, size: usize, needed: usize) -> Result<(), Refusal>
     ensures { result ≡ lending.with_room judged size needed }
 {
-    match judged {
-        Judged::Refused(n) => Judged::Refused(n),
-        Judged::Passed => {
-            if size < needed {
-                Judged::Refused(Refusal::ShortOutput)
-            } else {
-                Judged::Passed
-            }
-        }
+    judged?;
+    if size < needed {
+        return Err(Refusal::ShortOutput);
     }
+    Ok(())
 }
 
 // The number answered where `out` has no place.
-pub fn no_place(judged: Judged) -> u32
+pub fn no_place(judged: Result<(), Refusal>) -> u32
     ensures { result ≡ lending.no_place judged }
 {
-    match judged {
-        Judged::Refused(r) => refusal_number(r),
-        Judged::Passed => refusal_number(Refusal::ShortOutput),
-    }
+    u32::from(judged.err().unwrap_or(Refusal::ShortOutput))
 }
 
 // Areas of four numbers.
@@ -96,26 +87,34 @@ pub fn read_registers(lent: &[u32]) -> RegisterFile
     }
 }
 
+// The first places of a lent array.
+pub fn write_first(lent: &mut [u32], numbers: &[u32])
+    requires { length numbers.now ≤ length lent.old }
+    ensures { lent.new ≡ lending.written numbers.now lent.old }
+{
+    lent[..numbers.len()].copy_from_slice(numbers);
+}
+
 pub fn write_registers(lent: &mut [u32], f: RegisterFile)
     requires { 8 ≤ length lent.old }
     ensures { lent.new ≡ lending.written (lending.register_list f) lent.old }
 {
     let r = f.registers;
-    let areas = f.areas;
-    let stack = areas.stack;
-    let top = stack.top;
-    let cells = stack.cells;
-    let returns = areas.returns;
-    let return_top = returns.top;
-    let return_cells = returns.cells;
-    lent[0] = r.ep;
-    lent[1] = r.a;
-    lent[2] = r.sp;
-    lent[3] = r.rp;
-    lent[4] = top.0;
-    lent[5] = cells.0;
-    lent[6] = return_top.0;
-    lent[7] = return_cells.0;
+    let stack = f.areas.stack;
+    let returns = f.areas.returns;
+    write_first(
+        lent,
+        &[
+            r.ep,
+            r.a,
+            r.sp,
+            r.rp,
+            stack.top.0,
+            stack.cells.0,
+            returns.top.0,
+            returns.cells.0,
+        ],
+    );
 }
 
 // SP and RP of the list machine, and its areas.
@@ -124,30 +123,30 @@ pub fn write_pointers(lent: &mut [u32], sp: u32, rp: u32, areas: Areas)
     ensures { lent.new ≡ lending.written (sp ∷ rp ∷ lending.area_list areas) lent.old }
 {
     let stack = areas.stack;
-    let top = stack.top;
-    let cells = stack.cells;
     let returns = areas.returns;
-    let return_top = returns.top;
-    let return_cells = returns.cells;
-    lent[0] = sp;
-    lent[1] = rp;
-    lent[2] = top.0;
-    lent[3] = cells.0;
-    lent[4] = return_top.0;
-    lent[5] = return_cells.0;
+    write_first(
+        lent,
+        &[
+            sp,
+            rp,
+            stack.top.0,
+            stack.cells.0,
+            returns.top.0,
+            returns.cells.0,
+        ],
+    );
 }
 
 pub fn write_one(lent: &mut [u32], x: u32)
     requires { 1 ≤ length lent.old }
     ensures { lent.new ≡ lending.written (x ∷ []) lent.old }
 {
-    lent[0] = x;
+    write_first(lent, &[x]);
 }
 
 pub fn write_two(lent: &mut [u32], x: u32, y: u32)
     requires { 2 ≤ length lent.old }
     ensures { lent.new ≡ lending.written (x ∷ y ∷ []) lent.old }
 {
-    lent[0] = x;
-    lent[1] = y;
+    write_first(lent, &[x, y]);
 }

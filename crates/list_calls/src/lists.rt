@@ -27,13 +27,11 @@ pub fn resume_list(
 ) -> u32
     ensures { machines.called memory.new pointers.new out.new result ≡ lists.resume_call order kinds.now operands.now base.0 memory.old table item.0 ran pointers.old items out.old }
 {
-    let sp = number_at(pointers, 0);
-    let rp = number_at(pointers, 1);
     let start = Stand {
-        item: item,
-        ran: ran,
-        sp: sp,
-        rp: rp,
+        item,
+        ran,
+        sp: number_at(pointers, 0),
+        rp: number_at(pointers, 1),
     };
     let areas = areas_in(pointers, 2);
     let room = judge_lent(pointers.len(), out.len());

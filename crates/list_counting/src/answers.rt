@@ -3,7 +3,6 @@ ghost use Rattle.std.specs.Prelude.{◌≡◌};
 ghost use Rattle.list_counting.specs.Endings as endings;
 
 use crate::Ending;
-use list_machine::outside_number;
 
 // 0 where all items asked for were carried out, 1 stopped by a reason, 2 outside.
 pub fn ending_number(ending: Ending) -> u32
@@ -23,6 +22,6 @@ pub fn ending_reason(ending: Ending) -> u32
     match ending {
         Ending::GoesOn => 0,
         Ending::Stopped(x) => x,
-        Ending::Outside(why) => outside_number(why),
+        Ending::Outside(why) => u32::from(why),
     }
 }

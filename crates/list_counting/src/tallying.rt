@@ -14,11 +14,8 @@ pub fn cycles_at(table: &[u32], s: Stand) -> u64
     requires { (s.item.0 < tables.rows table.now) × (tables.rows table.now ≤ 4096) }
     ensures { result ≡ if (s.ran && tables.opens_in table.now s.item.0) 2 1 }
 {
-    let item = s.item;
-    if s.ran {
-        if opens_cell(table, item) {
-            return 2;
-        }
+    if s.ran && opens_cell(table, s.item) {
+        return 2;
     }
     1
 }
@@ -29,38 +26,29 @@ pub fn count_item(ran: ItemRun, cycles: u64, c: Carried) -> ItemRun
     ensures { result ≡ outcomes.counted ran cycles c }
 {
     match c {
-        Carried::On(t) => ItemRun {
-            stand: t,
+        Carried::On(stand) => ItemRun {
+            stand,
             items: ran.items + 1,
             cycles: ran.cycles + cycles,
             ending: Ending::GoesOn,
         },
-        Carried::Stopped(t, x) => ItemRun {
-            stand: t,
+        Carried::Stopped(stand, x) => ItemRun {
+            stand,
             items: ran.items + 1,
             cycles: ran.cycles + cycles,
             ending: Ending::Stopped(x),
         },
-        Carried::Outside(why) => {
-            let s = ran.stand;
-            ItemRun {
-                stand: s,
-                items: ran.items,
-                cycles: ran.cycles,
-                ending: Ending::Outside(why),
-            }
-        }
+        Carried::Outside(why) => ItemRun {
+            ending: Ending::Outside(why),
+            ..ran
+        },
     }
 }
 
 pub fn is_over(ending: Ending) -> bool
     ensures { result ≡ outcomes.is_over ending }
 {
-    match ending {
-        Ending::GoesOn => false,
-        Ending::Stopped(_) => true,
-        Ending::Outside(_) => true,
-    }
+    !matches!(ending, Ending::GoesOn)
 }
 
 // In front of an item of a listing of n, with nothing done. An item that the listing does not have stands past the end.
@@ -68,19 +56,15 @@ pub fn begin_run(n: usize, start: Stand) -> ItemRun
     requires { n ≤ 4096 }
     ensures { result ≡ outcomes.begun n start }
 {
-    let item = start.item;
-    if item.0 < n as u32 {
-        return ItemRun {
-            stand: start,
-            items: 0,
-            cycles: 0,
-            ending: Ending::GoesOn,
-        };
-    }
+    let ending = if start.item.0 < n as u32 {
+        Ending::GoesOn
+    } else {
+        Ending::Outside(Outside::PastEnd)
+    };
     ItemRun {
         stand: start,
         items: 0,
         cycles: 0,
-        ending: Ending::Outside(Outside::PastEnd),
+        ending,
     }
 }

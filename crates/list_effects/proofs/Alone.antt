@@ -1,4 +1,6 @@
 -- An effect that ends in the throw of THROW writes nothing and moves no stack pointer: THROW's own is the only one.
+use Rattle.std.specs.Prelude.{Ok, Err}
+use Rattle.cell.specs.Place.{Fetched}
 use mathlib.Core.Path.{◌≡◌, refl}
 use mathlib.Core.Bool.{Bool, true, false}
 use mathlib.Core.List.{List, []}
@@ -8,8 +10,6 @@ use lib.Dec.{eqb}
 use Rattle.cell.specs.Choice.{if}
 use Rattle.cell.specs.Number.{sum, byte_address}
 use Rattle.cell.specs.declared.Fault.{Fault}
-use Rattle.cell.specs.declared.Fetched.{Fetched}
-use Rattle.cell.specs.declared.Fetched.TheVariants.{Cell, Failed}
 use Rattle.machine.specs.Places.{fetch_of, fetch_byte_of}
 use Rattle.machine.specs.Effects.{Store, Control, go_on, jump, halt, throwing, Action, Effect, act, raise, fetched}
 use Rattle.machine.specs.declared.Machine.{Machine}
@@ -45,16 +45,16 @@ module _ (machine : Machine) (m : List ℕ) (ep sp rp : ℕ) where
   given = acts {x = record { sp = sp; rp = rp; stores = []; control = throwing }} (refl, refl, refl)
 
   halting : (g : Fetched) → Alone sp rp (halted sp rp g)
-  halting (Cell x) = acts tt
-  halting (Failed f) = acts tt
+  halting (Ok x) = acts tt
+  halting (Err f) = acts tt
 
   either : (t : Bool) {e f : Effect} → Alone sp rp e → Alone sp rp f → Alone sp rp (if t e f)
   either true p q = p
   either false p q = q
 
   fetching : (g : Fetched) {k : ℕ → Effect} → ((x : ℕ) → Alone sp rp (k x)) → Alone sp rp (fetched g k)
-  fetching (Cell x) f = f x
-  fetching (Failed e) f = raises
+  fetching (Ok x) f = f x
+  fetching (Err e) f = raises
 
   reading1 : (access : Access) (a : ℕ) {k : ℕ → Effect} → ((x : ℕ) → Alone sp rp (k x)) → Alone sp rp (fetched (fetch_of machine access m a) k)
   reading1 access a f = fetching (fetch_of machine access m a) f

@@ -1,4 +1,6 @@
 // Opcodes 01h to 15h: the data stack, comparison.
+#![tactic(auto, unfolding(instruction::specs::Dispatch::decode_of, instruction::specs::Plain::plain_of))]
+
 ghost use Rattle.std.specs.Prelude.{◌≤◌, length};
 ghost use Rattle.machine.specs.Places as places;
 ghost use Rattle.instruction.specs.Plain as plain;
@@ -6,6 +8,7 @@ ghost use Rattle.instruction.specs.Dispatch as dispatch;
 ghost use Rattle.list_shapes.specs.Shapes as shapes;
 
 use crate::from_16::propose_from_16;
+use cell::Fault;
 use list_shapes::Shape;
 use machine::{Machine, Registers};
 use operators::comparison::{equal, greater, less, not_equal, zero_equal, zero_greater, zero_less};
@@ -14,54 +17,59 @@ use storage::rolling::roll;
 use storage::stack::{drop, dup, nip, over, pick, question_dup, r_fetch, r_from, to_r};
 
 // What an instruction without an operand would do, by its opcode.
-pub fn propose_from_01(machine: Machine, memory: &[u8], r: Registers, opcode: u32) -> Shape
+pub fn propose_from_01(
+    machine: Machine,
+    memory: &[u8],
+    r: Registers,
+    opcode: u32,
+) -> Result<Shape, Fault>
     requires fits { places.Fits machine (length memory.now) }
     requires le_opcode { 1 ≤ opcode }
     ensures { shapes.Proposed machine memory.now result (plain.plain_at machine (dispatch.decode_of opcode) memory.now r) }
 {
     match opcode {
         // DUP
-        0x01 => Shape::One(dup(machine, memory, r)),
+        0x01 => Ok(Shape::One(dup(machine, memory, r)?)),
         // DROP
-        0x02 => Shape::None(drop(machine, memory, r)),
+        0x02 => Ok(Shape::None(drop(machine, memory, r)?)),
         // SWAP
-        0x03 => Shape::Two(swap(machine, memory, r)),
+        0x03 => Ok(Shape::Two(swap(machine, memory, r)?)),
         // OVER
-        0x04 => Shape::One(over(machine, memory, r)),
+        0x04 => Ok(Shape::One(over(machine, memory, r)?)),
         // ROT
-        0x05 => Shape::Three(rot(machine, memory, r)),
+        0x05 => Ok(Shape::Three(rot(machine, memory, r)?)),
         // -ROT
-        0x06 => Shape::Three(minus_rot(machine, memory, r)),
+        0x06 => Ok(Shape::Three(minus_rot(machine, memory, r)?)),
         // TUCK
-        0x07 => Shape::Three(tuck(machine, memory, r)),
+        0x07 => Ok(Shape::Three(tuck(machine, memory, r)?)),
         // NIP
-        0x08 => Shape::One(nip(machine, memory, r)),
+        0x08 => Ok(Shape::One(nip(machine, memory, r)?)),
         // PICK
-        0x09 => Shape::One(pick(machine, memory, r)),
+        0x09 => Ok(Shape::One(pick(machine, memory, r)?)),
         // ROLL
-        0x0A => Shape::Roll(roll(machine, memory, r)),
+        0x0A => Ok(Shape::Roll(roll(machine, memory, r)?)),
         // ?DUP
-        0x0B => Shape::Maybe(question_dup(machine, memory, r)),
+        0x0B => Ok(Shape::Maybe(question_dup(machine, memory, r)?)),
         // >R
-        0x0C => Shape::One(to_r(machine, memory, r)),
+        0x0C => Ok(Shape::One(to_r(machine, memory, r)?)),
         // R>
-        0x0D => Shape::One(r_from(machine, memory, r)),
+        0x0D => Ok(Shape::One(r_from(machine, memory, r)?)),
         // R@
-        0x0E => Shape::One(r_fetch(machine, memory, r)),
+        0x0E => Ok(Shape::One(r_fetch(machine, memory, r)?)),
         // <
-        0x0F => Shape::One(less(machine, memory, r)),
+        0x0F => Ok(Shape::One(less(machine, memory, r)?)),
         // >
-        0x10 => Shape::One(greater(machine, memory, r)),
+        0x10 => Ok(Shape::One(greater(machine, memory, r)?)),
         // =
-        0x11 => Shape::One(equal(machine, memory, r)),
+        0x11 => Ok(Shape::One(equal(machine, memory, r)?)),
         // <>
-        0x12 => Shape::One(not_equal(machine, memory, r)),
+        0x12 => Ok(Shape::One(not_equal(machine, memory, r)?)),
         // 0<
-        0x13 => Shape::One(zero_less(machine, memory, r)),
+        0x13 => Ok(Shape::One(zero_less(machine, memory, r)?)),
         // 0>
-        0x14 => Shape::One(zero_greater(machine, memory, r)),
+        0x14 => Ok(Shape::One(zero_greater(machine, memory, r)?)),
         // 0=
-        0x15 => Shape::One(zero_equal(machine, memory, r)),
+        0x15 => Ok(Shape::One(zero_equal(machine, memory, r)?)),
         _ => propose_from_16(machine, memory, r, opcode),
     }
 }

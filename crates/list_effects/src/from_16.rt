@@ -1,4 +1,6 @@
 // Opcodes 16h to 2Bh: comparison, constants, arithmetic.
+#![tactic(auto, unfolding(instruction::specs::Dispatch::decode_of, instruction::specs::Plain::plain_of))]
+
 ghost use Rattle.std.specs.Prelude.{◌≤◌, length};
 ghost use Rattle.machine.specs.Places as places;
 ghost use Rattle.instruction.specs.Plain as plain;
@@ -6,6 +8,7 @@ ghost use Rattle.instruction.specs.Dispatch as dispatch;
 ghost use Rattle.list_shapes.specs.Shapes as shapes;
 
 use crate::from_2c::propose_from_2c;
+use cell::Fault;
 use instruction::shape::push;
 use list_shapes::Shape;
 use machine::{Machine, Registers};
@@ -15,56 +18,61 @@ use operators::arithmetic::{
 };
 use operators::comparison::{u_greater, u_less, zero_not_equal};
 
-pub fn propose_from_16(machine: Machine, memory: &[u8], r: Registers, opcode: u32) -> Shape
+pub fn propose_from_16(
+    machine: Machine,
+    memory: &[u8],
+    r: Registers,
+    opcode: u32,
+) -> Result<Shape, Fault>
     requires fits { places.Fits machine (length memory.now) }
     requires le_opcode { 22 ≤ opcode }
     ensures { shapes.Proposed machine memory.now result (plain.plain_at machine (dispatch.decode_of opcode) memory.now r) }
 {
     match opcode {
         // 0<>
-        0x16 => Shape::One(zero_not_equal(machine, memory, r)),
+        0x16 => Ok(Shape::One(zero_not_equal(machine, memory, r)?)),
         // U<
-        0x17 => Shape::One(u_less(machine, memory, r)),
+        0x17 => Ok(Shape::One(u_less(machine, memory, r)?)),
         // U>
-        0x18 => Shape::One(u_greater(machine, memory, r)),
+        0x18 => Ok(Shape::One(u_greater(machine, memory, r)?)),
         // 0
-        0x19 => Shape::One(push(r, 0)),
+        0x19 => Ok(Shape::One(push(r, 0))),
         // 1
-        0x1A => Shape::One(push(r, 1)),
+        0x1A => Ok(Shape::One(push(r, 1))),
         // -1
-        0x1B => Shape::One(push(r, 0xFFFFFFFF)),
+        0x1B => Ok(Shape::One(push(r, 0xFFFFFFFF))),
         // CELL
-        0x1C => Shape::One(push(r, 4)),
+        0x1C => Ok(Shape::One(push(r, 4))),
         // -CELL
-        0x1D => Shape::One(push(r, 0xFFFFFFFC)),
+        0x1D => Ok(Shape::One(push(r, 0xFFFFFFFC))),
         // +
-        0x1E => Shape::One(plus(machine, memory, r)),
+        0x1E => Ok(Shape::One(plus(machine, memory, r)?)),
         // -
-        0x1F => Shape::One(minus(machine, memory, r)),
+        0x1F => Ok(Shape::One(minus(machine, memory, r)?)),
         // >-<
-        0x20 => Shape::One(swap_minus(machine, memory, r)),
+        0x20 => Ok(Shape::One(swap_minus(machine, memory, r)?)),
         // 1+
-        0x21 => Shape::One(one_plus(machine, memory, r)),
+        0x21 => Ok(Shape::One(one_plus(machine, memory, r)?)),
         // 1-
-        0x22 => Shape::One(one_minus(machine, memory, r)),
+        0x22 => Ok(Shape::One(one_minus(machine, memory, r)?)),
         // CELL+
-        0x23 => Shape::One(cell_plus(machine, memory, r)),
+        0x23 => Ok(Shape::One(cell_plus(machine, memory, r)?)),
         // CELL-
-        0x24 => Shape::One(cell_minus(machine, memory, r)),
+        0x24 => Ok(Shape::One(cell_minus(machine, memory, r)?)),
         // *
-        0x25 => Shape::One(star(machine, memory, r)),
+        0x25 => Ok(Shape::One(star(machine, memory, r)?)),
         // /
-        0x26 => Shape::One(slash(machine, memory, r)),
+        0x26 => Ok(Shape::One(slash(machine, memory, r)?)),
         // MOD
-        0x27 => Shape::One(modulo(machine, memory, r)),
+        0x27 => Ok(Shape::One(modulo(machine, memory, r)?)),
         // /MOD
-        0x28 => Shape::Two(slash_mod(machine, memory, r)),
+        0x28 => Ok(Shape::Two(slash_mod(machine, memory, r)?)),
         // U/MOD
-        0x29 => Shape::Two(u_slash_mod(machine, memory, r)),
+        0x29 => Ok(Shape::Two(u_slash_mod(machine, memory, r)?)),
         // S/REM
-        0x2A => Shape::Two(s_slash_rem(machine, memory, r)),
+        0x2A => Ok(Shape::Two(s_slash_rem(machine, memory, r)?)),
         // 2/
-        0x2B => Shape::One(two_slash(machine, memory, r)),
+        0x2B => Ok(Shape::One(two_slash(machine, memory, r)?)),
         _ => propose_from_2c(machine, memory, r, opcode),
     }
 }

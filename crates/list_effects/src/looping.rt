@@ -1,5 +1,7 @@
 // What (LOOP) and (+LOOP) would do, with their operand in A. The dispatch has calls of its own for them: a second call of the same function would keep
 // it from being laid into the processor's loop.
+#![tactic(auto, using(instruction::proofs::ShapeLaws::branch_target), unfolding(crate::specs::Looping::looped_of, instruction::specs::Taking::taking_of))]
+
 ghost use Rattle.std.specs.Prelude.{◌≡◌, length};
 ghost use Rattle.machine.specs.Places as places;
 ghost use Rattle.machine.specs.Effects as effects;
@@ -8,9 +10,9 @@ ghost use Rattle.instruction.specs.declared.OperandForm.TheVariants as form;
 ghost use Rattle.list_effects.specs.Looping as looping;
 
 use cell::number::add;
-use cell::{Address, Fetched};
+use cell::{Address, Fault};
 use counting::plus_ends;
-use instruction::shape::{fail_maybe, write_nothing};
+use instruction::shape::write_nothing;
 use machine::places::{fetch_data, fetch_return};
 use machine::{Machine, MaybeStore, Registers, Target, Then, Write};
 
@@ -34,50 +36,40 @@ fn propose_step(
     to: Address,
     n: u32,
     plus: bool,
-) -> MaybeStore
+) -> Result<MaybeStore, Fault>
     requires { places.Fits machine (length memory.now) }
-    ensures { effects.maybe_store result ≡ looping.looped_of machine memory.now sp rp to.0 n plus }
+    ensures { effects.asked effects.maybe_store result ≡ looping.looped_of machine memory.now sp rp to.0 n plus }
 {
-    let got = fetch_return(machine, memory, Address(rp));
-    let Fetched::Cell(index) = got else {
-        return fail_maybe(got);
-    };
-    let got2 = fetch_return(machine, memory, Address(add(rp, 4)));
-    let Fetched::Cell(limit) = got2 else {
-        return fail_maybe(got2);
-    };
+    let index = fetch_return(machine, memory, Address(rp))?;
+    let limit = fetch_return(machine, memory, Address(add(rp, 4)))?;
     if step_ends(plus, index, limit, n) {
-        return write_nothing(sp, add(rp, 8));
+        return Ok(write_nothing(sp, add(rp, 8)));
     }
-    MaybeStore {
-        sp: sp,
-        rp: rp,
-        writes: true,
+    Ok(MaybeStore {
+        sp,
+        rp,
         target: Target::Return,
-        write: Write {
+        write: Some(Write {
             at: Address(rp),
             value: add(index, n),
-        },
+        }),
         then: Then::Jump(to),
-    }
+    })
 }
 
-pub fn propose_loop(machine: Machine, memory: &[u8], r: Registers) -> MaybeStore
+pub fn propose_loop(machine: Machine, memory: &[u8], r: Registers) -> Result<MaybeStore, Fault>
     requires { places.Fits machine (length memory.now) }
-    ensures { effects.maybe_store result ≡ taking.taking_at machine form.Immediate taking.loop memory.now r }
+    ensures { effects.asked effects.maybe_store result ≡ taking.taking_at machine form.Immediate taking.loop memory.now r }
 {
     let to = add(r.ep, r.a % 0x40000000 * 4);
     propose_step(machine, memory, r.sp, r.rp, Address(to), 1, false)
 }
 
-pub fn propose_plus_loop(machine: Machine, memory: &[u8], r: Registers) -> MaybeStore
+pub fn propose_plus_loop(machine: Machine, memory: &[u8], r: Registers) -> Result<MaybeStore, Fault>
     requires { places.Fits machine (length memory.now) }
-    ensures { effects.maybe_store result ≡ taking.taking_at machine form.Immediate taking.plus_loop memory.now r }
+    ensures { effects.asked effects.maybe_store result ≡ taking.taking_at machine form.Immediate taking.plus_loop memory.now r }
 {
-    let got = fetch_data(machine, memory, Address(r.sp));
-    let Fetched::Cell(n) = got else {
-        return fail_maybe(got);
-    };
+    let n = fetch_data(machine, memory, Address(r.sp))?;
     let to = add(r.ep, r.a % 0x40000000 * 4);
     propose_step(machine, memory, add(r.sp, 4), r.rp, Address(to), n, true)
 }

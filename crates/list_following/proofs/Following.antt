@@ -1,48 +1,41 @@
 -- What a run of the list machine rests on once it passed, and what it answers.
-use mathlib.Core.Path.{◌≡◌, refl, sym, ap, ◌∙◌}
+use mathlib.Core.Path.{◌≡◌, refl, ap, ◌∙◌}
 use mathlib.Core.List.{List}
 use Prim.Native.Nat.{ℕ, ◌*◌}
 use lib.ListN.{length}
 use Rattle.cell.specs.Memory.{cell_count}
-use Rattle.cell.specs.Refusals.{Lent}
+use Rattle.cell.specs.Refusals.{Lent, Judged, passed}
 use Rattle.cell.specs.declared.CellCount.{CellCount}
-use Rattle.cell.specs.declared.Refusal.{Refusal}
-use Rattle.cell.specs.declared.Judged.{Judged}
-use Rattle.cell.specs.declared.Judged.TheVariants.{Passed, Refused}
 use Rattle.cell.proofs.JudgementLaws.{both_pass}
-use Rattle.machine.specs.declared.Machine.{Machine}
 use Rattle.machine.specs.Places.{Fits}
 use Rattle.machine.specs.declared.Table.{Table}
 use Rattle.areas.specs.Areas.{judge_areas}
 use Rattle.bounds.specs.Bounds.{judge_bounded, machine_of}
 use Rattle.areas.specs.declared.Areas.{Areas}
 use Rattle.bounds.proofs.BoundLaws.{lent, areas_pass, passed_fits}
-use Rattle.pack_layout.specs.Listing.{Listing, listed, judged_arrays, Checked}
+use Rattle.pack_layout.specs.Listing.{listed, judged_arrays, Checked}
 use Rattle.pack_layout.specs.Packing.{image_cells, judged_place}
 use Rattle.pack_prepare.proofs.Checking.{arrays_checked}
-use Rattle.list_machine.specs.Runs.{Course, goes_on, stopped_by, stood_outside, Run, run_of, resuming}
+use Rattle.list_machine.specs.Runs.{Course, goes_on, stopped_by, stood_outside, Run}
 use Rattle.list_tables.specs.Tables.{Rows, Settled}
 use Rattle.list_tables.specs.declared.Image.{Image}
-use Rattle.list_proposing.specs.Stands.{position_of}
-use Rattle.list_proposing.specs.declared.Stand.{Stand}
 use Rattle.list_counting.specs.Outcomes.{course_of, run_as}
 use Rattle.list_counting.specs.declared.Ending.{Ending}
 use Rattle.list_counting.specs.declared.Ending.TheVariants as ending
 use Rattle.list_counting.specs.declared.ItemRun.{ItemRun}
-use Rattle.list_refusals.specs.Judging.{judge_begin, judge_image, judge_follow}
-use Rattle.list_following.specs.Follow.{FollowResult, followed_to, ending_of, ran_of, follow_if, resume_in}
-use Rattle.list_following.specs.declared.Followed.TheVariants as followed
+use Rattle.list_refusals.specs.Judging.{judge_begin, judge_image}
+use Rattle.list_following.specs.Follow.{ending_of, ran_of}
 
 -- what passed before the layout: the memory, the areas and the arrays
-module _ (len order : ℕ) (areas : Areas) (table : Table) (kinds operands : List ℕ) (e : judge_begin len order areas table kinds operands ≡ Passed) where
-  begin_bounded : judge_bounded len order areas table ≡ Passed
+module _ (len order : ℕ) (areas : Areas) (table : Table) (kinds operands : List ℕ) (e : judge_begin len order areas table kinds operands ≡ passed) where
+  begin_bounded : judge_bounded len order areas table ≡ passed
   unfolding judge_begin
   begin_bounded = (both_pass (judge_bounded len order areas table) (judged_arrays kinds operands) e).0
 
   pub begin_lent : Lent len
   begin_lent = lent len order areas table begin_bounded
 
-  pub begin_areas : judge_areas len areas ≡ Passed
+  pub begin_areas : judge_areas len areas ≡ passed
   begin_areas = areas_pass len order areas table begin_bounded
 
   pub begin_fits : Fits (machine_of order areas table len) len
@@ -55,7 +48,7 @@ module _ (len order : ℕ) (areas : Areas) (table : Table) (kinds operands : Lis
 -- the table of a listing whose image passed
 pub image_settled : (kinds operands table : List ℕ) (base : ℕ) (cells : CellCount) (room : Judged) (image : Image) → Checked kinds operands
     → length table ≡ 4 * length kinds → Rows (listed kinds operands) table (length kinds) → cells ≡ cell_count (image_cells (listed kinds operands))
-    → image.base.0 ≡ base → image.cells ≡ cells → judge_image base cells.0 room ≡ Passed → Settled kinds operands table image
+    → image.base.0 ≡ base → image.cells ≡ cells → judge_image base cells.0 room ≡ passed → Settled kinds operands table image
 unfolding judge_image
 image_settled kinds operands table base cells room image ok whole rs e b c j =
     record {
@@ -77,35 +70,8 @@ course_back goes_on = refl
 course_back (stopped_by x) = refl
 course_back (stood_outside why) = refl
 
-run_back : (m : List ℕ) (x : ItemRun) → ran_of (run_as m x) ≡ x
+pub run_back : (m : List ℕ) (x : ItemRun) → ran_of (run_as m x) ≡ x
 run_back m x = ap (λ (e : Ending). record { stand = x.stand; items = x.items; cycles = x.cycles; ending = e }) (ending_back x.ending)
 
 pub run_there : (r : Run) → run_as r.position.memory (ran_of r) ≡ r
 run_there r = ap (λ (c : Course). record { position = r.position; items = r.items; cycles = r.cycles; course = c }) (course_back r.course)
-
--- an answer after the layout: a refusal, or the run
-module _ (machine : Machine) (base : ℕ) (l : Listing) (m : List ℕ) (start : Stand) (items : ℕ) (cells : CellCount) (size : cells ≡ cell_count (image_cells l))
-    (room : Judged) where
-  pub image_refused : (r : Refusal) → judge_image base cells.0 room ≡ Refused r
-      → followed_to m start (followed.Refused r) ≡ follow_if (judge_image base (image_cells l) room) machine base l m start items
-  image_refused r e = rw (← ap (λ (x : CellCount). x.0) size, e)
-
-  pub image_ran : judge_image base cells.0 room ≡ Passed → (m2 : List ℕ) (x : ItemRun)
-      → run_as m2 x ≡ run_of machine base l items (resuming l (position_of m start))
-      → followed_to m2 start (followed.Run x) ≡ follow_if (judge_image base (image_cells l) room) machine base l m start items
-  image_ran e m2 x ran =
-      rw (← ap (λ (x : CellCount). x.0) size, e, ← ran)
-      (ap (λ (y : ItemRun). followed_to m2 start (followed.Run y)) (sym (run_back m2 x)))
-
--- an answer from the judgement before the layout on
-module _ (room : Judged) (order : ℕ) (areas : Areas) (table : Table) (kinds operands : List ℕ) (base : ℕ) (m : List ℕ) (start : Stand) (items : ℕ) where
-  pub begin_refused : (r : Refusal) → judge_begin (length m) order areas table kinds operands ≡ Refused r
-      → followed_to m start (followed.Refused r) ≡ resume_in room order areas table kinds operands base m start items
-  unfolding resume_in judge_follow
-  begin_refused r e = rw e
-
-  pub begin_passed : (s : FollowResult) → judge_begin (length m) order areas table kinds operands ≡ Passed
-      → s ≡ follow_if (judge_image base (image_cells (listed kinds operands)) room) (machine_of order areas table (length m)) base (listed kinds operands) m start items
-      → s ≡ resume_in room order areas table kinds operands base m start items
-  unfolding resume_in judge_follow
-  begin_passed s e q = q ∙ rw e

@@ -1,8 +1,7 @@
 -- A run of the list machine on a lent memory: what it leaves, and the number and values of each answer. Document 01, Listings.
-use Rattle.std.specs.Prelude.{Bool, false, List, ℕ, length}
-use Rattle.cell.specs.Refusals.{refusal_number}
-use Rattle.cell.specs.declared.Judged.{Judged}
-use Rattle.cell.specs.declared.Judged.TheVariants as judged
+use Rattle.std.specs.Prelude.{Bool, false, List, ℕ, length, Result, Ok, Err}
+use Rattle.cell.specs.Refusals.{refusal_number, Judged, passed}
+use Rattle.cell.specs.declared.Refusal.{Refusal}
 use Rattle.machine.specs.declared.Table.{Table}
 use Rattle.machine.specs.declared.Machine.{Machine}
 use Rattle.bounds.specs.Bounds.{machine_of}
@@ -17,29 +16,31 @@ use Rattle.list_counting.specs.declared.Ending.{Ending}
 use Rattle.list_counting.specs.declared.Ending.TheVariants as ending
 use Rattle.list_counting.specs.declared.ItemRun.{ItemRun}
 use Rattle.list_refusals.specs.Judging.{judge_follow}
-use Rattle.list_following.specs.declared.Followed.{Followed}
-use Rattle.list_following.specs.declared.Followed.TheVariants as followed
+
+-- what a run of the list machine answers
+abbrev pub Followed : Type 0
+Followed = Result ItemRun Refusal
 
 -- the number of each answer, and its values: a refusal leaves the stand as it was given, with no items and no cycles
 abbrev pub follow_number : Followed → ℕ
-follow_number (followed.Refused r) = refusal_number r
-follow_number (followed.Run x) = ending_number x.ending
+follow_number (Err r) = refusal_number r
+follow_number (Ok x) = ending_number x.ending
 
 abbrev pub follow_reason : Followed → ℕ
-follow_reason (followed.Refused r) = 0
-follow_reason (followed.Run x) = ending_reason x.ending
+follow_reason (Err r) = 0
+follow_reason (Ok x) = ending_reason x.ending
 
 abbrev pub follow_stand : Stand → Followed → Stand
-follow_stand start (followed.Refused r) = start
-follow_stand start (followed.Run x) = x.stand
+follow_stand start (Err r) = start
+follow_stand start (Ok x) = x.stand
 
 abbrev pub follow_items : Followed → ℕ
-follow_items (followed.Refused r) = 0
-follow_items (followed.Run x) = x.items
+follow_items (Err r) = 0
+follow_items (Ok x) = x.items
 
 abbrev pub follow_cycles : Followed → ℕ
-follow_cycles (followed.Refused r) = 0
-follow_cycles (followed.Run x) = x.cycles
+follow_cycles (Err r) = 0
+follow_cycles (Ok x) = x.cycles
 
 -- the memory after a call, and its answer; stand holds the item, SP and RP
 pub record FollowResult : Type 0 where
@@ -81,10 +82,10 @@ ran_of r = record { stand = stand_of r.position; items = r.items; cycles = r.cyc
 
 -- refused, with memory as it was; or the run
 abbrev pub follow_if : Judged → Machine → ℕ → Listing → List ℕ → Stand → ℕ → FollowResult
-follow_if (judged.Refused r) machine base l m start items = followed_to m start (followed.Refused r)
-follow_if judged.Passed machine base l m start items =
+follow_if (Err r) machine base l m start items = followed_to m start (Err r)
+follow_if (Ok _) machine base l m start items =
     let r = run_of machine base l items (resuming l (position_of m start)) in
-    followed_to r.position.memory start (followed.Run (ran_of r))
+    followed_to r.position.memory start (Ok (ran_of r))
 
 -- a run taken up at an item, with room judged last
 unfoldable pub resume_in : Judged → ℕ → Areas → Table → List ℕ → List ℕ → ℕ → List ℕ → Stand → ℕ → FollowResult
@@ -95,7 +96,7 @@ resume_in room order areas table kinds operands base m start items =
 
 -- list_resume, which was lent nothing else
 abbrev pub resume_of : ℕ → Areas → Table → List ℕ → List ℕ → ℕ → List ℕ → Stand → ℕ → FollowResult
-resume_of order areas table kinds operands base m start items = resume_in judged.Passed order areas table kinds operands base m start items
+resume_of order areas table kinds operands base m start items = resume_in passed order areas table kinds operands base m start items
 
 -- list_run: from item 0 on
 abbrev pub follow_of : ℕ → Areas → Table → List ℕ → List ℕ → ℕ → List ℕ → ℕ → ℕ → ℕ → FollowResult

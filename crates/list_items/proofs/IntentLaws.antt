@@ -1,4 +1,6 @@
 -- An item carried out as it was meant to be is the list machine's item.
+use Rattle.std.specs.Prelude.{Ok, Err}
+use Rattle.cell.specs.Place.{Checked, good}
 use mathlib.Core.Path.{◌≡◌, refl, sym, ap, ◌∙◌}
 use mathlib.Core.Bool.{Bool, true, false, not}
 use mathlib.Core.List.{List, []}
@@ -7,24 +9,22 @@ use native.Mathlib.Numerals.{add-one}
 use lib.Dec.{ltb}
 use lib.ListN.{length}
 use Rattle.cell.specs.Choice.{if}
-use Rattle.cell.specs.declared.Checked.{Checked}
-use Rattle.cell.specs.declared.Checked.TheVariants.{Good, Bad}
-use Rattle.machine.specs.Effects.{Store, Control, go_on, jump, halt, throwing, Action, effect_of}
+use Rattle.machine.specs.Effects.{Store, Control, go_on, jump, throwing, Action, Effect, control_of, effect_of, asked}
 use Rattle.exceptions.specs.Exceptions.{exception_of}
-use Rattle.machine.specs.Commits.{first_bad, fault_of, places_of, stored_of, commit_of, touches}
+use Rattle.machine.specs.Commits.{places_of, stored_of, commit_of, touches}
 use Rattle.throws.specs.Throws.{throwing_of}
 use Rattle.machine.specs.declared.Machine.{Machine}
 use Rattle.machine.specs.declared.Then.{Then}
-use Rattle.machine.specs.declared.Then.TheVariants.{GoOn, Jump, Halt, Throw, Raise}
-use Rattle.machine.proofs.CommitLaws.{commit_good}
+use Rattle.machine.specs.declared.Then.TheVariants.{GoOn, Jump, Halt, Throw}
 use Rattle.pack_layout.specs.Listing.{Listing}
 use Rattle.pack_layout.specs.Layout.{form_at}
-use Rattle.pack_layout.specs.Packing.{layout, image_cells, entry_at}
-use Rattle.pack_layout.specs.declared.Entry.{Entry}
+use Rattle.pack_layout.specs.Packing.{layout, image_cells, entry_at, Entry}
 use Rattle.list_machine.specs.declared.Outside.TheVariants.{WritesImage, NoEntry, PastEnd}
-use Rattle.list_machine.specs.ListMachine.{Position, Carried, on, outside, is_immediate, acted_to, moved_to, registers_at, handled, ran_on, carried_by}
+use Rattle.list_machine.specs.ListMachine.{Position, Carried, on, outside, is_immediate, acted_to, moved_to, registers_at, handled, ran_on, followed, acted, carried_by}
 use Rattle.list_effects.proofs.Alone.{Alone, bare}
-use Rattle.list_judging.specs.Ways.{to_entry, next_way, intent_by, along, stepped_to, performed}
+use Rattle.list_shapes.specs.Shapes.{shape_sp, shape_rp, shape_stores, shape_then, shape_effect, Asked}
+use Rattle.list_shapes.specs.declared.Shape.{Shape}
+use Rattle.list_judging.specs.Ways.{to_entry, next_way, intent_then, if_good, judged, intent_by, along, stepped_to, performed}
 use Rattle.list_judging.specs.declared.Way.TheVariants as way
 use Rattle.list_judging.specs.declared.Intent.{Intent}
 use Rattle.list_judging.specs.declared.Intent.TheVariants.{Act}
@@ -43,53 +43,66 @@ ran_on_is machine base l q =
 
 module _ (machine : Machine) (base : ℕ) (l : Listing) (find : ℕ → Entry) (finds : (a : ℕ) → find a ≡ entry_at base l a)
     (p : Position) (whole : length p.memory % 4 ≡ 0) (least : 16 ≤ length p.memory) where
-  abbrev meant : List Store → Then → Checked → Intent
-  meant ss t c =
-      intent_by machine p.memory find base (base + 4 * image_cells l) l.count p.item
-      (is_immediate (form_at (layout l) p.item)) p.sp ss t c
+  abbrev meant : Asked → Intent
+  meant a =
+      intent_by machine p.memory find base (base + 4 * image_cells l) l.count p.item (is_immediate (form_at (layout l) p.item)) p.sp
+      (judged machine p.memory a)
+
+  -- a choice that was made of what is meant
+  chosen : (s : Shape) (b : Bool) (i : Intent) (k : Carried) → performed machine p (registers_at machine base l p) i ≡ k
+      → performed machine p (registers_at machine base l p) (if b (Act s (way.Outside WritesImage)) i) ≡ if b (outside WritesImage) k
+  chosen s true i k h = refl
+  chosen s false i k h = h
 
   module _ (sp rp : ℕ) (ss : List Store) where
-    -- a choice that was made of what is meant
-    chosen : (b : Bool) (t : Then) (i : Intent) (k : Carried)
-        → performed machine p (registers_at machine base l p) (effect_of sp rp ss t) i ≡ k
-        → performed machine p (registers_at machine base l p) (effect_of sp rp ss t) (if b (Act (way.Outside WritesImage)) i) ≡ if b (outside WritesImage) k
-    chosen true t i k h = refl
-    chosen false t i k h = h
-
-    -- the position after a commit
     abbrev after : Control → Action
     after c = record { sp = sp; rp = rp; stores = ss; control = c }
 
-    went : (t : Then) (c : Control) → fault_of t ≡ Good → places_of machine (length p.memory) ss ≡ Good
-        → stepped_to p (commit_of machine p.memory (registers_at machine base l p) (effect_of sp rp ss t)) ≡ acted_to machine p (after c)
-    went t c g e = rw (commit_good machine p.memory (registers_at machine base l p) sp rp ss t g e)
+    -- the position after a commit
+    went : (t : Then) → places_of machine (length p.memory) ss ≡ good
+        → stepped_to p (commit_of machine p.memory (registers_at machine base l p) (effect_of sp rp ss t)) ≡ acted_to machine p (after (control_of t))
+    unfolding commit_of
+    went GoOn e = rw e
+    went (Jump a) e = rw e
+    went (Halt x) e = rw e
+    went Throw e = rw e
 
     stays : (c : Control) → (ss ≡ []) × (sp ≡ p.sp) × (rp ≡ p.rp) → acted_to machine p (after c) ≡ p
     unfolding stored_of
     stays c h = rw (h.0, h.1, h.2)
 
-    pub intent_is : (t : Then) (c : Checked) → places_of machine (length p.memory) ss ≡ c → Alone p.sp p.rp (effect_of sp rp ss t)
-        → performed machine p (registers_at machine base l p) (effect_of sp rp ss t) (meant ss t (first_bad (fault_of t) c))
-        ≡ carried_by machine base l p (effect_of sp rp ss t)
-    intent_is GoOn (Bad f) e o = rw e (throw_is machine base l find finds p whole least (exception_of machine f))
-    intent_is (Jump a) (Bad f) e o = rw e (throw_is machine base l find finds p whole least (exception_of machine f))
-    intent_is (Halt x) (Bad f) e o = rw e (throw_is machine base l find finds p whole least (exception_of machine f))
-    intent_is Throw (Bad f) e o = rw e (throw_is machine base l find finds p whole least (exception_of machine f))
-    intent_is (Raise f) c e o = throw_is machine base l find finds p whole least (exception_of machine f)
-    intent_is GoOn Good e o =
-        rw e
-        (chosen (touches base (base + 4 * image_cells l) ss) GoOn _ _
-        (ap (along (next_way l.count p.item (is_immediate (form_at (layout l) p.item)))) (went GoOn go_on refl e)
-        ∙ ran_on_is machine base l (acted_to machine p (after go_on))))
-    intent_is (Jump a) Good e o =
-        rw e
-        (chosen (touches base (base + 4 * image_cells l) ss) (Jump a) _ _
-        (ap (along (to_entry NoEntry (find a.0))) (went (Jump a) (jump a.0) refl e)
-        ∙ transferred_is machine base l find finds NoEntry a.0 (acted_to machine p (after (jump a.0)))))
-    intent_is (Halt x) Good e o =
-        rw e (chosen (touches base (base + 4 * image_cells l) ss) (Halt x) _ _ (ap (along (way.Halt x)) (went (Halt x) (halt x) refl e)))
-    intent_is Throw Good e o =
-        rw e
-        (chosen (touches base (base + 4 * image_cells l) ss) Throw _ _
-        (given_is machine base l find finds p whole least
-        ∙ ap (λ (q : Position). handled machine base l q (throwing_of machine q.memory (registers_at machine base l q))) (sym (stays throwing (bare o)))))
+    -- a shape with this effect, its places judged good
+    then_is : (s : Shape) (t : Then) → shape_effect machine p.memory s ≡ effect_of sp rp ss t → places_of machine (length p.memory) ss ≡ good
+        → Alone p.sp p.rp (effect_of sp rp ss t)
+        → performed machine p (registers_at machine base l p)
+        (intent_then machine p.memory find l.count p.item (is_immediate (form_at (layout l) p.item)) p.sp s t)
+        ≡ followed machine base l (control_of t) (acted_to machine p (after (control_of t)))
+    then_is s GoOn q e o =
+        ap (λ (x : Effect). along (next_way l.count p.item (is_immediate (form_at (layout l) p.item))) (stepped_to p (commit_of machine p.memory (registers_at machine base l p) x))) q
+        ∙ ap (along (next_way l.count p.item (is_immediate (form_at (layout l) p.item)))) (went GoOn e)
+        ∙ ran_on_is machine base l (acted_to machine p (after go_on))
+    then_is s (Jump a) q e o =
+        ap (λ (x : Effect). along (to_entry NoEntry (find a.0)) (stepped_to p (commit_of machine p.memory (registers_at machine base l p) x))) q
+        ∙ ap (along (to_entry NoEntry (find a.0))) (went (Jump a) e)
+        ∙ transferred_is machine base l find finds NoEntry a.0 (acted_to machine p (after (jump a.0)))
+    then_is s (Halt x) q e o =
+        ap (λ (y : Effect). along (way.Halt x) (stepped_to p (commit_of machine p.memory (registers_at machine base l p) y))) q
+        ∙ ap (along (way.Halt x)) (went (Halt x) e)
+    then_is s Throw q e o =
+        given_is machine base l find finds p whole least
+        ∙ ap (λ (q : Position). handled machine base l q (throwing_of machine q.memory (registers_at machine base l q))) (sym (stays throwing (bare o)))
+
+  shape_is : (s : Shape) (c : Checked) → places_of machine (length p.memory) (shape_stores machine p.memory s) ≡ c
+      → Alone p.sp p.rp (shape_effect machine p.memory s)
+      → performed machine p (registers_at machine base l p)
+      (intent_by machine p.memory find base (base + 4 * image_cells l) l.count p.item (is_immediate (form_at (layout l) p.item)) p.sp (if_good c s))
+      ≡ acted machine base l p (after (shape_sp s) (shape_rp s) (shape_stores machine p.memory s) (control_of (shape_then s))) c
+  shape_is s (Err f) e o = throw_is machine base l find finds p whole least (exception_of machine f)
+  shape_is s (Ok _) e o =
+      chosen s (touches base (base + 4 * image_cells l) (shape_stores machine p.memory s)) _ _
+      (then_is (shape_sp s) (shape_rp s) (shape_stores machine p.memory s) s (shape_then s) refl e o)
+
+  pub intent_is : (a : Asked) → Alone p.sp p.rp (asked (shape_effect machine p.memory) a)
+      → performed machine p (registers_at machine base l p) (meant a) ≡ carried_by machine base l p (asked (shape_effect machine p.memory) a)
+  intent_is (Ok s) o = shape_is s (places_of machine (length p.memory) (shape_stores machine p.memory s)) refl o
+  intent_is (Err f) o = throw_is machine base l find finds p whole least (exception_of machine f)

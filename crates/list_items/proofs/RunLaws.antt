@@ -2,20 +2,18 @@
 use mathlib.Core.Path.{◌≡◌, refl, sym, ap, ◌∙◌}
 use mathlib.Core.Bool.{Bool, true, false, ◌&&◌, true≢false, false≢true}
 use mathlib.Core.List.{List}
-use Prim.Native.Nat.{ℕ, suc, ◌+◌, ◌*◌, ◌-◌, ◌≤◌, ◌<◌}
+use Prim.Native.Nat.{ℕ, ◌+◌, ◌*◌, ◌-◌, ◌≤◌, ◌<◌}
 use native.Mathlib.Numerals.{add-one}
 use native.Mathlib.Omega.{arith}
-use borrow.Author.Tests.{ltb-true}
 use lib.Dec.{ltb}
 use lib.ListN.{length}
 use Rattle.cell.specs.Choice.{if}
 use Rattle.machine.specs.declared.Machine.{Machine}
 use Rattle.pack_layout.specs.Listing.{Listing, listed}
-use Rattle.list_machine.specs.ListMachine.{Carried, carry_out, cycles_at}
+use Rattle.list_machine.specs.ListMachine.{carry_out, cycles_at}
 use Rattle.list_machine.specs.declared.Outside.TheVariants.{PastEnd}
-use Rattle.list_machine.specs.Runs.{stood_outside, is_over as over, further_by, further, run_of, resuming}
-use Rattle.list_machine.proofs.Within.{Within, carry_within}
-use Rattle.list_machine.proofs.Cutting.{run_cut, run_over}
+use Rattle.list_machine.specs.Runs.{Course, goes_on, stood_outside, is_over as over, Run, further_by, further, run_of, resuming}
+use Rattle.list_machine.proofs.Cutting.{run_cut, run_over, run_inside, resuming_inside}
 use Rattle.list_tables.specs.Tables.{opens_in, Settled}
 use Rattle.list_tables.specs.declared.Image.{Image}
 use Rattle.list_tables.proofs.TableLaws.{open_is}
@@ -42,106 +40,89 @@ module _ (machine : Machine) (base : ℕ) (l : Listing) where
   unfolding further
   further_is m r q = rw q
 
-  counted_item : (m2 : List ℕ) (r : ItemRun) (k : ℕ) (c : code.Carried) → Within l.count (carried_as m2 c)
-      → is_over (counted r k c).ending ≡ false → (counted r k c).stand.item.0 < l.count
-  counted_item m2 r k (On s) h o = h
-  counted_item m2 r k (Stopped s x) h o = absurd (true≢false o)
-  counted_item m2 r k (Outside why) h o = absurd (true≢false o)
-
-  counted_items : (r : ItemRun) (k : ℕ) (c : code.Carried) → is_over (counted r k c).ending ≡ false
-      → ((counted r k c).items ≡ r.items + 1) × ((counted r k c).cycles ≡ r.cycles + k) × ((counted r k c).ending ≡ ending.GoesOn)
-  counted_items r k (On s) o = (refl, refl, refl)
-  counted_items r k (Stopped s x) o = absurd (true≢false o)
-  counted_items r k (Outside why) o = absurd (true≢false o)
-
--- a run of the code that is over is one
+-- a run of the code that is over is one, and any other goes on
 over_course : (e : Ending) → is_over e ≡ true → over (course_of e) ≡ true
 over_course ending.GoesOn o = absurd (false≢true o)
 over_course (ending.Stopped x) o = refl
 over_course (ending.Outside why) o = refl
 
--- what the loop keeps
-pub record Going (machine : Machine) (base : ℕ) (l : Listing) (m0 : List ℕ) (start : Stand) (items : ℕ) (m : List ℕ) (r : ItemRun) (left : ℕ) : Type 0 where
-  pub sum : r.items + left ≡ items
+going : (e : Ending) → is_over e ≡ false → e ≡ ending.GoesOn
+going ending.GoesOn o = refl
+going (ending.Stopped x) o = absurd (true≢false o)
+going (ending.Outside why) o = absurd (true≢false o)
+
+-- an item is one more at the most, of two cycles at the most
+more_items : (r : ItemRun) (k : ℕ) (c : code.Carried) → (counted r k c).items ≤ r.items + 1
+more_items r k (On s) = omega arith
+more_items r k (Stopped s x) = omega arith
+more_items r k (Outside why) = omega arith
+
+more_cycles : (r : ItemRun) (k : ℕ) (c : code.Carried) → k ≤ 2 → r.cycles ≤ 2 * r.items → (counted r k c).cycles ≤ 2 * (counted r k c).items
+more_cycles r k (On s) h i = omega arith
+more_cycles r k (Stopped s x) h i = omega arith
+more_cycles r k (Outside why) h i = i
+
+-- what the loop keeps, once it has been gone through k times
+pub record Going (machine : Machine) (base : ℕ) (l : Listing) (m0 : List ℕ) (start : Stand) (m : List ℕ) (r : ItemRun) (k : ℕ) : Type 0 where
   pub long : length m ≡ length m0
-  pub item : r.stand.item.0 < l.count
-  pub few : r.cycles ≤ 2 * r.items
-  pub going : r.ending ≡ ending.GoesOn
-  pub here : run_as m r ≡ run_of machine base l r.items (resuming l (position_of m0 start))
+  pub few : r.items ≤ k
+  pub low : r.cycles ≤ 2 * r.items
+  pub here : run_as m r ≡ run_of machine base l k (resuming l (position_of m0 start))
 
-module _ (machine : Machine) (base : ℕ) (l : Listing) (m0 : List ℕ) (start : Stand) (items : ℕ) where
+module _ (machine : Machine) (base : ℕ) (l : Listing) (m0 : List ℕ) (start : Stand) where
   -- where the machine stands when it is started: in front of an item, or past the end
-  over_now : (b : Bool) → b ≡ ltb start.item.0 l.count → is_over (if b ending.GoesOn (ending.Outside PastEnd)) ≡ true → b ≡ false
-  over_now true e o = absurd (false≢true o)
-  over_now false e o = refl
+  begun_course : (b : Bool) → course_of (if b ending.GoesOn (ending.Outside PastEnd)) ≡ if b goes_on (stood_outside PastEnd)
+  begun_course true = refl
+  begun_course false = refl
 
-  going_now : (b : Bool) → is_over (if b ending.GoesOn (ending.Outside PastEnd)) ≡ false → b ≡ true
-  going_now true o = refl
-  going_now false o = absurd (true≢false o)
-
-  pub begun_there : (n : ℕ) (r : ItemRun) → r ≡ begun n start → r ≡ begun n r.stand
-  begun_there n r e = e ∙ ap (begun n) (sym (ap (λ (x : ItemRun). x.stand) e))
-
-  pub from_there : (r : ItemRun) → r ≡ begun l.count start
-      → run_of machine base l items (resuming l (position_of m0 r.stand)) ≡ run_of machine base l items (resuming l (position_of m0 start))
-  from_there r e = ap (λ (s : Stand). run_of machine base l items (resuming l (position_of m0 s))) (ap (λ (x : ItemRun). x.stand) e)
-
-  pub run_past : (r : ItemRun) → r ≡ begun l.count start → is_over r.ending ≡ true
-      → run_as m0 r ≡ run_of machine base l items (resuming l (position_of m0 start))
-  run_past r e o =
-      let q : ltb start.item.0 l.count ≡ false = over_now (ltb start.item.0 l.count) refl (rw (← ap (λ (x : ItemRun). x.ending) e) o) in
-      rw (e, q) (sym (run_over machine base l items (record { position = position_of m0 start; items = 0; cycles = 0; course = stood_outside PastEnd }) refl))
-
-  pub run_begins : (r : ItemRun) → r ≡ begun l.count start → is_over r.ending ≡ false → Going machine base l m0 start items m0 r items
+  pub run_begins : (r : ItemRun) → r ≡ begun l.count start → Going machine base l m0 start m0 r 0
   unfolding run_of
-  run_begins r e o =
-      let q : ltb start.item.0 l.count ≡ true = going_now (ltb start.item.0 l.count) (rw (← ap (λ (x : ItemRun). x.ending) e) o) in
-      rw (e, q)
-      (record { sum = omega arith; long = refl; item = ltb-true start.item.0 l.count q; few = omega arith; going = refl; here = rw q })
+  run_begins r e =
+      rw e
+      (record {
+        long = refl;
+        few = omega arith;
+        low = omega arith;
+        here = ap (λ (c : Course). record { position = position_of m0 start; items = 0; cycles = 0; course = c }) (begun_course (ltb start.item.0 l.count));
+      })
 
-  module _ (m : List ℕ) (r : ItemRun) (n : ℕ) (g : Going machine base l m0 start items m r n) where
-    pub run_ends : n ≤ 0 → run_as m r ≡ run_of machine base l items (resuming l (position_of m0 start))
-    run_ends h = g.here ∙ ap (λ (k : ℕ). run_of machine base l k (resuming l (position_of m0 start))) (let s = g.sum in let t : r.items ≡ items = omega arith in t)
+  module _ (m : List ℕ) (r : ItemRun) (k : ℕ) (g : Going machine base l m0 start m r k) where
+    -- over before as many items as are asked for
+    pub run_stops : (items : ℕ) → k ≤ items → is_over r.ending ≡ true → run_as m r ≡ run_of machine base l items (resuming l (position_of m0 start))
+    run_stops items h o =
+        sym (run_over machine base l (items - k) (run_as m r) (over_course r.ending o))
+        ∙ ap (run_of machine base l (items - k)) g.here
+        ∙ sym (run_cut machine base l k (items - k) (resuming l (position_of m0 start)))
+        ∙ ap (λ (n : ℕ). run_of machine base l n (resuming l (position_of m0 start))) (let t : k + (items - k) ≡ items = omega arith in t)
 
-    module _ (h : 0 < n) (m2 : List ℕ) (k : ℕ) (c : code.Carried) (r2 : ItemRun) (cycles : k ≡ cycles_at machine base l (position_of m r.stand))
-        (carried : left m2 c ≡ leaves m (carry_out machine base l (position_of m r.stand))) (more : r2 ≡ counted r k c) where
-      came : carried_as m2 c ≡ carry_out machine base l (position_of m r.stand)
-      came = ap (λ (x : Left). x.carried) carried
+    module _ (o : is_over r.ending ≡ false) where
+      goes : (run_of machine base l k (resuming l (position_of m0 start))).course ≡ goes_on
+      goes = ap (λ (x : Run). x.course) (sym g.here) ∙ ap course_of (going r.ending o)
 
-      kept : m2 ≡ memory_after m (carried_as m2 c)
-      kept = ap (λ (x : Left). x.memory) carried ∙ ap (memory_after m) (sym came)
+      -- a run that goes on stands in front of an item
+      pub run_item : r.stand.item.0 < l.count
+      run_item =
+          rw (ap (λ (x : Run). x.position.item) g.here)
+          (run_inside machine base l k (resuming l (position_of m0 start)) (resuming_inside machine base l (position_of m0 start)) goes)
 
-      after : run_as m2 r2 ≡ run_of machine base l (suc r.items) (resuming l (position_of m0 start))
+      pub run_goes_on : (m2 : List ℕ) (n : ℕ) (c : code.Carried) (r2 : ItemRun) → n ≡ cycles_at machine base l (position_of m r.stand) → n ≤ 2
+          → left m2 c ≡ leaves m (carry_out machine base l (position_of m r.stand)) → r2 ≡ counted r n c → length m2 ≡ length m
+          → Going machine base l m0 start m2 r2 (k + 1)
       unfolding run_of
-      after =
-          ap (run_as m2) more
-          ∙ further_by_lem machine base l m m2 r k c cycles kept
-          ∙ ap (further_by machine base l (run_as m r)) came
-          ∙ sym (further_is machine base l m r g.going)
-          ∙ ap (further machine base l) g.here
-
-      pub run_stops : is_over r2.ending ≡ true → run_as m2 r2 ≡ run_of machine base l items (resuming l (position_of m0 start))
-      run_stops o =
-          let s = g.sum in
-          sym (run_over machine base l (n - 1) (run_as m2 r2) (over_course r2.ending o))
-          ∙ ap (run_of machine base l (n - 1)) after
-          ∙ sym (run_cut machine base l (suc r.items) (n - 1) (resuming l (position_of m0 start)))
-          ∙ ap (λ (k : ℕ). run_of machine base l k (resuming l (position_of m0 start))) (let t : suc r.items + (n - 1) ≡ items = omega arith in t)
-
-      pub run_goes_on : length m2 ≡ length m → k ≤ 2 → is_over r2.ending ≡ false → Going machine base l m0 start items m2 r2 (n - 1)
-      run_goes_on q w o =
-          let o2 : is_over (counted r k c).ending ≡ false = rw (← more) o in
-          let d = counted_items machine base l r k c o2 in
-          let i : r2.items ≡ r.items + 1 = ap (λ (x : ItemRun). x.items) more ∙ d.0 in
-          let y : r2.cycles ≡ r.cycles + k = ap (λ (x : ItemRun). x.cycles) more ∙ d.1 in
-          record {
-            sum = omega (arith, g.sum);
+      run_goes_on m2 n c r2 cycles w carried more q =
+          let came : carried_as m2 c ≡ carry_out machine base l (position_of m r.stand) = ap (λ (x : Left). x.carried) carried in
+          let kept : m2 ≡ memory_after m (carried_as m2 c) = ap (λ (x : Left). x.memory) carried ∙ ap (memory_after m) (sym came) in
+          rw (more, add-one k)
+          (record {
             long = q ∙ g.long;
-            item = rw more (counted_item machine base l m2 r k c (rw came (carry_within machine base l (position_of m r.stand))) o2);
-            few = omega (arith, g.few);
-            going = ap (λ (x : ItemRun). x.ending) more ∙ d.2;
-            here = after ∙ ap (λ (j : ℕ). run_of machine base l j (resuming l (position_of m0 start))) (let t : suc r.items ≡ r2.items = omega arith in t);
-          }
+            few = omega (arith, more_items r n c, g.few);
+            low = more_cycles r n c w g.low;
+            here =
+                further_by_lem machine base l m m2 r n c cycles kept
+                ∙ ap (further_by machine base l (run_as m r)) came
+                ∙ sym (further_is machine base l m r (going r.ending o))
+                ∙ ap (further machine base l) g.here;
+          })
 
 -- the cycles of an item, read from the table
 pub cycles_is : (kinds operands table : List ℕ) (image : Image) → Settled kinds operands table image → (machine : Machine) (m : List ℕ) (s : Stand)

@@ -1,4 +1,5 @@
 -- A throw, against where it was found to lead: 'THROW as it will stand once the code is pushed.
+use Rattle.std.specs.Prelude.{Ok, Err, Some, None}
 use mathlib.Core.Path.{◌≡◌, refl, sym, ap, ◌∙◌}
 use mathlib.Core.Bool.{Bool, true, false, ◌&&◌, ◌||◌}
 use mathlib.Core.List.{List}
@@ -11,9 +12,7 @@ use lib.ListN.{length}
 use Rattle.cell.specs.Choice.{if}
 use Rattle.cell.specs.Memory.{cell_at, store_cell}
 use Rattle.cell.specs.Number.{difference}
-use Rattle.cell.specs.Place.{read}
-use Rattle.cell.specs.declared.Checked.{Checked}
-use Rattle.cell.specs.declared.Checked.TheVariants.{Good, Bad}
+use Rattle.cell.specs.Place.{read, Checked, good}
 use Rattle.cell.proofs.MemoryLaws.{store_length, cell_back, cell_frame, cell_alike}
 use Rattle.machine.specs.Places.{one_cell, place_of, fetch_of}
 use Rattle.exceptions.specs.Exceptions.{exception_code}
@@ -30,9 +29,7 @@ use Rattle.machine.specs.declared.Ended.TheVariants.{Went, Threw, Stopped}
 use Rattle.machine.proofs.CommitLaws.{good_placed, room_place}
 use Rattle.length_laws.proofs.LengthLaws.{noted_length}
 use Rattle.pack_layout.specs.Listing.{Listing}
-use Rattle.pack_layout.specs.Packing.{image_cells, ep_value, entry_at}
-use Rattle.pack_layout.specs.declared.Entry.{Entry}
-use Rattle.pack_layout.specs.declared.Entry.TheVariants.{Item, Nothing}
+use Rattle.pack_layout.specs.Packing.{image_cells, ep_value, entry_at, Entry}
 use Rattle.list_machine.specs.declared.Outside.{Outside}
 use Rattle.list_machine.specs.declared.Outside.TheVariants.{WritesImage, NoHandler}
 use Rattle.list_machine.specs.ListMachine.{Position, Carried, outside, entered_at, thrown_to, push_of, registers_at, transferred, handled_by, handled, thrown, writes_image}
@@ -88,8 +85,8 @@ handler_cell_lem machine m find a ep f h w = kept machine.order _ bad_cell ep (o
         kept machine.order (noted machine m f) a (exception_code f) u ∙ noted_kept machine m f
 
 entered_is : (why : Outside) (e : Entry) (q : Position) → along (to_entry why e) q ≡ entered_at why e q
-entered_is why (Item i) q = refl
-entered_is why Nothing q = refl
+entered_is why (Some i) q = refl
+entered_is why None q = refl
 
 choose : (b : Bool) (w : Way) (q : Position) (k : Carried) → along w q ≡ k → along (if b (way.Outside WritesImage) w) q ≡ if (b || false) (outside WritesImage) k
 choose true w q k h = refl
@@ -105,11 +102,11 @@ module _ (machine : Machine) (base : ℕ) (l : Listing) (find : ℕ → Entry) (
         → ((t : CycleState) → handled_by machine base l p t e ≡ transferred machine base l NoHandler (cell_at machine.order t.memory handler_cell) (thrown_to p t))
         → cell_at machine.order m handler_cell ≡ h
         → along (handler_by (find h) c) (thrown_to p (handed m r e h (read c x))) ≡ handled machine base l p (handed m r e h (read c x))
-    handed_is m r e h x Good g q =
-        transferred_is NoHandler h (thrown_to p (handed m r e h (read Good x)))
-        ∙ ap (λ (a : ℕ). transferred machine base l NoHandler a (thrown_to p (handed m r e h (read Good x)))) (sym q)
-        ∙ sym (g (handed m r e h (read Good x)))
-    handed_is m r e h x (Bad f) g q = refl
+    handed_is m r e h x (Ok _) g q =
+        transferred_is NoHandler h (thrown_to p (handed m r e h (read good x)))
+        ∙ ap (λ (a : ℕ). transferred machine base l NoHandler a (thrown_to p (handed m r e h (read good x)))) (sym q)
+        ∙ sym (g (handed m r e h (read good x)))
+    handed_is m r e h x (Err f) g q = refl
 
     handler_is : (m : List ℕ) (r : Registers) (e : Ended) (h : ℕ)
         → ((t : CycleState) → handled_by machine base l p t e ≡ transferred machine base l NoHandler (cell_at machine.order t.memory handler_cell) (thrown_to p t))
@@ -137,8 +134,8 @@ module _ (machine : Machine) (base : ℕ) (l : Listing) (find : ℕ → Entry) (
             (thrown_to p (pushed machine p.memory (registers_at machine base l p) f (difference p.sp 4) c))
             ≡ if (writes_image machine base l (push_of (difference p.sp 4) f c)) (outside WritesImage)
             (handled machine base l p (pushed machine p.memory (registers_at machine base l p) f (difference p.sp 4) c))
-        go (Bad g) e = refl
-        go Good e =
+        go (Err g) e = refl
+        go (Ok _) e =
             let a = difference p.sp 4 in
             let w = good_placed machine one_cell Push (length p.memory) a e in
             let m = store_cell machine.order (noted machine p.memory f) a (exception_code f) in

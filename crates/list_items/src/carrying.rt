@@ -1,4 +1,6 @@
 // One item carried out.
+#![tactic(auto, unfolding(throws::specs::Throws::throwing_of))]
+
 ghost use Rattle.std.specs.Prelude.{◌≡◌, ◌≤◌, ◌<◌, length};
 ghost use Rattle.cell.specs.Refusals.{Lent};
 ghost use Rattle.machine.specs.Places as places;
@@ -31,10 +33,24 @@ fn arrive(item: ItemNumber, ran: bool, r: Registers) -> Stand
     ensures { result ≡ stands.arrived item ran r }
 {
     Stand {
-        item: item,
-        ran: ran,
+        item,
+        ran,
         sp: r.sp,
         rp: r.rp,
+    }
+}
+
+// The writes of an item, and the registers that they leave.
+fn act(machine: Machine, memory: &mut [u8], r: Registers, shape: Shape) -> Registers
+    requires fits { places.Fits machine (length memory.old) }
+    requires fits_2 { shapes.Fits shape }
+    ensures memory_after { memory.new ≡ (commits.commit_of machine memory.old r (shapes.shape_effect machine memory.old shape)).memory }
+    ensures value { result ≡ (commits.commit_of machine memory.old r (shapes.shape_effect machine memory.old shape)).step.registers }
+{
+    match commit_shape(machine, memory, r, shape) {
+        Ok(t) => t.registers,
+        // never reached: the places of an item were judged before
+        Err(_) => r,
     }
 }
 
@@ -53,15 +69,12 @@ fn act_along(
 {
     match way {
         Way::To(i, ran) => {
-            let t = commit_shape(machine, memory, r, shape);
-            let after = t.registers;
+            let after = act(machine, memory, r, shape);
             Carried::On(arrive(i, ran, after))
         }
         Way::Halt(x) => {
-            let t = commit_shape(machine, memory, r, shape);
-            let after = t.registers;
-            let item = s.item;
-            Carried::Stopped(arrive(item, s.ran, after), x)
+            let after = act(machine, memory, r, shape);
+            Carried::Stopped(arrive(s.item, s.ran, after), x)
         }
         Way::Outside(why) => Carried::Outside(why),
     }
@@ -103,39 +116,30 @@ fn end_along(
     match way {
         Way::To(i, ran) => {
             let t = end(machine, memory, r, cause);
-            let after = t.registers;
-            Carried::On(arrive(i, ran, after))
+            Carried::On(arrive(i, ran, t.registers))
         }
         Way::Halt(x) => {
             let t = end(machine, memory, r, cause);
-            let after = t.registers;
-            let item = s.item;
-            Carried::Stopped(arrive(item, s.ran, after), x)
+            Carried::Stopped(arrive(s.item, s.ran, t.registers), x)
         }
         Way::Outside(why) => Carried::Outside(why),
     }
 }
 
-fn perform(
-    machine: Machine,
-    memory: &mut [u8],
-    s: Stand,
-    r: Registers,
-    shape: Shape,
-    intent: Intent,
-) -> Carried
+fn perform(machine: Machine, memory: &mut [u8], s: Stand, r: Registers, intent: Intent) -> Carried
     requires fits { places.Fits machine (length memory.old) }
     requires in_bounds { 16 ≤ length memory.old }
-    requires fits_2 { shapes.Fits shape }
-    ensures { outcomes.left memory.new result ≡ outcomes.leaves memory.old (ways.performed machine (stands.position_of memory.old s) r (shapes.shape_effect machine memory.old shape) intent) }
+    requires fits_2 { ways.IntentFits intent }
+    ensures { outcomes.left memory.new result ≡ outcomes.leaves memory.old (ways.performed machine (stands.position_of memory.old s) r intent) }
 {
     match intent {
-        Intent::Act(way) => act_along(machine, memory, s, r, shape, way),
+        Intent::Act(shape, way) => act_along(machine, memory, s, r, shape, way),
         Intent::End(cause, way) => end_along(machine, memory, s, r, cause, way),
     }
 }
 
 // The item in front of which the machine stands.
+#[tactic(auto, using(list_tables::proofs::TableLaws::in_rows, list_tables::proofs::TableLaws::next_near, list_tables::proofs::TableLaws::is_near, list_tables::proofs::TableLaws::image_near))]
 pub fn carry_out(
     machine: Machine,
     memory: &mut [u8],
@@ -150,9 +154,8 @@ pub fn carry_out(
     requires item_in_bounds { s.item.0 < length kinds.now }
     ensures { outcomes.left memory.new result ≡ outcomes.leaves memory.old (lists.carry_out machine image.base.0 (listed kinds.now operands.now) (stands.position_of memory.old s)) }
 {
-    let base = image.base;
-    let shape = shape_of(machine, memory, kinds, operands, table, image, s);
-    let intent = intent_of(machine, memory, table, image, s, shape);
-    let r = registers_at(table, base, s);
-    perform(machine, memory, s, r, shape, intent)
+    let r = registers_at(table, image.base, s);
+    let asked = shape_of(machine, memory, kinds, operands, table, image, s);
+    let intent = intent_of(machine, memory, table, image, s, asked);
+    perform(machine, memory, s, r, intent)
 }

@@ -1,4 +1,6 @@
 // A number of items.
+#![tactic(auto, using(list_tables::proofs::TableLaws::in_rows, list_tables::proofs::TableLaws::few_items, crate::proofs::RunLaws::run_begins, crate::proofs::RunLaws::run_stops, crate::proofs::RunLaws::run_item, crate::proofs::RunLaws::few_cycles))]
+
 ghost use Rattle.std.specs.Prelude.{◌≡◌, length};
 ghost use Rattle.machine.specs.Places as places;
 ghost use Rattle.cell.specs.Refusals.{Lent};
@@ -31,21 +33,14 @@ pub fn run_items(
     ensures { outcomes.run_as memory.new result ≡ runs.run_of machine image.base.0 (listed kinds.now operands.now) items (runs.resuming (listed kinds.now operands.now) (stands.position_of memory.old start)) }
 {
     let mut ran = begin_run(kinds.len(), start);
-    let first = ran.ending;
-    if is_over(first) {
-        return ran;
-    }
-    let mut rest = items;
-    while 0 < rest {
+    for _ in 0..items {
+        if is_over(ran.ending) {
+            return ran;
+        }
         let s = ran.stand;
         let cycles = cycles_at(table, s);
         let c = carry_out(machine, memory, kinds, operands, table, image, s);
         ran = count_item(ran, cycles, c);
-        let ending = ran.ending;
-        if is_over(ending) {
-            return ran;
-        }
-        rest -= 1;
     }
     ran
 }

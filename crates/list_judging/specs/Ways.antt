@@ -1,14 +1,13 @@
 -- Where an item leads, found before anything is written. Document 01, Listings: the four reasons for which the list machine stands outside, and the
 -- stops that it shares with the processor.
-use Rattle.std.specs.Prelude.{Bool, false, not, ◌&&◌, List, ℕ, ◌+◌, ◌%◌, ltb, eqb, length}
+use Rattle.std.specs.Prelude.{Bool, false, not, ◌&&◌, List, ℕ, ◌+◌, ◌%◌, ltb, eqb, length, Ok, Err, Some, None}
+use Prim.{Unit}
+use Rattle.cell.specs.Place.{Checked}
 use Rattle.cell.specs.Choice.{if}
 use Rattle.cell.specs.Memory.{cell_at}
 use Rattle.cell.specs.Number.{difference}
-use Rattle.cell.specs.declared.Checked.{Checked}
-use Rattle.cell.specs.declared.Checked.TheVariants.{Good, Bad}
 use Rattle.machine.specs.Places.{one_cell, place_of}
 use Rattle.exceptions.specs.Exceptions.{exception_of, exception_code}
-use Rattle.machine.specs.Effects.{Store, Effect}
 use Rattle.machine.specs.Commits.{Stepped, commit_of, touches}
 use Rattle.exceptions.specs.Fixed.{bad_stack, bad_handler, handler_cell}
 use Rattle.throws.specs.Throws.{CycleState, throw_of, throwing_of}
@@ -18,12 +17,10 @@ use Rattle.machine.specs.declared.Registers.{Registers}
 use Rattle.machine.specs.declared.Then.{Then}
 use Rattle.machine.specs.declared.Then.TheVariants as then
 use Rattle.machine.specs.declared.Access.TheVariants.{Push, Stream}
-use Rattle.pack_layout.specs.declared.Entry.{Entry}
-use Rattle.pack_layout.specs.declared.Entry.TheVariants.{Item, Nothing}
 use Rattle.list_machine.specs.declared.Outside.{Outside}
 use Rattle.list_machine.specs.declared.Outside.TheVariants.{WritesImage, NoEntry, NoHandler, PastEnd}
 use Rattle.list_machine.specs.ListMachine as lists
-use Rattle.list_shapes.specs.Shapes.{shape_stores, shape_then, shape_fault}
+use Rattle.list_shapes.specs.Shapes.{shape_stores, shape_then, shape_effect, shape_fault, Fits, Asked}
 use Rattle.list_shapes.specs.declared.Shape.{Shape}
 use Rattle.list_judging.specs.declared.Way.{Way}
 use Rattle.list_judging.specs.declared.Way.TheVariants as way
@@ -31,11 +28,12 @@ use Rattle.list_judging.specs.declared.Cause.{Cause}
 use Rattle.list_judging.specs.declared.Cause.TheVariants as cause
 use Rattle.list_judging.specs.declared.Intent.{Intent}
 use Rattle.list_judging.specs.declared.Intent.TheVariants.{Act, End}
+use Rattle.pack_layout.specs.Packing.{Entry}
 
 -- to the entry that was found; or outside, by the reason that fits the transfer
 abbrev pub to_entry : Outside → Entry → Way
-to_entry why (Item i) = way.To i false
-to_entry why Nothing = way.Outside why
+to_entry why (Some i) = way.To i false
+to_entry why None = way.Outside why
 
 -- the item after this one, or outside; n the number of items, and whether the item is in its immediate form
 abbrev pub next_way : ℕ → ℕ → Bool → Way
@@ -43,8 +41,17 @@ next_way n item immediate = if (ltb (item + 1) n) (way.To (record { 0 = item + 1
 
 -- 'THROW is h, and its place was judged
 abbrev pub handler_by : Entry → Checked → Way
-handler_by e Good = to_entry NoHandler e
-handler_by e (Bad f) = way.Halt bad_handler
+handler_by e (Ok _) = to_entry NoHandler e
+handler_by e (Err f) = way.Halt bad_handler
+
+-- what was asked for, unless its reading failed or one of its places is bad
+abbrev pub if_good : Checked → Shape → Asked
+if_good (Ok _) s = Ok s
+if_good (Err f) s = Err f
+
+abbrev pub judged : Machine → List ℕ → Asked → Asked
+judged machine m (Ok s) = if_good (shape_fault machine m s) s
+judged machine m (Err f) = Err f
 
 module _ (machine : Machine) (m : List ℕ) (find : ℕ → Entry) where
   abbrev pub handler_way : ℕ → Way
@@ -56,8 +63,8 @@ module _ (machine : Machine) (m : List ℕ) (find : ℕ → Entry) where
 
   -- a throw whose push was judged; the push may meet the image
   abbrev pub push_way : ℕ → ℕ → ℕ → Exception → Checked → Way
-  push_way lo hi a e (Bad f) = way.Halt bad_stack
-  push_way lo hi a e Good = if (ltb a hi && ltb lo (a + 4)) (way.Outside WritesImage) (handler_way (handler_after a e))
+  push_way lo hi a e (Err f) = way.Halt bad_stack
+  push_way lo hi a e (Ok _) = if (ltb a hi && ltb lo (a + 4)) (way.Outside WritesImage) (handler_way (handler_after a e))
 
   abbrev pub throw_way : ℕ → ℕ → ℕ → Exception → Way
   throw_way lo hi sp e = push_way lo hi (difference sp 4) e (place_of machine one_cell Push (length m) (difference sp 4))
@@ -66,22 +73,28 @@ module _ (machine : Machine) (m : List ℕ) (find : ℕ → Entry) where
   abbrev pub given_way : ℕ → Way
   given_way sp = if (eqb (sp % 4) 0) (handler_way (cell_at machine.order m handler_cell)) (way.Halt bad_stack)
 
-  -- what follows the writes: n the number of items
-  abbrev pub intent_then : ℕ → ℕ → Bool → ℕ → Then → Intent
-  intent_then n item immediate sp then.GoOn = Act (next_way n item immediate)
-  intent_then n item immediate sp (then.Jump a) = Act (to_entry NoEntry (find a.0))
-  intent_then n item immediate sp (then.Halt x) = Act (way.Halt x)
-  intent_then n item immediate sp then.Throw = End cause.Given (given_way sp)
-  intent_then n item immediate sp (then.Raise f) = Act (way.Outside PastEnd)
+  -- what follows the writes of a shape: n the number of items
+  abbrev pub intent_then : ℕ → ℕ → Bool → ℕ → Shape → Then → Intent
+  intent_then n item immediate sp s then.GoOn = Act s (next_way n item immediate)
+  intent_then n item immediate sp s (then.Jump a) = Act s (to_entry NoEntry (find a.0))
+  intent_then n item immediate sp s (then.Halt x) = Act s (way.Halt x)
+  intent_then n item immediate sp s then.Throw = End cause.Given (given_way sp)
 
   module _ (lo hi n item : ℕ) (immediate : Bool) (sp : ℕ) where
     -- an item whose reading and places were judged; its writes may meet the image
-    abbrev pub intent_by : List Store → Then → Checked → Intent
-    intent_by ss t (Bad f) = End (cause.Raised (exception_of machine f)) (throw_way lo hi sp (exception_of machine f))
-    intent_by ss t Good = if (touches lo hi ss) (Act (way.Outside WritesImage)) (intent_then n item immediate sp t)
+    abbrev pub intent_by : Asked → Intent
+    intent_by (Err f) = End (cause.Raised (exception_of machine f)) (throw_way lo hi sp (exception_of machine f))
+    intent_by (Ok s) =
+        if (touches lo hi (shape_stores machine m s)) (Act s (way.Outside WritesImage))
+        (intent_then n item immediate sp s (shape_then s))
 
-    unfoldable pub intent_of : Shape → Intent
-    intent_of s = intent_by (shape_stores machine m s) (shape_then s) (shape_fault machine m s)
+    unfoldable pub intent_of : Asked → Intent
+    intent_of asked = intent_by (judged machine m asked)
+
+-- every place of the shape that is meant is an address
+abbrev pub IntentFits : Intent → Type 0
+IntentFits (Act s way) = Fits s
+IntentFits (End c way) = Unit
 
 -- what an item with this way comes to, from the position after its writes
 abbrev pub along : Way → lists.Position → lists.Carried
@@ -105,7 +118,7 @@ abbrev pub end_of : Machine → List ℕ → Registers → Cause → CycleState
 end_of machine m r (cause.Raised e) = throw_of machine m r e
 end_of machine m r cause.Given = throwing_of machine m r
 
--- an item with the effect e, carried out as it was meant to be
-abbrev pub performed : Machine → lists.Position → Registers → Effect → Intent → lists.Carried
-performed machine p r e (Act way) = along way (stepped_to p (commit_of machine p.memory r e))
-performed machine p r e (End c way) = along way (lists.thrown_to p (end_of machine p.memory r c))
+-- an item carried out as it was meant to be
+abbrev pub performed : Machine → lists.Position → Registers → Intent → lists.Carried
+performed machine p r (Act s way) = along way (stepped_to p (commit_of machine p.memory r (shape_effect machine p.memory s)))
+performed machine p r (End c way) = along way (lists.thrown_to p (end_of machine p.memory r c))

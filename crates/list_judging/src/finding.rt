@@ -1,4 +1,6 @@
 // The entry that an address leads to.
+#![tactic(auto, using(crate::proofs::EntryLaws::entry_here, crate::proofs::EntryLaws::entry_before, crate::proofs::EntryLaws::entry_none))]
+
 ghost use Rattle.std.specs.Prelude.{◌≡◌, ◌&&◌, ◌+◌, ◌*◌, ◌<◌, eqb};
 ghost use Rattle.list_tables.specs.Tables as tables;
 ghost use Rattle.list_judging.specs.Ways as ways;
@@ -8,7 +10,7 @@ use cell::Address;
 use cell::place::address_at;
 use list_machine::Outside;
 use list_tables::tables::{is_entry, place_of};
-use pack_layout::{Entry, ItemNumber};
+use pack_layout::ItemNumber;
 
 // An item is an entry whose cell is at this address.
 fn is_placed(table: &[u32], base: Address, item: ItemNumber, a: Address) -> bool
@@ -16,34 +18,28 @@ fn is_placed(table: &[u32], base: Address, item: ItemNumber, a: Address) -> bool
     requires item_bound { item.0 < tables.rows table.now }
     ensures { result ≡ (tables.entry_in table.now item.0 && eqb (base.0 + 4 * tables.place_in table.now item.0) a.0) }
 {
-    if is_entry(table, item) {
-        let there = address_at(base, place_of(table, item));
-        return there.0 == a.0;
-    }
-    false
+    is_entry(table, item) && address_at(base, place_of(table, item)).0 == a.0
 }
 
-pub fn entry_at(table: &[u32], base: Address, a: Address) -> Entry
+pub fn entry_at(table: &[u32], base: Address, a: Address) -> Option<ItemNumber>
     requires { tables.Near table.now base.0 }
     ensures { result ≡ tables.entry_below table.now base.0 (tables.rows table.now) a.0 }
 {
-    let mut i = table.len() / 4;
-    while 0 < i {
-        i -= 1;
+    for i in (0..table.len() / 4).rev() {
         let item = ItemNumber(i as u32);
         if is_placed(table, base, item, a) {
-            return Entry::Item(item);
+            return Some(item);
         }
     }
-    Entry::Nothing
+    None
 }
 
 // In front of the entry that was found, or outside.
-pub fn to_entry(why: Outside, e: Entry) -> Way
+pub fn to_entry(why: Outside, e: Option<ItemNumber>) -> Way
     ensures { result ≡ ways.to_entry why e }
 {
     match e {
-        Entry::Item(i) => Way::To(i, false),
-        Entry::Nothing => Way::Outside(why),
+        Some(i) => Way::To(i, false),
+        None => Way::Outside(why),
     }
 }

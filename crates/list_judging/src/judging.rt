@@ -6,10 +6,10 @@ ghost use Rattle.list_judging.specs.Ways as ways;
 
 use crate::Way;
 use crate::finding::{entry_at, to_entry};
+use cell::Address;
 use cell::memory::load;
 use cell::number::subtract;
 use cell::place::address_at;
-use cell::{Address, Checked};
 use exceptions::code_of;
 use exceptions::fixed::{BAD_HANDLER, BAD_STACK, HANDLER_CELL};
 use list_machine::Outside;
@@ -25,10 +25,9 @@ fn handler_way(machine: Machine, memory: &[u8], table: &[u32], base: Address, h:
     requires { tables.Near table.now base.0 }
     ensures { result ≡ ways.handler_way machine memory.now (tables.entry_below table.now base.0 (tables.rows table.now)) h.0 }
 {
-    let place = check_named(machine, memory.len(), h);
-    let Checked::Good = place else {
+    if check_named(machine, memory.len(), h).is_err() {
         return Way::Halt(BAD_HANDLER);
-    };
+    }
     to_entry(Outside::NoHandler, entry_at(table, base, h))
 }
 
@@ -46,13 +45,11 @@ pub fn throw_way(
     ensures { result ≡ ways.throw_way machine memory.now (tables.entry_below table.now image.base.0 (tables.rows table.now)) image.base.0 (image.base.0 + 4 * image.cells.0) sp e }
 {
     let base = image.base;
-    let cells = image.cells;
     let a = Address(subtract(sp, 4));
-    let place = check_push(machine, memory.len(), a);
-    let Checked::Good = place else {
+    if check_push(machine, memory.len(), a).is_err() {
         return Way::Halt(BAD_STACK);
-    };
-    if meets(a, 4, base, address_at(base, cells)) {
+    }
+    if meets(a, 4, base, address_at(base, image.cells)) {
         return Way::Outside(Outside::WritesImage);
     }
     if a.0 == HANDLER_CELL.0 {
@@ -68,11 +65,11 @@ pub fn given_way(machine: Machine, memory: &[u8], table: &[u32], base: Address, 
     requires near { tables.Near table.now base.0 }
     ensures { result ≡ ways.given_way machine memory.now (tables.entry_below table.now base.0 (tables.rows table.now)) sp }
 {
-    if sp % 4 == 0 {
-        let handler = load(machine.order, memory, HANDLER_CELL);
-        return handler_way(machine, memory, table, base, Address(handler));
+    if sp % 4 != 0 {
+        return Way::Halt(BAD_STACK);
     }
-    Way::Halt(BAD_STACK)
+    let handler = load(machine.order, memory, HANDLER_CELL);
+    handler_way(machine, memory, table, base, Address(handler))
 }
 
 // The item after this one.

@@ -5,6 +5,7 @@ pub mod finding;
 pub mod judging;
 
 use list_machine::Outside;
+use list_shapes::Shape;
 use machine::Exception;
 use pack_layout::ItemNumber;
 
@@ -23,9 +24,9 @@ pub enum Cause {
     Given,
 }
 
-// How an item is to be carried out: by its writes, or by a throw.
+// How an item is to be carried out: by the writes of a shape, or by a throw.
 #[derive(Clone, Copy)]
 pub enum Intent {
-    Act(Way),
+    Act(Shape, Way),
     End(Cause, Way),
 }

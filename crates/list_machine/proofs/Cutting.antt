@@ -49,7 +49,7 @@ module _ (machine : Machine) (base : ℕ) (l : Listing) where
   run_joined (suc b) s r = ap (further machine base l) (run_joined b s r) ∙ further_joined s (run_of machine base l b r) (run_of machine base l b r).course
 
   -- a run that goes on stands in front of an item
-  abbrev Inside : Run → Type 0
+  abbrev pub Inside : Run → Type 0
   Inside s = s.course ≡ goes_on → s.position.item < l.count
 
   by_inside : (s : Run) (c : Carried) → Within l.count c → Inside (further_by machine base l s c)
@@ -62,12 +62,12 @@ module _ (machine : Machine) (base : ℕ) (l : Listing) where
   in_inside s (stopped_by x) q h = h
   in_inside s (stood_outside why) q h = h
 
-  run_inside : (k : ℕ) (s : Run) → Inside s → Inside (run_of machine base l k s)
+  pub run_inside : (k : ℕ) (s : Run) → Inside s → Inside (run_of machine base l k s)
   unfolding run_of further
   run_inside zero s h = h
   run_inside (suc k) s h = in_inside (run_of machine base l k s) (run_of machine base l k s).course refl (run_inside k s h)
 
-  resuming_inside : (p : Position) → Inside (resuming l p)
+  pub resuming_inside : (p : Position) → Inside (resuming l p)
   resuming_inside p = go (ltb p.item l.count) refl
     where
       go : (b : Bool) → ltb p.item l.count ≡ b → if b goes_on (stood_outside PastEnd) ≡ goes_on → p.item < l.count

@@ -1,4 +1,6 @@
 -- A run keeps the memory's length.
+use Rattle.std.specs.Prelude.{Ok, Err, Some, None}
+use Rattle.cell.specs.Place.{Checked}
 use mathlib.Core.Path.{◌≡◌, refl, ◌∙◌}
 use mathlib.Core.Bool.{Bool, true, false, not}
 use Prim.{Unit, tt}
@@ -7,8 +9,6 @@ use lib.Dec.{ltb}
 use lib.ListN.{length}
 use Rattle.cell.specs.Choice.{if}
 use Rattle.cell.specs.Number.{difference}
-use Rattle.cell.specs.declared.Checked.{Checked}
-use Rattle.cell.specs.declared.Checked.TheVariants.{Good, Bad}
 use Rattle.machine.specs.Places.{one_cell, place_of}
 use Rattle.exceptions.specs.Exceptions.{exception_of}
 use Rattle.machine.specs.declared.Exception.{Exception}
@@ -22,9 +22,7 @@ use Rattle.machine.specs.declared.Ended.TheVariants.{Went, Threw, Stopped}
 use Rattle.length_laws.proofs.LengthLaws.{stored_length, throw_length, throwing_length}
 use Rattle.pack_layout.specs.Listing.{Listing}
 use Rattle.pack_layout.specs.Layout.{form_at}
-use Rattle.pack_layout.specs.Packing.{layout, entry_at}
-use Rattle.pack_layout.specs.declared.Entry.{Entry}
-use Rattle.pack_layout.specs.declared.Entry.TheVariants.{Item, Nothing}
+use Rattle.pack_layout.specs.Packing.{layout, entry_at, Entry}
 use Rattle.list_machine.specs.declared.Outside.{Outside}
 use Rattle.list_machine.specs.declared.Outside.TheVariants.{WritesImage, NoEntry, PastEnd}
 use Rattle.list_machine.specs.ListMachine.{Position, Carried, on, stopped, outside, is_immediate, push_of, thrown_to, acted_to, moved_to, entered_at, effect_at, writes_image, registers_at, handler_at, handled_by, handled, thrown, followed, acted, carried_by, carry_out}
@@ -41,8 +39,8 @@ if_long n true why c h = tt
 if_long n false why c h = h
 
 entered_long : (n : ℕ) (why : Outside) (e : Entry) (q : Position) → length q.memory ≡ n → Long n (entered_at why e q)
-entered_long n why (Item i) q h = h
-entered_long n why Nothing q h = tt
+entered_long n why (Some i) q h = h
+entered_long n why None q h = tt
 
 ran_long : (n : ℕ) (b : Bool) (i : ℕ) (ran : Bool) (q : Position) → length q.memory ≡ n
     → Long n (if b (on (moved_to i ran q)) (outside PastEnd))
@@ -72,8 +70,8 @@ module _ (machine : Machine) (base : ℕ) (l : Listing) where
       handled_by_long n p t t.result.ended (throwing_length machine p.memory (registers_at machine base l p) ∙ h)
 
   acted_long : (p : Position) (x : Action) (c : Checked) → Long (length p.memory) (acted machine base l p x c)
-  acted_long p x (Bad f) = thrown_long p (exception_of machine f)
-  acted_long p x Good =
+  acted_long p x (Err f) = thrown_long p (exception_of machine f)
+  acted_long p x (Ok _) =
       if_long (length p.memory) (writes_image machine base l x.stores) WritesImage (followed machine base l x.control (acted_to machine p x))
       (followed_long (length p.memory) x.control (acted_to machine p x) (stored_length machine p.memory x.stores))
 

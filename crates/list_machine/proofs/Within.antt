@@ -1,4 +1,6 @@
 -- An item that leads on leads to an item of the listing.
+use Rattle.std.specs.Prelude.{Ok, Err, Some, None}
+use Rattle.cell.specs.Place.{Checked}
 use mathlib.Core.Path.{◌≡◌, refl}
 use mathlib.Core.Bool.{Bool, true, false, not}
 use Prim.{Unit, tt}
@@ -8,8 +10,6 @@ use lib.Dec.{ltb}
 use lib.ListN.{length}
 use Rattle.cell.specs.Choice.{if}
 use Rattle.cell.specs.Number.{difference}
-use Rattle.cell.specs.declared.Checked.{Checked}
-use Rattle.cell.specs.declared.Checked.TheVariants.{Good, Bad}
 use Rattle.machine.specs.Places.{one_cell, place_of}
 use Rattle.exceptions.specs.Exceptions.{exception_of}
 use Rattle.machine.specs.declared.Exception.{Exception}
@@ -22,9 +22,7 @@ use Rattle.machine.specs.declared.Ended.{Ended}
 use Rattle.machine.specs.declared.Ended.TheVariants.{Went, Threw, Stopped}
 use Rattle.pack_layout.specs.Listing.{Listing}
 use Rattle.pack_layout.specs.Layout.{form_at}
-use Rattle.pack_layout.specs.Packing.{layout, entry_at}
-use Rattle.pack_layout.specs.declared.Entry.{Entry}
-use Rattle.pack_layout.specs.declared.Entry.TheVariants.{Item, Nothing}
+use Rattle.pack_layout.specs.Packing.{layout, entry_at, Entry}
 use Rattle.pack_layout.proofs.Finding.{found}
 use Rattle.list_machine.specs.declared.Outside.{Outside}
 use Rattle.list_machine.specs.declared.Outside.TheVariants.{WritesImage, NoEntry, PastEnd}
@@ -39,9 +37,9 @@ if_within : (n : ℕ) (b : Bool) (why : Outside) (c : Carried) → Within n c �
 if_within n true why c h = tt
 if_within n false why c h = h
 
-entered_within : (n : ℕ) (why : Outside) (e : Entry) (q : Position) → ((j : ℕ) → e ≡ Item (record { 0 = j }) → j < n) → Within n (entered_at why e q)
-entered_within n why (Item i) q h = h i.0 refl
-entered_within n why Nothing q h = tt
+entered_within : (n : ℕ) (why : Outside) (e : Entry) (q : Position) → ((j : ℕ) → e ≡ Some (record { 0 = j }) → j < n) → Within n (entered_at why e q)
+entered_within n why (Some i) q h = h i.0 refl
+entered_within n why None q h = tt
 
 module _ (machine : Machine) (base : ℕ) (l : Listing) where
   transferred_within : (why : Outside) (a : ℕ) (q : Position) → Within l.count (transferred machine base l why a q)
@@ -77,8 +75,8 @@ module _ (machine : Machine) (base : ℕ) (l : Listing) where
   followed_within throwing p = handled_within p (throwing_of machine p.memory (registers_at machine base l p))
 
   acted_within : (p : Position) (x : Action) (c : Checked) → Within l.count (acted machine base l p x c)
-  acted_within p x (Bad f) = thrown_within p (exception_of machine f)
-  acted_within p x Good =
+  acted_within p x (Err f) = thrown_within p (exception_of machine f)
+  acted_within p x (Ok _) =
       if_within l.count (writes_image machine base l x.stores) WritesImage (followed machine base l x.control (acted_to machine p x))
       (followed_within x.control (acted_to machine p x))
 

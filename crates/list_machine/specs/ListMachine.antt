@@ -1,13 +1,11 @@
 -- The list machine (document 01's own term): one item, over the memory and the stack pointers of the processor. Document 01, Listings. Its
 -- instructions are the processor's own: `plain_of` and `taking_of`, committed and thrown by the processor's definitions.
-use Rattle.std.specs.Prelude.{Bool, true, false, not, ◌&&◌, List, [], ◌∷◌, ℕ, suc, ◌+◌, ◌*◌, ltb, length}
+use Rattle.std.specs.Prelude.{Bool, true, false, not, ◌&&◌, List, [], ◌∷◌, ℕ, suc, ◌+◌, ◌*◌, ltb, length, Ok, Err, Some, None}
+use Rattle.cell.specs.Place.{Checked}
 use Rattle.cell.specs.Choice.{if}
 use Rattle.cell.specs.Memory.{cell_at}
 use Rattle.cell.specs.Number.{difference}
-use Rattle.cell.specs.declared.Checked.{Checked}
-use Rattle.cell.specs.declared.Checked.TheVariants.{Good, Bad}
 use Rattle.cell.specs.declared.Fault.TheVariants.{Illegal}
-use Rattle.cell.specs.declared.Fetched.TheVariants.{Cell}
 use Rattle.machine.specs.Places.{one_cell, place_of}
 use Rattle.exceptions.specs.Exceptions.{exception_of, exception_code}
 use Rattle.machine.specs.declared.Exception.{Exception}
@@ -25,9 +23,7 @@ use Rattle.instruction.specs.Taking.{Taking, branch, question_branch, call, loop
 use Rattle.instruction.specs.Dispatch.{decode_of, OperandClass, next, plain, taking, operand_class}
 use Rattle.pack_layout.specs.Listing.{Listing}
 use Rattle.pack_layout.specs.Layout.{opens, form_at}
-use Rattle.pack_layout.specs.Packing.{layout, image_cells, address_of, ep_value, behind, entry_at}
-use Rattle.pack_layout.specs.declared.Entry.{Entry}
-use Rattle.pack_layout.specs.declared.Entry.TheVariants.{Item, Nothing}
+use Rattle.pack_layout.specs.Packing.{layout, image_cells, address_of, ep_value, behind, entry_at, Entry}
 use Rattle.pack_layout.specs.declared.ItemForm.{ItemForm}
 use Rattle.pack_layout.specs.declared.ItemForm.TheVariants.{Alone, Immediate, InCell}
 use Rattle.list_machine.specs.declared.Outside.{Outside}
@@ -56,8 +52,8 @@ is_immediate InCell = false
 
 -- the stores of a throw: its push is judged as the writes of an item are. A bad place is -258, and nothing is written
 abbrev pub push_of : ℕ → Exception → Checked → List Store
-push_of a e (Bad f) = []
-push_of a e Good = cell_store Push a (exception_code e) ∷ []
+push_of a e (Err f) = []
+push_of a e (Ok _) = cell_store Push a (exception_code e) ∷ []
 
 -- a position with the memory and the stack pointers that a throw leaves
 abbrev pub thrown_to : Position → CycleState → Position
@@ -81,8 +77,8 @@ moved_to i ran p = record { item = i; ran = ran; memory = p.memory; sp = p.sp; r
 
 -- in front of the entry that was found; or outside, by the reason that fits the transfer
 abbrev pub entered_at : Outside → Entry → Position → Carried
-entered_at why (Item i) p = on (moved_to i.0 false p)
-entered_at why Nothing p = outside why
+entered_at why (Some i) p = on (moved_to i.0 false p)
+entered_at why None p = outside why
 
 module _ (machine : Machine) (base : ℕ) (l : Listing) where
   -- what the processor would fetch for an instruction that takes an operand: a literal's value; the address of a branch's target
@@ -99,7 +95,7 @@ module _ (machine : Machine) (base : ℕ) (l : Listing) where
   effect_as next p = raise Illegal
   effect_as plain p = plain_of machine (decode_of (l.kind p.item)) p.memory (ep_value base l p.item) p.sp p.rp
   effect_as (taking form t) p =
-      taking_of machine t p.memory p.sp p.rp (Cell (operand_at p.item t)) (behind base l p.item)
+      taking_of machine t p.memory p.sp p.rp (Ok (operand_at p.item t)) (behind base l p.item)
 
   abbrev pub effect_at : Position → Effect
   effect_at p = effect_as (operand_class (decode_of (l.kind p.item))) p
@@ -152,8 +148,8 @@ module _ (machine : Machine) (base : ℕ) (l : Listing) where
 
   -- an action whose places were judged: a bad place raises, as in the processor
   abbrev pub acted : Position → Action → Checked → Carried
-  acted p x (Bad f) = thrown p (exception_of machine f)
-  acted p x Good = if (writes_image x.stores) (outside WritesImage) (followed x.control (acted_to machine p x))
+  acted p x (Err f) = thrown p (exception_of machine f)
+  acted p x (Ok _) = if (writes_image x.stores) (outside WritesImage) (followed x.control (acted_to machine p x))
 
   abbrev pub carried_by : Position → Effect → Carried
   carried_by p (raise f) = thrown p (exception_of machine f)

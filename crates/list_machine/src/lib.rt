@@ -14,13 +14,15 @@ pub enum Outside {
     PastEnd,
 }
 
-pub fn outside_number(why: Outside) -> u32
-    ensures { result ≡ outsides.outside_number why }
-{
-    match why {
-        Outside::WritesImage => 1,
-        Outside::NoEntry => 2,
-        Outside::NoHandler => 3,
-        Outside::PastEnd => 4,
+impl From<Outside> for u32 {
+    ghost from_gives = { λ why n. n ≡ outsides.outside_number why };
+
+    fn from(why: Outside) -> u32 {
+        match why {
+            Outside::WritesImage => 1,
+            Outside::NoEntry => 2,
+            Outside::NoHandler => 3,
+            Outside::PastEnd => 4,
+        }
     }
 }

@@ -19,8 +19,7 @@ use Rattle.pack_layout.specs.declared.Class.TheVariants as class
 use Rattle.pack_layout.specs.Listing.{listed}
 use Rattle.pack_layout.specs.Packing.{distance, address_of, behind}
 use Rattle.list_machine.specs.ListMachine.{registers_at, effect_at}
-use Rattle.list_shapes.specs.Shapes.{taking_kind, Proposed}
-use Rattle.list_shapes.specs.declared.Shape.{Shape}
+use Rattle.list_shapes.specs.Shapes.{taking_kind, Asked, Proposed}
 use Rattle.list_tables.specs.Tables.{place_in, next_in, behind_in, Settled}
 use Rattle.list_tables.specs.declared.Image.{Image}
 use Rattle.list_tables.proofs.TableLaws.{room, place_low, behind_room, next_is, behind_is, target_in, target_is}
@@ -50,18 +49,18 @@ module _ (kinds operands table : List ℕ) (image : Image) (s : Settled kinds op
       ∙ target_is kinds operands table image s st.item.0 h q)
 
   -- what the item asks for, by the class of its kind
-  abbrev Asks : Shape → Type 0
-  Asks shape = Proposed machine m shape (effect_at machine image.base.0 (listed kinds operands) (position_of m st))
+  abbrev Asks : Asked → Type 0
+  Asks asked = Proposed machine m asked (effect_at machine image.base.0 (listed kinds operands) (position_of m st))
 
-  pub asks_plain : (shape : Shape) (r : Registers) → r ≡ regs → sorts.class_of (get_or kinds st.item.0 0) ≡ class.Plain
-      → Proposed machine m shape (plain_at machine (decode_of (get_or kinds st.item.0 0)) m r) → Asks shape
-  asks_plain shape r e q p =
+  pub asks_plain : (asked : Asked) (r : Registers) → r ≡ regs → sorts.class_of (get_or kinds st.item.0 0) ≡ class.Plain
+      → Proposed machine m asked (plain_at machine (decode_of (get_or kinds st.item.0 0)) m r) → Asks asked
+  asks_plain asked r e q p =
       record { effect = p.effect ∙ plain_effect machine image.base.0 (listed kinds operands) (position_of m st) r (e ∙ regs_is) q; fits = p.fits }
 
   -- an item that takes an operand: the registers r, at the address behind it, with x in A
-  module _ (shape : Shape) (r : Registers) (ep : Address) (x : ℕ) (back : CellCount) (made : r ≡ registers_for ep.0 x st)
+  module _ (asked : Asked) (r : Registers) (ep : Address) (x : ℕ) (back : CellCount) (made : r ≡ registers_for ep.0 x st)
       (there : ep ≡ address (image.base.0 + 4 * back.0)) (follows : back ≡ cell_count (behind_in table st.item.0))
-      (p : Proposed machine m shape (taking_at machine form.Immediate (taking_kind (get_or kinds st.item.0 0)) m r)) where
+      (p : Proposed machine m asked (taking_at machine form.Immediate (taking_kind (get_or kinds st.item.0 0)) m r)) where
     ep_is : r.ep ≡ image.base.0 + 4 * behind_in table st.item.0
     ep_is = rw (made, there, follows)
 
@@ -77,7 +76,7 @@ module _ (kinds operands table : List ℕ) (image : Image) (s : Settled kinds op
     behind_it : r.ep ≡ behind image.base.0 (listed kinds operands) st.item.0
     behind_it = ep_is ∙ behind_is kinds operands table image s st.item.0 h
 
-    pub asks_literal : sorts.class_of (get_or kinds st.item.0 0) ≡ class.Literal → x ≡ get_or operands st.item.0 0 → Asks shape
+    pub asks_literal : sorts.class_of (get_or kinds st.item.0 0) ≡ class.Literal → x ≡ get_or operands st.item.0 0 → Asks asked
     asks_literal q e =
         record {
           effect =
@@ -88,7 +87,7 @@ module _ (kinds operands table : List ℕ) (image : Image) (s : Settled kinds op
         }
 
     pub asks_branch : sorts.class_of (get_or kinds st.item.0 0) ≡ class.Branch → (to : CellCount) → x ≡ distance back.0 to.0
-        → to ≡ cell_count (place_in table (get_or operands st.item.0 0)) → Asks shape
+        → to ≡ cell_count (place_in table (get_or operands st.item.0 0)) → Asks asked
     asks_branch q to e f =
         let g : r.a ≡ distance (behind_in table st.item.0) (place_in table (get_or operands st.item.0 0)) = a_is ∙ e ∙ rw (follows, f) in
         record {

@@ -1,4 +1,6 @@
 // What an item asks for.
+#![tactic(auto, using(list_tables::proofs::TableLaws::in_rows, list_tables::proofs::TableLaws::next_near, list_tables::proofs::TableLaws::behind_near, list_tables::proofs::TableLaws::target_in, crate::proofs::KindLaws::plain_some))]
+
 ghost use Rattle.std.specs.Prelude.{◌≡◌, ◌+◌, ◌*◌, ◌≤◌, ◌<◌, ◌^◌, length};
 ghost use Rattle.machine.specs.Places as places;
 ghost use Rattle.cell.specs.Refusals.{Lent};
@@ -9,8 +11,8 @@ ghost use Rattle.list_tables.specs.Tables as tables;
 ghost use Rattle.list_proposing.specs.Stands as stands;
 
 use crate::Stand;
-use cell::Address;
 use cell::place::address_at;
+use cell::{Address, Fault};
 use list_effects::from_01::propose_from_01;
 use list_effects::taking::propose_taking;
 use list_shapes::Shape;
@@ -27,7 +29,7 @@ fn registers_for(ep: Address, a: u32, s: Stand) -> Registers
 {
     Registers {
         ep: ep.0,
-        a: a,
+        a,
         sp: s.sp,
         rp: s.rp,
     }
@@ -39,8 +41,7 @@ pub fn registers_at(table: &[u32], base: Address, s: Stand) -> Registers
     requires item_bound_2 { base.0 + 4 * tables.next_in table.now s.item.0 < 2 ^ 32 }
     ensures { result ≡ stands.registers_for (base.0 + 4 * tables.next_in table.now s.item.0) 0 s }
 {
-    let item = s.item;
-    registers_for(address_at(base, next_of(table, item)), 0, s)
+    registers_for(address_at(base, next_of(table, s.item)), 0, s)
 }
 
 // What an item asks for. An operand goes to the instruction in A, from which the address of a branch's target is measured. A listing that was accepted
@@ -53,7 +54,7 @@ pub fn shape_of(
     table: &[u32],
     image: Image,
     s: Stand,
-) -> Shape
+) -> Result<Shape, Fault>
     requires lent { (Lent (length memory.now)) × (places.Fits machine (length memory.now)) }
     requires settled { tables.Settled kinds.now operands.now table.now image }
     requires item_in_bounds { s.item.0 < length kinds.now }
@@ -66,8 +67,7 @@ pub fn shape_of(
     let x = operands[i];
     let base = image.base;
     let behind = behind_of(table, item);
-    let c = class_of(kind);
-    match c {
+    match class_of(kind) {
         Class::Plain => propose_from_01(machine, memory, registers_at(table, base, s), opcode),
         Class::Literal => {
             let r = registers_for(address_at(base, behind), x, s);
@@ -78,6 +78,6 @@ pub fn shape_of(
             let r = registers_for(address_at(base, behind), to, s);
             propose_taking(machine, memory, r, opcode)
         }
-        Class::NoKind => propose_from_01(machine, memory, registers_at(table, base, s), 1),
+        Class::NoKind => Err(Fault::Illegal),
     }
 }

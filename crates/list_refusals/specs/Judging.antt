@@ -1,7 +1,6 @@
 -- What refuses a run of the list machine on a lent memory, in document 01's order.
 use Rattle.std.specs.Prelude.{List, ℕ}
-use Rattle.cell.specs.Refusals.{after}
-use Rattle.cell.specs.declared.Judged.{Judged}
+use Rattle.cell.specs.Refusals.{after, Judged}
 use Rattle.machine.specs.declared.Table.{Table}
 use Rattle.bounds.specs.Bounds.{judge_bounded}
 use Rattle.areas.specs.declared.Areas.{Areas}

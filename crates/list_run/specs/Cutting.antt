@@ -1,17 +1,15 @@
 -- A run in two calls. Document 01, Listings: a run is the items that the machine carries out, one after the other; so it may be cut at any item.
-use Rattle.std.specs.Prelude.{◌≡◌, ◌≢◌, List, ℕ, ◌+◌}
+use Rattle.std.specs.Prelude.{◌≡◌, ◌≢◌, List, ℕ, ◌+◌, Ok, Err}
 use Rattle.machine.specs.declared.Table.{Table}
 use Rattle.areas.specs.declared.Areas.{Areas}
 use Rattle.list_proposing.specs.declared.Stand.{Stand}
-use Rattle.list_following.specs.declared.Followed.{Followed}
-use Rattle.list_following.specs.declared.Followed.TheVariants as followed
-use Rattle.list_following.specs.Follow.{FollowResult, followed_to, resume_of}
+use Rattle.list_following.specs.Follow.{FollowResult, followed_to, resume_of, Followed}
 
 -- an answer, with the items and cycles of the call before it
 abbrev pub with_counts : ℕ → ℕ → Followed → Followed
-with_counts items cycles (followed.Refused r) = followed.Refused r
-with_counts items cycles (followed.Run x) =
-    followed.Run (record { stand = x.stand; items = items + x.items; cycles = cycles + x.cycles; ending = x.ending })
+with_counts items cycles (Err r) = Err r
+with_counts items cycles (Ok x) =
+    Ok (record { stand = x.stand; items = items + x.items; cycles = cycles + x.cycles; ending = x.ending })
 
 -- two calls as one: what the second left, with the counts of both
 abbrev pub joined_to : Stand → FollowResult → FollowResult → FollowResult

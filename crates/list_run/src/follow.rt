@@ -1,4 +1,6 @@
 // list_run and list_resume: a number of items of a listing.
+#![tactic(auto, using(crate::proofs::Packed::as_packed))]
+
 ghost use Rattle.std.specs.Prelude.{◌≡◌, false, length};
 ghost use Rattle.bounds.specs.Bounds.{machine_of};
 ghost use Rattle.pack_layout.specs.Listing.{listed};
@@ -6,8 +8,8 @@ ghost use Rattle.list_following.specs.Follow as follows;
 ghost use Rattle.list_run.specs.Packed as packed;
 
 use areas::Areas;
-use cell::{Address, Judged};
-use list_following::Followed;
+use cell::{Address, Refusal};
+use list_counting::ItemRun;
 use list_following::follow::follow_within;
 use list_proposing::Stand;
 use machine::Table;
@@ -27,15 +29,10 @@ pub fn list_resume(
     sp: u32,
     rp: u32,
     items: u32,
-) -> Followed
+) -> Result<ItemRun, Refusal>
     ensures { follows.followed_to memory.new (follows.stand_at item.0 ran sp rp) result ≡ follows.resume_of order areas table kinds.now operands.now base.0 memory.old (follows.stand_at item.0 ran sp rp) items }
 {
-    let start = Stand {
-        item: item,
-        ran: ran,
-        sp: sp,
-        rp: rp,
-    };
+    let start = Stand { item, ran, sp, rp };
     follow_within(
         order,
         areas,
@@ -46,7 +43,7 @@ pub fn list_resume(
         memory,
         start,
         items,
-        Judged::Passed,
+        Ok(()),
     )
 }
 
@@ -62,7 +59,7 @@ pub fn list_run(
     sp: u32,
     rp: u32,
     items: u32,
-) -> Followed
+) -> Result<ItemRun, Refusal>
     ensures result_after { follows.followed_to memory.new (follows.stand_at 0 false sp rp) result ≡ follows.follow_of order areas table kinds.now operands.now base.0 memory.old sp rp items }
     ensures as_packed { packed.AsPacked (machine_of order areas table (length memory.old)) base.0 (listed kinds.now operands.now) memory.old sp rp memory.new result }
 {

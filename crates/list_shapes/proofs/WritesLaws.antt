@@ -1,19 +1,15 @@
--- The places that a shape writes: the first bad one of a few, and whether ROLL's cells meet a range.
+-- Whether ROLL's cells meet a range.
 use mathlib.Core.Path.{◌≡◌, refl, sym, ◌∙◌, ap}
 use mathlib.Core.Bool.{Bool, true, false, ◌&&◌, ◌||◌, or-false}
-use mathlib.Core.List.{List, [], ◌∷◌}
+use mathlib.Core.List.{List}
 use Prim.Native.Nat.{ℕ, zero, suc, ◌+◌, ◌*◌, ◌<◌, ◌≤◌}
 use native.Mathlib.Decide.{dec_lt}
 use native.Mathlib.Omega.{arith}
 use borrow.Author.Tests.{lt-ltb, le-ltb}
 use lib.Dec.{ltb}
 use Rattle.cell.specs.Memory.{cell_at}
-use Rattle.machine.specs.Effects.{Store, store_of, roll_stores, rolled}
-use Rattle.machine.specs.Commits.{first_bad, places_of, touches}
-use Rattle.machine.specs.declared.Machine.{Machine}
-use Rattle.machine.specs.declared.Access.{Access}
-use Rattle.machine.specs.declared.Write.{Write}
-use Rattle.machine.proofs.CommitLaws.{first_good}
+use Rattle.machine.specs.Effects.{roll_stores, rolled}
+use Rattle.machine.specs.Commits.{touches}
 
 -- the test of one range of bytes against another
 pub test_true : (a w lo hi : ℕ) → a < hi → lo < a + w → (ltb a hi && ltb lo (a + w)) ≡ true
@@ -69,20 +65,3 @@ rolled_touches order m top zero lo hi h = refl
 rolled_touches order m top (suc u) lo hi h =
     ap (λ (b : Bool). b && (ltb top hi && ltb lo (top + (4 * suc u + 4)))) (lt-ltb 0 (suc u) (omega arith))
     ∙ sym (roll_touches order m top (cell_at order m (top + 4 * suc u)) lo hi h (suc u))
-
--- one cell, whatever it is written for
-pub touches_one : (access : Access) (w : Write) (lo hi : ℕ)
-    → (ltb w.at.0 hi && ltb lo (w.at.0 + 4)) ≡ touches lo hi (store_of access w ∷ [])
-unfolding touches
-touches_one access w lo hi = sym (or-false _)
-
--- one store more
-pub places_more : (machine : Machine) (len : ℕ) (s : Store) (ss : List Store)
-    → first_bad (places_of machine len (s ∷ [])) (places_of machine len ss) ≡ places_of machine len (s ∷ ss)
-unfolding places_of
-places_more machine len s ss = rw first_good
-
-pub touches_more : (lo hi : ℕ) (s : Store) (ss : List Store)
-    → (touches lo hi (s ∷ []) || touches lo hi ss) ≡ touches lo hi (s ∷ ss)
-unfolding touches
-touches_more lo hi s ss = rw or-false

@@ -1,12 +1,13 @@
 -- The effect that a shape of the code stands for, and what is asked of it before it is carried out. Document 01, The processor: its places are
 -- judged in the order in which they are written, and the first bad one is the fault.
-use Rattle.std.specs.Prelude.{◌≡◌, List, [], ◌∷◌, ℕ, eqb, length}
+use Rattle.std.specs.Prelude.{◌≡◌, List, [], ◌∷◌, ℕ, eqb, length, Result, IfOk}
 use Prim.{Unit}
 use Rattle.cell.specs.Choice.{if}
-use Rattle.cell.specs.declared.Checked.{Checked}
+use Rattle.cell.specs.Place.{Checked}
+use Rattle.cell.specs.declared.Fault.{Fault}
 use Rattle.machine.specs.Places.{access_to}
-use Rattle.machine.specs.Effects.{Store, Effect, effect_of, store_of, byte_stores, rolled, Reached}
-use Rattle.machine.specs.Commits.{first_bad, fault_of, places_of}
+use Rattle.machine.specs.Effects.{Store, Effect, effect_of, asked, store_of, maybe_stores, byte_stores, rolled, Reached}
+use Rattle.machine.specs.Commits.{places_of}
 use Rattle.machine.specs.declared.Machine.{Machine}
 use Rattle.machine.specs.declared.Access.TheVariants.{DataWrite, ReturnWrite}
 use Rattle.machine.specs.declared.Then.{Then}
@@ -48,7 +49,7 @@ shape_then (TwoReturns e) = e.then
 abbrev pub shape_stores : Machine → List ℕ → Shape → List Store
 shape_stores machine m (None e) = []
 shape_stores machine m (One e) = store_of (access_to e.target) e.write ∷ []
-shape_stores machine m (Maybe e) = if e.writes (store_of (access_to e.target) e.write ∷ []) []
+shape_stores machine m (Maybe e) = maybe_stores (access_to e.target) e.write
 shape_stores machine m (Two e) = store_of DataWrite e.first ∷ store_of DataWrite e.second ∷ []
 shape_stores machine m (Three e) = store_of DataWrite e.first ∷ store_of DataWrite e.second ∷ store_of DataWrite e.third ∷ []
 shape_stores machine m (Byte e) = byte_stores e
@@ -69,14 +70,18 @@ Fits (Byte e) = Unit
 Fits (Roll e) = Reached e
 Fits (TwoReturns e) = Unit
 
--- a shape that stands for an effect
-pub record Proposed (machine : Machine) (m : List ℕ) (s : Shape) (e : Effect) : Type 0 where
-  pub effect : shape_effect machine m s ≡ e
-  pub fits : Fits s
+-- what the code of an instruction answers: the shape of its effect, or the fault of its reading
+abbrev pub Asked : Type 0
+Asked = Result Shape Fault
 
--- the fault of the reading, or the first bad place
+-- an answer that stands for an effect
+pub record Proposed (machine : Machine) (m : List ℕ) (s : Asked) (e : Effect) : Type 0 where
+  pub effect : asked (shape_effect machine m) s ≡ e
+  pub fits : IfOk s Fits
+
+-- the first bad place
 abbrev pub shape_fault : Machine → List ℕ → Shape → Checked
-shape_fault machine m s = first_bad (fault_of (shape_then s)) (places_of machine (length m) (shape_stores machine m s))
+shape_fault machine m s = places_of machine (length m) (shape_stores machine m s)
 
 -- the instruction of a kind that takes an operand; 52h is the last of them
 abbrev pub taking_kind : ℕ → Taking

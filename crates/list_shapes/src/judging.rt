@@ -1,13 +1,14 @@
 // What a shape would write, and whether it may.
-ghost use Rattle.std.specs.Prelude.{◌≡◌, ◌&&◌, ◌||◌, [], ◌∷◌, ◌+◌, ◌*◌, ◌<◌, ltb, length};
+#![tactic(auto, using(crate::proofs::WritesLaws::rolled_touches, machine::proofs::CommitLaws::first_good), unfolding(machine::specs::Commits::places_of, machine::specs::Commits::touches))]
+
+ghost use Rattle.std.specs.Prelude.{◌≡◌, ◌&&◌, [], ◌∷◌, ◌+◌, ◌*◌, ◌<◌, ltb, length};
 ghost use Rattle.machine.specs.Places as places;
 ghost use Rattle.machine.specs.Effects as effects;
 ghost use Rattle.machine.specs.Commits as commits;
 ghost use Rattle.list_shapes.specs.Shapes as shapes;
 
 use crate::Shape;
-use cell::{Address, CellCount, Checked};
-use commits::commit::fault_of;
+use cell::{Address, CellCount, Fault};
 use commits_roll::check_roll;
 use machine::places::{check_byte_write, check_target};
 use machine::{Machine, Target, Then, Write};
@@ -28,102 +29,43 @@ pub fn then_of(shape: Shape) -> Then
     }
 }
 
-// Of two checks in order, the first bad one.
-fn first_bad(a: Checked, b: Checked) -> Checked
-    ensures { result ≡ commits.first_bad a b }
-{
-    match a {
-        Checked::Good => b,
-        Checked::Bad(f) => Checked::Bad(f),
-    }
-}
-
-fn check_write(machine: Machine, target: Target, length: usize, w: Write) -> Checked
+fn check_write(machine: Machine, target: Target, length: usize, w: Write) -> Result<(), Fault>
     requires { places.Fits machine length }
     ensures { result ≡ commits.places_of machine length (effects.store_of (places.access_to target) w ∷ []) }
 {
-    let at = w.at;
-    check_target(machine, target, length, at)
+    check_target(machine, target, length, w.at)
 }
 
-// Every place that a shape would write.
-fn check_places(machine: Machine, memory: &[u8], shape: Shape) -> Checked
-    requires fits { places.Fits machine (length memory.now) }
-    requires fits_2 { shapes.Fits shape }
-    ensures { result ≡ commits.places_of machine (length memory.now) (shapes.shape_stores machine memory.now shape) }
-{
-    let n = memory.len();
-    match shape {
-        Shape::None(_) => Checked::Good,
-        Shape::One(e) => {
-            let target = e.target;
-            let w = e.write;
-            check_write(machine, target, n, w)
-        }
-        Shape::Maybe(e) => {
-            let target = e.target;
-            let w = e.write;
-            if e.writes {
-                return check_write(machine, target, n, w);
-            }
-            Checked::Good
-        }
-        Shape::Two(e) => {
-            let w = e.first;
-            let w2 = e.second;
-            first_bad(
-                check_write(machine, Target::Data, n, w),
-                check_write(machine, Target::Data, n, w2),
-            )
-        }
-        Shape::Three(e) => {
-            let w = e.first;
-            let w2 = e.second;
-            let w3 = e.third;
-            first_bad(
-                check_write(machine, Target::Data, n, w),
-                first_bad(
-                    check_write(machine, Target::Data, n, w2),
-                    check_write(machine, Target::Data, n, w3),
-                ),
-            )
-        }
-        Shape::Byte(e) => {
-            let at = e.at;
-            check_byte_write(machine, n, at)
-        }
-        Shape::Roll(e) => {
-            let top = e.top;
-            let depth = e.depth;
-            check_roll(machine, memory, top, depth)
-        }
-        Shape::TwoReturns(e) => {
-            let w = e.first;
-            let w2 = e.second;
-            first_bad(
-                check_write(machine, Target::Return, n, w),
-                check_write(machine, Target::Return, n, w2),
-            )
-        }
-    }
-}
-
-// The fault of the reading, or the first bad place.
-pub fn check_shape(machine: Machine, memory: &[u8], shape: Shape) -> Checked
+// Every place that a shape would write, up to the first bad one.
+pub fn check_shape(machine: Machine, memory: &[u8], shape: Shape) -> Result<(), Fault>
     requires fits { places.Fits machine (length memory.now) }
     requires fits_2 { shapes.Fits shape }
     ensures { result ≡ shapes.shape_fault machine memory.now shape }
 {
-    first_bad(
-        fault_of(then_of(shape)),
-        check_places(machine, memory, shape),
-    )
-}
-
-fn either(a: bool, b: bool) -> bool
-    ensures { result ≡ (a || b) }
-{
-    if a { true } else { b }
+    let n = memory.len();
+    match shape {
+        Shape::None(_) => Ok(()),
+        Shape::One(e) => check_write(machine, e.target, n, e.write),
+        Shape::Maybe(e) => match e.write {
+            Some(w) => check_write(machine, e.target, n, w),
+            None => Ok(()),
+        },
+        Shape::Two(e) => {
+            check_write(machine, Target::Data, n, e.first)?;
+            check_write(machine, Target::Data, n, e.second)
+        }
+        Shape::Three(e) => {
+            check_write(machine, Target::Data, n, e.first)?;
+            check_write(machine, Target::Data, n, e.second)?;
+            check_write(machine, Target::Data, n, e.third)
+        }
+        Shape::Byte(e) => check_byte_write(machine, n, e.at),
+        Shape::Roll(e) => check_roll(machine, memory, e.top, e.depth),
+        Shape::TwoReturns(e) => {
+            check_write(machine, Target::Return, n, e.first)?;
+            check_write(machine, Target::Return, n, e.second)
+        }
+    }
 }
 
 // Whether `width` bytes from `at` on have one from lo up to, and without, hi.
@@ -131,26 +73,19 @@ pub fn meets(at: Address, width: u64, lo: Address, hi: Address) -> bool
     requires { width < 0x800000000 }
     ensures { result ≡ (ltb at.0 hi.0 && ltb lo.0 (at.0 + width)) }
 {
-    if at.0 < hi.0 {
-        return (lo.0 as u64) < at.0 as u64 + width;
-    }
-    false
+    at.0 < hi.0 && (lo.0 as u64) < at.0 as u64 + width
 }
 
 fn meets_write(w: Write, lo: Address, hi: Address) -> bool
     ensures { result ≡ (ltb w.at.0 hi.0 && ltb lo.0 (w.at.0 + 4)) }
 {
-    let at = w.at;
-    meets(at, 4, lo, hi)
+    meets(w.at, 4, lo, hi)
 }
 
 fn meets_roll(top: Address, depth: CellCount, lo: Address, hi: Address) -> bool
     ensures { result ≡ (ltb 0 depth.0 && (ltb top.0 hi.0 && ltb lo.0 (top.0 + (4 * depth.0 + 4)))) }
 {
-    if 0 < depth.0 {
-        return meets(top, 4 * (depth.0 as u64) + 4, lo, hi);
-    }
-    false
+    0 < depth.0 && meets(top, 4 * (depth.0 as u64) + 4, lo, hi)
 }
 
 // Whether a shape would write a byte from lo up to, and without, hi.
@@ -160,44 +95,19 @@ pub fn writes(machine: Machine, memory: &[u8], shape: Shape, lo: Address, hi: Ad
 {
     match shape {
         Shape::None(_) => false,
-        Shape::One(e) => {
-            let w = e.write;
-            meets_write(w, lo, hi)
-        }
-        Shape::Maybe(e) => {
-            let w = e.write;
-            if e.writes {
-                return meets_write(w, lo, hi);
-            }
-            false
-        }
-        Shape::Two(e) => {
-            let w = e.first;
-            let w2 = e.second;
-            either(meets_write(w, lo, hi), meets_write(w2, lo, hi))
-        }
+        Shape::One(e) => meets_write(e.write, lo, hi),
+        Shape::Maybe(e) => match e.write {
+            Some(w) => meets_write(w, lo, hi),
+            None => false,
+        },
+        Shape::Two(e) => meets_write(e.first, lo, hi) || meets_write(e.second, lo, hi),
         Shape::Three(e) => {
-            let w = e.first;
-            let w2 = e.second;
-            let w3 = e.third;
-            either(
-                meets_write(w, lo, hi),
-                either(meets_write(w2, lo, hi), meets_write(w3, lo, hi)),
-            )
+            meets_write(e.first, lo, hi)
+                || meets_write(e.second, lo, hi)
+                || meets_write(e.third, lo, hi)
         }
-        Shape::Byte(e) => {
-            let at = e.at;
-            meets(at, 1, lo, hi)
-        }
-        Shape::Roll(e) => {
-            let top = e.top;
-            let depth = e.depth;
-            meets_roll(top, depth, lo, hi)
-        }
-        Shape::TwoReturns(e) => {
-            let w = e.first;
-            let w2 = e.second;
-            either(meets_write(w, lo, hi), meets_write(w2, lo, hi))
-        }
+        Shape::Byte(e) => meets(e.at, 1, lo, hi),
+        Shape::Roll(e) => meets_roll(e.top, e.depth, lo, hi),
+        Shape::TwoReturns(e) => meets_write(e.first, lo, hi) || meets_write(e.second, lo, hi),
     }
 }

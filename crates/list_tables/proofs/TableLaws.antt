@@ -14,7 +14,7 @@ use Rattle.pack_layout.specs.declared.Class.TheVariants as class
 use Rattle.pack_layout.specs.declared.ItemForm.{ItemForm}
 use Rattle.pack_layout.specs.Flags.{bit, Flags, flagged}
 use Rattle.pack_layout.specs.Listing.{Listing, listed, entry, Checked}
-use Rattle.pack_layout.specs.Layout.{extra, opens, mid, left, form_at, Laid}
+use Rattle.pack_layout.specs.Layout.{extra, opens, mid, form_at, Laid}
 use Rattle.pack_layout.specs.Packing as packing
 use Rattle.pack_layout.specs.Packing.{marks as marks_of, form_of, layout, image_cells, address_of, ep_value, behind, entry_at}
 use Rattle.pack_layout.proofs.Packing.{Placed, base_of}
@@ -23,10 +23,6 @@ use Rattle.pack_layout.proofs.Listing.{target_below, some_item}
 use Rattle.list_machine.specs.ListMachine.{is_immediate}
 use Rattle.list_tables.specs.Tables.{place_in, next_in, behind_in, flags_in, flags_of, entry_in, opens_in, immediate_in, rows, with_row, entry_below, Near, Row, Rows, Settled}
 use Rattle.list_tables.specs.declared.Image.{Image}
-
-pub bit_low : (b : Bool) (x : ℕ) → x ≡ bit b → x ≤ 1
-bit_low true x e = omega arith
-bit_low false x e = omega arith
 
 -- the three flags, taken out of their number again
 entered_out : (a b c : Bool) → eqb (flags_of a b c % 2) 1 ≡ a
@@ -124,9 +120,6 @@ module _ (table : List ℕ) (i at next behind flags : ℕ) (fits : 4 * i + 4 ≤
     one_more rs j h =
         ⊎_elim (λ (e : j ≡ i). rw e here) (λ (e : j < i). before j e (rs j e))
         (eq-or-lt_of_le (let t : j ≤ i = omega arith in t))
-
-pub all_rows : (l : Listing) (table : List ℕ) (i n : ℕ) → n ≤ i → Rows l table i → Rows l table n
-all_rows l table i n h rs j k = rs j (omega arith)
 
 -- the arrays of a layout, read for the row of item i
 module _ (kinds operands entries marks ats nexts lefts : List ℕ) (checked : Checked kinds operands)

@@ -1,13 +1,11 @@
 -- What the code is handed: a listing in two arrays, its settled layout in one table with four numbers for each item, and where its image is to stand.
-use Rattle.std.specs.Prelude.{◌≡◌, Bool, ◌&&◌, List, ℕ, zero, suc, ◌+◌, ◌*◌, ◌/◌, ◌%◌, ◌^◌, ◌≤◌, ◌<◌, eqb, length, get_or, set}
+use Rattle.std.specs.Prelude.{◌≡◌, Bool, ◌&&◌, List, ℕ, zero, suc, ◌+◌, ◌*◌, ◌/◌, ◌%◌, ◌^◌, ◌≤◌, ◌<◌, eqb, length, get_or, set, Some, None}
+use Rattle.cell.specs.Refusals.{passed}
 use Rattle.cell.specs.Choice.{if}
-use Rattle.cell.specs.declared.Judged.TheVariants.{Passed}
 use Rattle.pack_layout.specs.Flags.{bit}
 use Rattle.pack_layout.specs.Listing.{Listing, listed, entry, Checked}
 use Rattle.pack_layout.specs.Layout.{extra, opens, mid, form_at}
-use Rattle.pack_layout.specs.Packing.{layout, image_cells, judged_place}
-use Rattle.pack_layout.specs.declared.Entry.{Entry}
-use Rattle.pack_layout.specs.declared.Entry.TheVariants.{Item, Nothing}
+use Rattle.pack_layout.specs.Packing.{layout, image_cells, judged_place, Entry}
 use Rattle.list_machine.specs.ListMachine.{is_immediate}
 use Rattle.list_tables.specs.declared.Image.{Image}
 
@@ -48,9 +46,9 @@ with_row table i at next behind flags =
 
 -- the entry that an address leads to, among the first items, as many as k says
 unfoldable pub entry_below : List ℕ → ℕ → ℕ → ℕ → Entry
-entry_below table base zero a = Nothing
+entry_below table base zero a = None
 entry_below table base (suc i) a =
-    if (entry_in table i && eqb (base + 4 * place_in table i) a) (Item (record { 0 = i })) (entry_below table base i a)
+    if (entry_in table i && eqb (base + 4 * place_in table i) a) (Some (record { 0 = i })) (entry_below table base i a)
 
 -- few rows, and every cell that they name has an address
 pub record Near (table : List ℕ) (base : ℕ) : Type 0 where
@@ -74,4 +72,4 @@ pub record Settled (kinds operands table : List ℕ) (image : Image) : Type 0 wh
   pub whole : length table ≡ 4 * length kinds
   pub rows : Rows (listed kinds operands) table (length kinds)
   pub size : image.cells.0 ≡ image_cells (listed kinds operands)
-  pub place : judged_place image.base.0 image.cells.0 ≡ Passed
+  pub place : judged_place image.base.0 image.cells.0 ≡ passed

@@ -1,4 +1,6 @@
 // The table of a listing that the input list passed.
+#![tactic(auto, using(pack_prepare::proofs::Checking::items_most))]
+
 ghost use Rattle.std.specs.Prelude.{◌≡◌, ◌*◌, length};
 ghost use Rattle.cell.specs.Memory.{cell_count};
 ghost use Rattle.pack_layout.specs.Listing.{listed, Checked};

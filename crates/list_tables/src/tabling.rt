@@ -16,11 +16,7 @@ use pack_rounds::place::form_of;
 fn is_short(form: ItemForm) -> bool
     ensures { result ≡ lists.is_immediate form }
 {
-    match form {
-        ItemForm::Alone => false,
-        ItemForm::Immediate => true,
-        ItemForm::InCell => false,
-    }
+    matches!(form, ItemForm::Immediate)
 }
 
 // The operand cells of a form.
@@ -28,22 +24,15 @@ fn extra_of(form: ItemForm) -> CellCount
     ensures { result ≡ cell_count (placing.extra form) }
 {
     match form {
-        ItemForm::Alone => CellCount(0),
-        ItemForm::Immediate => CellCount(0),
+        ItemForm::Alone | ItemForm::Immediate => CellCount(0),
         ItemForm::InCell => CellCount(1),
     }
-}
-
-fn bit_of(flag: bool) -> u32
-    ensures { result ≡ bit flag }
-{
-    if flag { 1 } else { 0 }
 }
 
 fn flags_for(entered: bool, opened: bool, immediate: bool) -> u32
     ensures { result ≡ tables.flags_of entered opened immediate }
 {
-    bit_of(entered) + 2 * bit_of(opened) + 4 * bit_of(immediate)
+    u32::from(entered) + 2 * u32::from(opened) + 4 * u32::from(immediate)
 }
 
 // The row of an item.
@@ -66,6 +55,7 @@ fn write_row(
 }
 
 // A row for each item, from the arrays that hold the entries, the marks and the layout.
+#[tactic(auto, using(pack_prepare::proofs::Checking::items_most))]
 pub fn tabulate(
     kinds: &[u8],
     operands: &[u32],
@@ -85,9 +75,7 @@ pub fn tabulate(
     requires laid { placing.Laid (layout (listed kinds.now operands.now)) ats.now nexts.now lefts.now (length kinds.now) }
     ensures { tables.Rows (listed kinds.now operands.now) table.new (length kinds.now) }
 {
-    let n = kinds.len();
-    let mut i: usize = 0;
-    while i < n {
+    for i in 0..kinds.len() {
         let left = lefts[i];
         let form = form_of(class_of(kinds[i]), marks[i] == 1, operands[i], left);
         let next = nexts[i];
@@ -102,6 +90,5 @@ pub fn tabulate(
             CellCount(behind),
             flags,
         );
-        i += 1;
     }
 }

@@ -1,11 +1,8 @@
 -- What is told of a run of the list machine, and where there is no room for it.
-use Rattle.std.specs.Prelude.{false, List, [], ◌∷◌, ℕ, ◌/◌, ◌%◌, ◌^◌, ◌≤◌}
+use Rattle.std.specs.Prelude.{false, List, [], ◌∷◌, ℕ, ◌/◌, ◌%◌, ◌^◌, ◌≤◌, Ok, Err}
 use Prim.{Unit}
-use Rattle.cell.specs.declared.Judged.{Judged}
-use Rattle.cell.specs.declared.Judged.TheVariants.{Passed}
-use Rattle.list_following.specs.Follow.{FollowResult, followed_to, stand_at}
-use Rattle.list_following.specs.declared.Followed.{Followed}
-use Rattle.list_following.specs.declared.Followed.TheVariants as followed
+use Rattle.cell.specs.Refusals.{Judged, passed}
+use Rattle.list_following.specs.Follow.{FollowResult, followed_to, stand_at, Followed}
 use Rattle.lent_arrays.specs.Lending.{written, area_list, areas_at, with_room}
 use Rattle.processor_calls.specs.Machines.{Told, told}
 
@@ -18,8 +15,8 @@ values_told pointers out s =
 
 -- a refusal leaves both as they were
 abbrev pub told_by : Followed → List ℕ → List ℕ → FollowResult → Told
-told_by (followed.Refused r) pointers out s = told pointers out s.number
-told_by (followed.Run x) pointers out s = values_told pointers out s
+told_by (Err r) pointers out s = told pointers out s.number
+told_by (Ok x) pointers out s = values_told pointers out s
 
 abbrev pub list_told : List ℕ → List ℕ → FollowResult → Told
 list_told pointers out s = told_by s.answer pointers out s
@@ -30,9 +27,9 @@ answer_told pointers out a = list_told pointers out (followed_to [] (stand_at 0 
 
 -- -4105, which comes last, for `pointers` and `out`
 unfoldable pub judge_lent : ℕ → ℕ → Judged
-judge_lent pointers out = with_room (with_room Passed pointers 6) out 5
+judge_lent pointers out = with_room (with_room passed pointers 6) out 5
 
 -- a run that is told has room in both
 abbrev pub Room : ℕ → ℕ → Followed → Type 0
-Room pointers out (followed.Refused r) = Unit {0}
-Room pointers out (followed.Run x) = (6 ≤ pointers) × (5 ≤ out)
+Room pointers out (Err r) = Unit {0}
+Room pointers out (Ok x) = (6 ≤ pointers) × (5 ≤ out)

@@ -6,9 +6,8 @@ use native.Mathlib.Omega.{arith}
 use lib.Dec.{ltb, leb, eqb}
 use borrow.Author.Tests.{ltb-true, ltb-false, leb-true, leb-false, eqb-true, eqb-false, lt-ltb, le-ltb}
 use Rattle.cell.specs.Number.{difference}
-use Rattle.cell.specs.Place.{address}
-use Rattle.cell.specs.declared.Checked.{Checked}
-use Rattle.cell.specs.declared.Checked.TheVariants.{Good, Bad}
+use Rattle.cell.specs.Place.{Checked, good, address}
+use Rattle.std.specs.Prelude.{Ok, Err}
 use Rattle.cell.specs.declared.Fault.TheVariants as fault
 use Rattle.cell.proofs.BooleanLaws.{both_true}
 use Rattle.machine.specs.Places.{Width, end_in, span_at, within, in_table, allowed, table_allows, aligned_as, fault_at, open_to, place_of}
@@ -113,25 +112,25 @@ found span len a t e p q =
 
 -- where the table is not asked
 pub open_read : (c : Checked) → open_to c true ≡ c
-open_read Good = refl
-open_read (Bad f) = refl
+open_read (Ok _) = refl
+open_read (Err f) = refl
 
 -- what the check of a place tells, by what it has found
 module _ (machine : Machine) (width : Width) (access : Access) (len a : ℕ) where
   pub place_good : a < len → (allowed machine access a && aligned_as width a) ≡ true → table_allows machine access a ≡ true
-      → place_of machine width access len a ≡ Good
+      → place_of machine width access len a ≡ good
   unfolding place_of
   place_good h e t = simp (lt-ltb a len h, e, t)
 
   pub place_guarded : a < len → (allowed machine access a && aligned_as width a) ≡ true → table_allows machine access a ≡ false
-      → place_of machine width access len a ≡ Bad fault.Table
+      → place_of machine width access len a ≡ Err fault.Table
   unfolding place_of
   place_guarded h e t = simp (lt-ltb a len h, e, t)
 
-  pub place_off : a < len → (allowed machine access a && aligned_as width a) ≡ false → place_of machine width access len a ≡ Bad (fault_at access a)
+  pub place_off : a < len → (allowed machine access a && aligned_as width a) ≡ false → place_of machine width access len a ≡ Err (fault_at access a)
   unfolding place_of
   place_off h e = simp (lt-ltb a len h, e)
 
-  pub place_outside : len ≤ a → place_of machine width access len a ≡ Bad (fault.Range (address a))
+  pub place_outside : len ≤ a → place_of machine width access len a ≡ Err (fault.Range (address a))
   unfolding place_of
   place_outside h = simp (le-ltb a len h)

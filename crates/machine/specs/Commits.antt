@@ -1,10 +1,9 @@
 -- The commit of an effect. Document 01, The processor: all places that an effect writes are judged before any is written, and the
 -- first bad one in that order is the fault; an instruction with a fault has changed neither memory nor SP, RP and EP.
-use Rattle.std.specs.Prelude.{List, [], ◌∷◌, Bool, false, ◌&&◌, ◌||◌, ℕ, ◌+◌, ltb, length, set}
+use Rattle.std.specs.Prelude.{List, [], ◌∷◌, Bool, false, ◌&&◌, ◌||◌, ℕ, ◌+◌, ltb, length, set, Result, Ok, Err}
 use Rattle.cell.specs.Memory.{store_cell}
 use Rattle.cell.specs.declared.Fault.{Fault}
-use Rattle.cell.specs.declared.Checked.{Checked}
-use Rattle.cell.specs.declared.Checked.TheVariants.{Good, Bad}
+use Rattle.cell.specs.Place.{Checked, good}
 use Rattle.machine.specs.Places.{Width, one_byte, one_cell, place_of}
 use Rattle.machine.specs.Effects.{Store, Control, go_on, jump, halt, throwing, Action, Effect, act, raise}
 use Rattle.machine.specs.declared.Machine.{Machine}
@@ -17,11 +16,11 @@ use Rattle.machine.specs.declared.Outcome.TheVariants.{Went, Next, Raise, Halt, 
 
 -- the first bad place among those to be written
 abbrev pub first_bad : Checked → Checked → Checked
-first_bad Good next = next
-first_bad (Bad f) next = Bad f
+first_bad (Ok _) next = next
+first_bad (Err f) next = Err f
 
 unfoldable pub places_of : Machine → ℕ → List Store → Checked
-places_of machine len [] = Good
+places_of machine len [] = good
 places_of machine len (s ∷ ss) = first_bad (place_of machine s.width s.access len s.at) (places_of machine len ss)
 
 -- one store made
@@ -49,43 +48,35 @@ controlled (jump a) r = record { registers = record { ep = a; a = r.a; sp = r.sp
 controlled (halt x) r = record { registers = r; outcome = Halt x }
 controlled throwing r = record { registers = r; outcome = Throw }
 
+-- what a commit answers, as a step: a fault is raised, with the registers as they were
+abbrev pub step_of : Registers → Result Step Fault → Step
+step_of r (Ok s) = s
+step_of r (Err f) = record { registers = r; outcome = Raise f }
+
 abbrev pub raised : List ℕ → Registers → Fault → Stepped
 raised m r f = record { memory = m; step = record { registers = r; outcome = Raise f } }
 
 -- an action whose places were judged
 abbrev pub carried_out : Machine → List ℕ → Registers → Action → Checked → Stepped
-carried_out machine m r x (Bad f) = raised m r f
-carried_out machine m r x Good =
+carried_out machine m r x (Err f) = raised m r f
+carried_out machine m r x (Ok _) =
     record {
       memory = stored_of machine m x.stores;
       step = controlled x.control (record { ep = r.ep; a = r.a; sp = x.sp; rp = x.rp });
     }
 
--- what the code's value says of a fault in its reading, and of what follows
-abbrev pub fault_of : Then → Checked
-fault_of then.GoOn = Good
-fault_of (then.Jump a) = Good
-fault_of (then.Halt x) = Good
-fault_of then.Throw = Good
-fault_of (then.Raise f) = Bad f
-
-abbrev pub raised_of : Registers → Checked → Step
-raised_of r Good = record { registers = r; outcome = Went }
-raised_of r (Bad f) = record { registers = r; outcome = Raise f }
-
+-- what the code's value says of what follows
 abbrev pub outcome_of : Then → Outcome
 outcome_of then.GoOn = Went
 outcome_of (then.Jump a) = Next
 outcome_of (then.Halt x) = Halt x
 outcome_of then.Throw = Throw
-outcome_of (then.Raise f) = Raise f
 
 abbrev pub ep_of : Then → ℕ → ℕ
 ep_of then.GoOn ep = ep
 ep_of (then.Jump a) ep = a.0
 ep_of (then.Halt x) ep = ep
 ep_of then.Throw ep = ep
-ep_of (then.Raise f) ep = ep
 
 abbrev pub settled_of : ℕ → ℕ → ℕ → ℕ → Then → Step
 settled_of ep a sp rp then =

@@ -1,17 +1,15 @@
 -- What an instruction asks for, before anything is written. Document 01, The processor: an instruction reads its operands, and
 -- then has the places that it writes judged; whichever fails first is its fault.
-use Rattle.std.specs.Prelude.{List, [], ◌∷◌, ℕ, zero, suc, ◌+◌, ◌*◌, ◌<◌, ◌^◌}
-use Rattle.cell.specs.Choice.{if}
+use Rattle.std.specs.Prelude.{List, [], ◌∷◌, ℕ, zero, suc, ◌+◌, ◌*◌, ◌<◌, ◌^◌, Option, Some, None, Result, Ok, Err}
 use Rattle.cell.specs.Memory.{cell_at, byte0}
 use Rattle.cell.specs.declared.Fault.{Fault}
-use Rattle.cell.specs.declared.Fetched.{Fetched}
-use Rattle.cell.specs.declared.Fetched.TheVariants.{Cell, Failed}
+use Rattle.cell.specs.Place.{Fetched}
 use Rattle.machine.specs.Places.{Width, one_byte, one_cell, access_to}
 use Rattle.machine.specs.declared.Access.{Access}
 use Rattle.machine.specs.declared.Access.TheVariants.{DataWrite, ReturnWrite, NamedWrite}
 use Rattle.machine.specs.declared.Write.{Write}
 use Rattle.machine.specs.declared.Then.{Then}
-use Rattle.machine.specs.declared.Then.TheVariants.{GoOn, Jump, Halt, Throw, Raise}
+use Rattle.machine.specs.declared.Then.TheVariants.{GoOn, Jump, Halt, Throw}
 use Rattle.machine.specs.declared.NoStore.{NoStore}
 use Rattle.machine.specs.declared.OneStore.{OneStore}
 use Rattle.machine.specs.declared.MaybeStore.{MaybeStore}
@@ -49,8 +47,8 @@ pub data Effect : Type 0 where
 
 -- a fetched cell is handed on; a fault is raised, and nothing after it is looked at
 abbrev pub fetched : Fetched → (ℕ → Effect) → Effect
-fetched (Cell x) k = k x
-fetched (Failed f) k = raise f
+fetched (Ok x) k = k x
+fetched (Err f) k = raise f
 
 -- a cell written
 abbrev pub cell_store : Access → ℕ → ℕ → Store
@@ -67,13 +65,20 @@ abbrev pub rolled : ℕ → List ℕ → ℕ → ℕ → List Store
 rolled order m top zero = []
 rolled order m top (suc u) = roll_stores order m top (cell_at order m (top + 4 * suc u)) (suc u)
 
+abbrev pub control_of : Then → Control
+control_of GoOn = go_on
+control_of (Jump a) = jump a.0
+control_of (Halt x) = halt x
+control_of Throw = throwing
+
 -- the effect that a value of the code stands for
 abbrev pub effect_of : ℕ → ℕ → List Store → Then → Effect
-effect_of sp rp stores GoOn = act (record { sp = sp; rp = rp; stores = stores; control = go_on })
-effect_of sp rp stores (Jump a) = act (record { sp = sp; rp = rp; stores = stores; control = jump a.0 })
-effect_of sp rp stores (Halt x) = act (record { sp = sp; rp = rp; stores = stores; control = halt x })
-effect_of sp rp stores Throw = act (record { sp = sp; rp = rp; stores = stores; control = throwing })
-effect_of sp rp stores (Raise f) = raise f
+effect_of sp rp stores then = act (record { sp = sp; rp = rp; stores = stores; control = control_of then })
+
+-- what the code of an instruction answers: an effect's value, or the fault of its reading
+abbrev pub asked : {A : Type 0} → (A → Effect) → Result A Fault → Effect
+asked effect (Ok e) = effect e
+asked effect (Err f) = raise f
 
 abbrev pub store_of : Access → Write → Store
 store_of access w = cell_store access w.at.0 w.value
@@ -84,8 +89,12 @@ no_store e = effect_of e.sp e.rp [] e.then
 abbrev pub one_store : OneStore → Effect
 one_store e = effect_of e.sp e.rp (store_of (access_to e.target) e.write ∷ []) e.then
 
+abbrev pub maybe_stores : Access → Option Write → List Store
+maybe_stores access (Some w) = store_of access w ∷ []
+maybe_stores access None = []
+
 abbrev pub maybe_store : MaybeStore → Effect
-maybe_store e = effect_of e.sp e.rp (if e.writes (store_of (access_to e.target) e.write ∷ []) []) e.then
+maybe_store e = effect_of e.sp e.rp (maybe_stores (access_to e.target) e.write) e.then
 
 abbrev pub two_stores : TwoStores → Effect
 two_stores e = effect_of e.sp e.rp (store_of DataWrite e.first ∷ store_of DataWrite e.second ∷ []) e.then

@@ -1,15 +1,12 @@
 -- Places and their accesses. One definition judges every place that an instruction touches. Document 01, The processor, and document 02, (a) and (b): a place
 -- outside memory is -9, then an unaligned one -23, then one off the stack's area has its own codes, then a write into the table is -20.
-use Rattle.std.specs.Prelude.{◌≡◌, Bool, true, not, ◌&&◌, List, ℕ, ◌+◌, ◌-◌, ◌*◌, ◌/◌, ◌%◌, ◌^◌, ◌≤◌, ltb, leb, eqb, length, get_or}
+use Rattle.std.specs.Prelude.{◌≡◌, Bool, true, not, ◌&&◌, List, ℕ, ◌+◌, ◌-◌, ◌*◌, ◌/◌, ◌%◌, ◌^◌, ◌≤◌, ltb, leb, eqb, length, get_or, Ok, Err}
 use Rattle.cell.specs.Choice.{if}
 use Rattle.cell.specs.Memory.{cell_at, cell_count}
-use Rattle.cell.specs.Place.{address, read}
+use Rattle.cell.specs.Place.{Checked, good, Fetched, address, read}
 use Rattle.cell.specs.declared.Fault.{Fault}
 use Rattle.cell.specs.declared.Fault.TheVariants.{Range, Alignment, Data, Return}
 use Rattle.cell.specs.declared.Fault.TheVariants as fault
-use Rattle.cell.specs.declared.Checked.{Checked}
-use Rattle.cell.specs.declared.Checked.TheVariants.{Good, Bad}
-use Rattle.cell.specs.declared.Fetched.{Fetched}
 use Rattle.machine.specs.declared.Span.{Span}
 use Rattle.machine.specs.declared.Table.{Table}
 use Rattle.machine.specs.declared.Guarded.{Guarded}
@@ -130,13 +127,17 @@ fault_at Push a = Data (address a)
 
 -- a place that nothing else is wrong with: the table is asked last, here for every write
 abbrev pub open_to : Checked → Bool → Checked
-open_to (Bad f) allows = Bad f
-open_to Good allows = if allows Good (Bad fault.Table)
+open_to (Err f) allows = Err f
+open_to (Ok _) allows = if allows good (Err fault.Table)
+
+-- a place in memory, or its fault: outside, or where the access may not have it
+abbrev pub placed : Bool → ℕ → ℕ → Fault → Checked
+placed may len a off = if (ltb a len) (if may good (Err off)) (Err (Range (address a)))
 
 -- whether a place may be touched
 unfoldable pub place_of : Machine → Width → Access → ℕ → ℕ → Checked
 place_of machine width access len a =
-    open_to (if (ltb a len) (if (allowed machine access a && aligned_as width a) Good (Bad (fault_at access a))) (Bad (Range (address a))))
+    open_to (placed (allowed machine access a && aligned_as width a) len a (fault_at access a))
     (table_allows machine access a)
 
 -- a cell of memory, or why it cannot be read

@@ -76,14 +76,14 @@ pub struct Write {
     pub value: u32,
 }
 
-// What follows has three types, one for each stage of a cycle. `Then` is what an instruction asks for, or the fault of its reading; in specs/ an effect
-// is the fault or has the other four as its `Control`. `Outcome` is what the commit made of it: a jump has set EP and NEXT is to come, and a bad place is
-// a fault too. `Ended` is what the cycle came to when that was carried out.
+// What follows has three types, one for each stage of a cycle. `Then` is what an instruction asks for; in specs/ it is the `Control` of an effect, and an
+// instruction whose reading fails answers its fault in place of all this. `Outcome` is what the commit made of it: a jump has set EP and NEXT is to come,
+// and a fault of the reading or of a place is to be raised. `Ended` is what the cycle came to when that was carried out.
 //   Then::GoOn      Outcome::Went      Ended::Went
 //   Then::Jump      Outcome::Next      Ended::Went; where NEXT fails, as Raise
 //   Then::Halt      Outcome::Halt      Ended::Stopped with its reason
 //   Then::Throw     Outcome::Throw     Ended::Went, or Stopped with -258 or -259
-//   Then::Raise     Outcome::Raise     Ended::Threw, or Stopped with -258 or -259
+//   Err(fault)      Outcome::Raise     Ended::Threw, or Stopped with -258 or -259
 
 // What an instruction asks for behind its writes.
 #[derive(Clone, Copy)]
@@ -92,11 +92,9 @@ pub enum Then {
     Jump(Address),
     Halt(u32),
     Throw,
-    Raise(Fault),
 }
 
-// What an instruction asks for, by the number of cells that it writes: the new stack pointers, the writes in order, and what follows. Where a fault
-// follows, pointers and writes are invented: the commit looks at the fault first, and never reads them.
+// What an instruction asks for, by the number of cells that it writes: the new stack pointers, the writes in order, and what follows.
 #[derive(Clone, Copy)]
 pub struct NoStore {
     pub sp: u32,
@@ -113,14 +111,13 @@ pub struct OneStore {
     pub then: Then,
 }
 
-// One write where `writes` says so, else none.
+// One write, or none.
 #[derive(Clone, Copy)]
 pub struct MaybeStore {
     pub sp: u32,
     pub rp: u32,
-    pub writes: bool,
     pub target: Target,
-    pub write: Write,
+    pub write: Option<Write>,
     pub then: Then,
 }
 

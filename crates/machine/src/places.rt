@@ -1,14 +1,15 @@
 // Places and fetches.
+#![tactic(auto, using(crate::proofs::SpanLaws::rotated_within, crate::proofs::SpanLaws::guards_byte, crate::proofs::SpanLaws::open_read), unfolding(crate::specs::Places::place_of, crate::specs::Places::fetch_of, crate::specs::Places::fetch_byte_of))]
+
 ghost use Rattle.std.specs.Prelude.{◌≡◌, ◌&&◌, ◌+◌, ◌*◌, ◌%◌, ◌≤◌, ◌^◌, eqb, length};
-ghost use Rattle.cell.specs.Memory.{cell_at};
-ghost use Rattle.cell.specs.Place.{read};
+ghost use Rattle.cell.specs.Place.{good};
 ghost use Rattle.machine.specs.Places as places;
 
 use crate::{Access, Guarded, Machine, Span, Table, Target};
 use cell::memory::load;
 use cell::number::subtract;
 use cell::place::{check_byte, check_cell};
-use cell::{Address, CellCount, Checked, Fault, Fetched};
+use cell::{Address, CellCount, Fault};
 
 // The bytes of a table, as they are asked for.
 pub fn guard(table: Table) -> Guarded
@@ -69,193 +70,176 @@ fn is_guarded(table: Guarded, address: Address) -> bool
     subtract(address.0, first.0) < table.bytes
 }
 
+// The place of one of so many cells of a stack, the highest at `last`: `off` is its fault where it lies in memory, but is none of these.
+fn check_within(
+    last: Address,
+    cells: CellCount,
+    length: usize,
+    address: Address,
+    off: Fault,
+) -> Result<(), Fault>
+    requires in_bounds { (last.0 % 4 ≡ 0) × (4 * cells.0 ≤ last.0 + 4) × (last.0 + 4 ≤ length) }
+    ensures { result ≡ places.placed (places.within (places.span_at last.0 cells.0) address.0 && eqb (address.0 % 4) 0) length address.0 off }
+{
+    if is_within(last, cells, address) {
+        return Ok(());
+    }
+    if (address.0 as usize) < length {
+        return Err(off);
+    }
+    Err(Fault::Range(address))
+}
+
+// A place that is written does not lie in the table.
+fn check_open(machine: Machine, address: Address) -> Result<(), Fault>
+    requires { machine.table.first.0 + machine.table.bytes ≤ 2 ^ 32 }
+    ensures { result ≡ places.open_to good (places.table_allows machine Access.NamedWrite address.0) }
+{
+    if is_guarded(machine.table, address) {
+        return Err(Fault::Table);
+    }
+    Ok(())
+}
+
 // A place that the data stack reads.
-pub fn check_data(machine: Machine, length: usize, address: Address) -> Checked
+pub fn check_data(machine: Machine, length: usize, address: Address) -> Result<(), Fault>
     requires { places.Fits machine length }
     ensures { result ≡ places.place_of machine places.one_cell Access.DataRead length address.0 }
 {
-    if is_within(
-        Address(machine.stack.last.0),
-        CellCount(machine.stack.cells.0),
+    let stack = machine.stack;
+    check_within(
+        stack.last,
+        stack.cells,
+        length,
         address,
-    ) {
-        return Checked::Good;
-    }
-    if (address.0 as usize) < length {
-        return Checked::Bad(Fault::Data(address));
-    }
-    Checked::Bad(Fault::Range(address))
+        Fault::Data(address),
+    )
 }
 
 // A place that the data stack writes: not the held cell, and not in the table.
-pub fn check_data_write(machine: Machine, length: usize, address: Address) -> Checked
+pub fn check_data_write(machine: Machine, length: usize, address: Address) -> Result<(), Fault>
     requires { places.Fits machine length }
     ensures { result ≡ places.place_of machine places.one_cell Access.DataWrite length address.0 }
 {
-    if is_within(
-        Address(machine.stack.last.0),
-        CellCount(machine.writes.0),
+    let stack = machine.stack;
+    check_within(
+        stack.last,
+        machine.writes,
+        length,
         address,
-    ) {
-        if is_guarded(machine.table, address) {
-            return Checked::Bad(Fault::Table);
-        }
-        return Checked::Good;
-    }
-    if (address.0 as usize) < length {
-        return Checked::Bad(Fault::Data(address));
-    }
-    Checked::Bad(Fault::Range(address))
+        Fault::Data(address),
+    )?;
+    check_open(machine, address)
 }
 
 // The place of a throw's code: the held cell too, but not in the table.
-pub fn check_push(machine: Machine, length: usize, address: Address) -> Checked
+pub fn check_push(machine: Machine, length: usize, address: Address) -> Result<(), Fault>
     requires { places.Fits machine length }
     ensures { result ≡ places.place_of machine places.one_cell Access.Push length address.0 }
 {
-    if is_within(
-        Address(machine.stack.last.0),
-        CellCount(machine.stack.cells.0),
-        address,
-    ) {
-        if is_guarded(machine.table, address) {
-            return Checked::Bad(Fault::Table);
-        }
-        return Checked::Good;
-    }
-    if (address.0 as usize) < length {
-        return Checked::Bad(Fault::Data(address));
-    }
-    Checked::Bad(Fault::Range(address))
+    check_data(machine, length, address)?;
+    check_open(machine, address)
 }
 
 // A place that the return stack reads.
-pub fn check_return(machine: Machine, length: usize, address: Address) -> Checked
+pub fn check_return(machine: Machine, length: usize, address: Address) -> Result<(), Fault>
     requires { places.Fits machine length }
     ensures { result ≡ places.place_of machine places.one_cell Access.ReturnRead length address.0 }
 {
-    if is_within(
-        Address(machine.returns.last.0),
-        CellCount(machine.returns.cells.0),
+    let returns = machine.returns;
+    check_within(
+        returns.last,
+        returns.cells,
+        length,
         address,
-    ) {
-        return Checked::Good;
-    }
-    if (address.0 as usize) < length {
-        return Checked::Bad(Fault::Return(address));
-    }
-    Checked::Bad(Fault::Range(address))
+        Fault::Return(address),
+    )
 }
 
 // A place that the return stack writes: not in the table.
-pub fn check_return_write(machine: Machine, length: usize, address: Address) -> Checked
+pub fn check_return_write(machine: Machine, length: usize, address: Address) -> Result<(), Fault>
     requires { places.Fits machine length }
     ensures { result ≡ places.place_of machine places.one_cell Access.ReturnWrite length address.0 }
 {
-    if is_within(
-        Address(machine.returns.last.0),
-        CellCount(machine.returns.cells.0),
-        address,
-    ) {
-        if is_guarded(machine.table, address) {
-            return Checked::Bad(Fault::Table);
-        }
-        return Checked::Good;
-    }
-    if (address.0 as usize) < length {
-        return Checked::Bad(Fault::Return(address));
-    }
-    Checked::Bad(Fault::Range(address))
+    check_return(machine, length, address)?;
+    check_open(machine, address)
 }
 
 // A cell of the instruction stream, or one that an operand names, to be read.
-pub fn check_named(machine: Machine, length: usize, address: Address) -> Checked
+pub fn check_named(machine: Machine, length: usize, address: Address) -> Result<(), Fault>
     ensures value { result ≡ places.place_of machine places.one_cell Access.Stream length address.0 }
     ensures value_2 { result ≡ places.place_of machine places.one_cell Access.NamedRead length address.0 }
 {
     check_cell(length, address)
 }
 
-// A judged place, to be written: not in the table.
-fn check_open(machine: Machine, address: Address, place: Checked) -> Checked
-    requires { machine.table.first.0 + machine.table.bytes ≤ 2 ^ 32 }
-    ensures { result ≡ places.open_to place (places.table_allows machine Access.NamedWrite address.0) }
+// A cell that an operand names, to be written: not in the table.
+fn check_named_write(machine: Machine, length: usize, address: Address) -> Result<(), Fault>
+    requires { places.Fits machine length }
+    ensures { result ≡ places.place_of machine places.one_cell Access.NamedWrite length address.0 }
 {
-    let Checked::Good = place else {
-        return place;
-    };
-    if is_guarded(machine.table, address) {
-        return Checked::Bad(Fault::Table);
-    }
-    Checked::Good
+    check_cell(length, address)?;
+    check_open(machine, address)
 }
 
 // The place of a store.
-pub fn check_target(machine: Machine, target: Target, length: usize, address: Address) -> Checked
+pub fn check_target(
+    machine: Machine,
+    target: Target,
+    length: usize,
+    address: Address,
+) -> Result<(), Fault>
     requires { places.Fits machine length }
     ensures { result ≡ places.place_of machine places.one_cell (places.access_to target) length address.0 }
 {
     match target {
         Target::Data => check_data_write(machine, length, address),
         Target::Return => check_return_write(machine, length, address),
-        Target::Named => check_open(machine, address, check_cell(length, address)),
+        Target::Named => check_named_write(machine, length, address),
     }
 }
 
 // A byte to be written: not in the table.
-pub fn check_byte_write(machine: Machine, length: usize, address: Address) -> Checked
+pub fn check_byte_write(machine: Machine, length: usize, address: Address) -> Result<(), Fault>
     requires { places.Fits machine length }
     ensures { result ≡ places.place_of machine places.one_byte Access.NamedWrite length address.0 }
 {
-    check_open(machine, address, check_byte(length, address))
-}
-
-// The cell at a place that was judged, or its fault.
-fn fetch_at(order: u8, memory: &[u8], address: Address, place: Checked) -> Fetched
-    requires { place ≡ Checked.Good → address.0 + 4 ≤ length memory.now }
-    ensures { result ≡ read place (cell_at order memory.now address.0) }
-{
-    match place {
-        Checked::Good => Fetched::Cell(load(order, memory, address)),
-        Checked::Bad(f) => Fetched::Failed(f),
-    }
+    check_byte(length, address)?;
+    check_open(machine, address)
 }
 
 // A cell of the data stack.
-pub fn fetch_data(machine: Machine, memory: &[u8], address: Address) -> Fetched
+pub fn fetch_data(machine: Machine, memory: &[u8], address: Address) -> Result<u32, Fault>
     requires { places.Fits machine (length memory.now) }
     ensures { result ≡ places.fetch_of machine Access.DataRead memory.now address.0 }
 {
-    let place = check_data(machine, memory.len(), address);
-    fetch_at(machine.order, memory, address, place)
+    check_data(machine, memory.len(), address)?;
+    Ok(load(machine.order, memory, address))
 }
 
 // A cell of the return stack.
-pub fn fetch_return(machine: Machine, memory: &[u8], address: Address) -> Fetched
+pub fn fetch_return(machine: Machine, memory: &[u8], address: Address) -> Result<u32, Fault>
     requires { places.Fits machine (length memory.now) }
     ensures { result ≡ places.fetch_of machine Access.ReturnRead memory.now address.0 }
 {
-    let place = check_return(machine, memory.len(), address);
-    fetch_at(machine.order, memory, address, place)
+    check_return(machine, memory.len(), address)?;
+    Ok(load(machine.order, memory, address))
 }
 
 // A cell of the instruction stream, or one that an operand names.
-pub fn fetch(machine: Machine, memory: &[u8], address: Address) -> Fetched
+pub fn fetch(machine: Machine, memory: &[u8], address: Address) -> Result<u32, Fault>
     requires { places.Fits machine (length memory.now) }
     ensures value { result ≡ places.fetch_of machine Access.Stream memory.now address.0 }
     ensures value_2 { result ≡ places.fetch_of machine Access.NamedRead memory.now address.0 }
 {
-    let place = check_named(machine, memory.len(), address);
-    fetch_at(machine.order, memory, address, place)
+    check_named(machine, memory.len(), address)?;
+    Ok(load(machine.order, memory, address))
 }
 
 // A byte that an operand names.
-pub fn fetch_byte(machine: Machine, memory: &[u8], address: Address) -> Fetched
+pub fn fetch_byte(machine: Machine, memory: &[u8], address: Address) -> Result<u32, Fault>
     ensures { result ≡ places.fetch_byte_of machine Access.NamedRead memory.now address.0 }
 {
-    let a = address.0 as usize;
-    match check_byte(memory.len(), address) {
-        Checked::Good => Fetched::Cell(memory[a] as u32),
-        Checked::Bad(f) => Fetched::Failed(f),
-    }
+    check_byte(memory.len(), address)?;
+    Ok(memory[address.0 as usize] as u32)
 }

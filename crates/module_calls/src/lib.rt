@@ -1,12 +1,11 @@
 // The calls from C for object modules. Each judges first, and writes nothing that was lent where it refuses.
-#![tactic(auto)]
+#![tactic(auto, using(lent_arrays::proofs::LendingLaws::roomy), unfolding(calls::specs::Modules::load_first_call, calls::specs::Modules::save_call))]
 
 ghost use Rattle.std.specs.Prelude.{◌≡◌};
 ghost use Rattle.calls.specs.Modules as modules;
 
-use calls::modules::{note_loaded, note_saved};
-use cell::judgement::refusal_number;
-use cell::{Address, CellCount, Judged};
+use calls::notes::{note_cells, note_count};
+use cell::{Address, CellCount};
 use lent_arrays::lending::with_room;
 use module_judging::judgement::{judge_load, judge_save};
 use module_loading::loading::load_first;
@@ -22,13 +21,12 @@ pub fn call_load_first(
 ) -> u32
     ensures { modules.moved memory.new out.new result ≡ modules.load_first_call order memory.old file.now address cells out.old }
 {
-    let judged = judge_load(memory.len(), order, file, Address(address));
+    let address = Address(address);
+    let cells = CellCount(cells);
+    let judged = judge_load(memory.len(), order, file, address);
     match with_room(judged, out.len(), 1) {
-        Judged::Refused(n) => refusal_number(n),
-        Judged::Passed => {
-            let answer = load_first(order, memory, file, Address(address), CellCount(cells));
-            note_loaded(answer, out)
-        }
+        Err(r) => u32::from(r),
+        Ok(()) => note_cells(load_first(order, memory, file, address, cells), out),
     }
 }
 
@@ -42,18 +40,11 @@ pub fn call_save(
 ) -> u32
     ensures { modules.moved output.new out.new result ≡ modules.save_call order memory.now address cells output.old out.old }
 {
-    let judged = judge_save(
-        memory.len(),
-        order,
-        Address(address),
-        CellCount(cells),
-        output.len(),
-    );
+    let address = Address(address);
+    let cells = CellCount(cells);
+    let judged = judge_save(memory.len(), order, address, cells, output.len());
     match with_room(judged, out.len(), 1) {
-        Judged::Refused(n) => refusal_number(n),
-        Judged::Passed => {
-            let answer = save_object(order, memory, Address(address), CellCount(cells), output);
-            note_saved(answer, out)
-        }
+        Err(r) => u32::from(r),
+        Ok(()) => note_count(save_object(order, memory, address, cells, output), out),
     }
 }

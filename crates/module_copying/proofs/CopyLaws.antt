@@ -1,13 +1,12 @@
--- The copy of cells: its length, its frame, its cells, and the invariant of its loop.
-use mathlib.Core.Path.{◌≡◌, refl, ap, ◌∙◌}
+-- The copy of cells: its length, its frame and its cells.
+use mathlib.Core.Path.{◌≡◌, refl, ◌∙◌}
 use mathlib.Core.List.{List}
 use mathlib.Core.Logic.{inl, inr, ⊎_elim}
 use Prim.Native.Nat.{ℕ, zero, suc, ◌+◌, ◌*◌, ◌≤◌, ◌<◌}
 use native.Mathlib.Nat.{eq-or-lt_of_le, le_of_suc-le-suc}
-use native.Mathlib.Numerals.{add-one}
 use native.Mathlib.Omega.{arith}
 use lib.ListN.{length}
-use Rattle.cell.specs.Memory.{cell_at, store_cell, Alike, Bytewise}
+use Rattle.cell.specs.Memory.{cell_at, Alike, Bytewise}
 use Rattle.cell.proofs.MemoryLaws.{store_length, Apart, alike_refl, alike_trans, cell_frame, cell_alike, cell_back, cell_below}
 use Rattle.module_copying.specs.Copies.{copied}
 
@@ -44,29 +43,3 @@ module _ (theirs ours : ℕ) (code m : List ℕ) (a : ℕ) where
       (omega arith) (omega arith)
       ∙ copied_cell low k (omega arith) i l)
       (eq-or-lt_of_le (le_of_suc-le-suc h))
-
--- where a copy of `count` cells stands after k of them
-pub record Copying (theirs ours : ℕ) (code m : List ℕ) (a count : ℕ) (now : List ℕ) (k : ℕ) : Type 0 where
-  pub within : k ≤ count
-  pub long : length now ≡ length m
-  pub so : now ≡ copied theirs ours code m a k
-
-module _ (theirs ours : ℕ) (code m : List ℕ) (a count : ℕ) where
-  pub copy_begins : Copying theirs ours code m a count m 0
-  unfolding copied
-  copy_begins = record { within = omega arith; long = refl; so = refl }
-
-  pub copy_goes_on : (now : List ℕ) (k x : ℕ) (next : List ℕ) → k < count → x ≡ cell_at theirs code (4 * k)
-      → next ≡ store_cell ours now (a + 4 * k) x → Copying theirs ours code m a count now k
-      → Copying theirs ours code m a count next (k + 1)
-  unfolding copied
-  copy_goes_on now k x next h e q s =
-      record {
-        within = omega arith;
-        long = ap length q ∙ store_length ours now (a + 4 * k) x ∙ s.long;
-        so = rw (add-one k) (cc s.so);
-      }
-
-  pub copy_ends : (now : List ℕ) (k : ℕ) → count ≤ k → Copying theirs ours code m a count now k
-      → now ≡ copied theirs ours code m a count
-  copy_ends now k h s = let e : count ≡ k = omega (arith, s.within) in rw e s.so

@@ -1,4 +1,6 @@
 // The copy of cells, in one pass and with no second buffer.
+#![tactic(auto, using(crate::proofs::CopyLaws::copied_length), unfolding(crate::specs::Copies::copied))]
+
 ghost use Rattle.std.specs.Prelude.{◌≡◌, ◌+◌, ◌*◌, ◌≤◌, length};
 ghost use Rattle.module_copying.specs.Copies as copies;
 
@@ -11,12 +13,9 @@ pub fn copy_at(theirs: u8, ours: u8, code: &[u8], bytes: &mut [u8], at: usize, c
     requires count_in_bounds_2 { at + 4 * count.0 ≤ length bytes.old }
     ensures { bytes.new ≡ copies.copied theirs ours code.now bytes.old at count.0 }
 {
-    let n = count.0 as usize;
-    let mut k = 0;
-    while k < n {
+    for k in 0..count.0 as usize {
         let x = load_at(theirs, code, 4 * k);
         store_at(ours, bytes, at + 4 * k, x);
-        k += 1;
     }
 }
 

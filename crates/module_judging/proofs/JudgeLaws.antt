@@ -4,14 +4,13 @@ use mathlib.Core.Bool.{Bool, true, false}
 use mathlib.Core.List.{List, [], ◌∷◌, ◌++◌}
 use Prim.Native.Nat.{ℕ}
 use Rattle.cell.specs.Choice.{if}
-use Rattle.cell.specs.Refusals.{Ground, judge, after, judge_machine, memory_length, byte_order, unaligned}
+use Rattle.cell.specs.Refusals.{Judged, Ground, judge, after, judge_machine, memory_length, byte_order, unaligned}
 use Rattle.cell.specs.declared.Refusal.{Refusal}
-use Rattle.cell.specs.declared.Judged.{Judged}
-use Rattle.cell.specs.declared.Judged.TheVariants.{Refused}
+use Rattle.std.specs.Prelude.{Err}
 use Rattle.module_judging.specs.Format.{count_of}
 use Rattle.module_judging.specs.Grounds.{header, file_length, outside, short_output, judge_file, judge_place, judge_load, judge_save}
 
-if_after : (t : Bool) (r : Refusal) (i j k : Judged) → k ≡ after i j → if t (Refused r) k ≡ after (if t (Refused r) i) j
+if_after : (t : Bool) (r : Refusal) (i j k : Judged) → k ≡ after i j → if t (Err r) k ≡ after (if t (Err r) i) j
 if_after true r i j k e = refl
 if_after false r i j k e = e
 

@@ -1,9 +1,8 @@
 -- What refuses a load or a save. Document 01, Turned back for the input, Turned back for the state, and the order below them. Every sum
 -- is exact: a count of FFFFFFFFh or an address near 2^32 refuses, and never wraps.
 use Rattle.std.specs.Prelude.{Bool, true, not, ◌||◌, ◌&&◌, List, [], ◌∷◌, ℕ, suc, ◌+◌, ◌*◌, leb, ltb, eqb, length, get_or}
-use Rattle.cell.specs.Refusals.{Ground, judge, memory_length, byte_order, unaligned}
+use Rattle.cell.specs.Refusals.{Judged, Ground, judge, memory_length, byte_order, unaligned}
 use Rattle.cell.specs.declared.Refusal.TheVariants.{Header, FileLength, Outside, ShortOutput}
-use Rattle.cell.specs.declared.Judged.{Judged}
 use Rattle.module_judging.specs.Format.{title, order_of, count_of}
 
 -- the bytes of a file from `at` on are those of a list

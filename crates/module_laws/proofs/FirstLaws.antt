@@ -6,8 +6,8 @@ use native.Mathlib.Nat.{add-zero}
 use native.Mathlib.Omega.{arith, min_cases}
 use lib.ListN.{length, take, drop}
 use lib.Seq.{take-append-le, paste-zero}
-use Rattle.cell.specs.declared.Judged.{Judged}
-use Rattle.cell.specs.declared.Judged.TheVariants as judged
+use Rattle.cell.specs.Refusals.{Judged, passed}
+use Rattle.std.specs.Prelude.{Ok, Err}
 use Rattle.module_judging.specs.Format.{order_of, count_of, code_of}
 use Rattle.module_judging.specs.Grounds.{judge_load}
 use Rattle.module_judging.proofs.ConditionLaws.{load_good}
@@ -60,9 +60,9 @@ module _ (theirs ours : ℕ) (code m : List ℕ) (a : ℕ) where
 module _ (order : ℕ) (m file : List ℕ) (a : ℕ) where
   halted_if : (k : ℕ) (j : Judged) → judge_load (length m) order file a ≡ j
       → HaltedAfter k m a (load_if j order m file a (count_of file)) (load_if j order m file a (min k (count_of file)))
-  halted_if k (judged.Refused r) e =
+  halted_if k (Err r) e =
       record { number = refl; count = omega arith; memory = paste-zero m a (drop a m) }
-  halted_if k judged.Passed e =
+  halted_if k (Ok _) e =
       record {
         number = refl;
         count = refl;
@@ -72,7 +72,7 @@ module _ (order : ℕ) (m file : List ℕ) (a : ℕ) where
       }
 
   -- a file that passes is judged alike in another memory of that length
-  over : (n : ℕ) (next : List ℕ) → judge_load (length m) order file a ≡ judged.Passed → length next ≡ length m
+  over : (n : ℕ) (next : List ℕ) → judge_load (length m) order file a ≡ passed → length next ≡ length m
       → copied (order_of file) order (code_of file) next a (min n (count_of file)) ≡ copied (order_of file) order (code_of file) m a (min n (count_of file))
       → load_first_of order next file a n ≡ load_first_of order m file a n
   unfolding load_first_of
@@ -80,8 +80,8 @@ module _ (order : ℕ) (m file : List ℕ) (a : ℕ) where
 
   on_if : (k n : ℕ) → k ≤ n → (j : Judged) → judge_load (length m) order file a ≡ j
       → load_first_of order (load_if j order m file a (min k (count_of file))).memory file a n ≡ load_first_of order m file a n
-  on_if k n h (judged.Refused r) e = refl
-  on_if k n h judged.Passed e =
+  on_if k n h (Err r) e = refl
+  on_if k n h (Ok _) e =
       let l = count_of file in
       over n (copied (order_of file) order (code_of file) m a (min k l)) e (copied_length (order_of file) order (code_of file) m a (min k l))
       (copied_on (order_of file) order (code_of file) m a (min k l) (min n l) (omega arith) (omega (arith, (load_good order m file a e).place.room)))

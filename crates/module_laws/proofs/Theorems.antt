@@ -7,12 +7,9 @@ use native.Mathlib.Omega.{arith}
 use lib.ListN.{length, take, drop, take-append-drop, length-drop}
 use lib.Seq.{paste, take_at, drop_at, take_all, length-take-le}
 use Rattle.cell.specs.Memory.{Bytewise, cell_count}
-use Rattle.cell.specs.Refusals.{GoodMachine}
+use Rattle.std.specs.Prelude.{Ok, Err}
+use Rattle.cell.specs.Refusals.{Judged, passed, GoodMachine}
 use Rattle.cell.proofs.JudgementLaws.{refusal_some}
-use Rattle.cell.specs.declared.Judged.{Judged}
-use Rattle.cell.specs.declared.Judged.TheVariants as judged
-use Rattle.module_loading.specs.declared.Loaded.TheVariants as loaded
-use Rattle.module_saving.specs.declared.Saved.TheVariants.{Bytes}
 use Rattle.module_judging.specs.Format.{order_of, count_of, code_of, header_of, module_of}
 use Rattle.module_judging.specs.Grounds.{judge_load, judge_save}
 use Rattle.module_copying.specs.Copies.{copied}
@@ -27,13 +24,13 @@ use Rattle.module_copying.proofs.CopyLaws.{copied_length, copied_apart, copied_c
 use Rattle.module_copying.proofs.SameLaws.{copied_same, drop_bytewise, take_bytewise}
 use Rattle.module_laws.proofs.FileLaws.{module_length, module_code, module_order, module-count, module-good, module-cell, header_back}
 
-load_passed : (order : ℕ) (m file : List ℕ) (a n : ℕ) (j : Judged) → (load_if j order m file a n).number ≡ 0 → j ≡ judged.Passed
-load_passed order m file a n judged.Passed e = refl
-load_passed order m file a n (judged.Refused r) e = absurd (refusal_some r e)
+load_passed : (order : ℕ) (m file : List ℕ) (a n : ℕ) (j : Judged) → (load_if j order m file a n).number ≡ 0 → j ≡ passed
+load_passed order m file a n (Ok _) e = refl
+load_passed order m file a n (Err r) e = absurd (refusal_some r e)
 
-save_passed : (order : ℕ) (m : List ℕ) (a l : ℕ) (out : List ℕ) (j : Judged) → (save_if j order m a l out).number ≡ 0 → j ≡ judged.Passed
-save_passed order m a l out judged.Passed e = refl
-save_passed order m a l out (judged.Refused r) e = absurd (refusal_some r e)
+save_passed : (order : ℕ) (m : List ℕ) (a l : ℕ) (out : List ℕ) (j : Judged) → (save_if j order m a l out).number ≡ 0 → j ≡ passed
+save_passed order m a l out (Ok _) e = refl
+save_passed order m a l out (Err r) e = absurd (refusal_some r e)
 
 -- a file is accepted exactly if the listed conditions hold
 pub accepted_exactly : AcceptedExactly
@@ -62,7 +59,7 @@ saved_file_lem order m b l out g =
 
 -- where the module is a file, an accepted save leaves that file in front of the rest of the output
 saved_whole : (order : ℕ) (m : List ℕ) (a l : ℕ) (out file : List ℕ) → Savable order m a l out → module_of order m a l ≡ file
-    → length file ≡ 12 + 4 * l → save_of order m a l out ≡ saved_to (file ++ drop (length file) out) (Bytes (length file))
+    → length file ≡ 12 + 4 * l → save_of order m a l out ≡ saved_to (file ++ drop (length file) out) (Ok (length file))
 unfolding save_of
 saved_whole order m a l out file g e w = rw (good_save order m a l out g, e, w)
 
@@ -74,7 +71,7 @@ module _ (order : ℕ) (m file : List ℕ) (a : ℕ) (g : Loadable order m file 
 
   pub first_loads : (k : ℕ)
       → load_first_of order m file a k
-      ≡ loaded_to (copied (order_of file) order (code_of file) m a (min k (count_of file))) (loaded.Cells (cell_count (min k (count_of file))))
+      ≡ loaded_to (copied (order_of file) order (code_of file) m a (min k (count_of file))) (Ok (cell_count (min k (count_of file))))
   unfolding load_first_of
   first_loads k = rw (good_load order m file a g)
 
@@ -87,7 +84,7 @@ module-loads theirs m b l low o h r ours lent a k machine place =
     let g : Loadable ours lent (module_of theirs m b l) a =
     record { machine = machine; format = module-good theirs m b l o h r; place = rw n place } in
     let e : load_first_of ours lent (module_of theirs m b l) a k
-    ≡ loaded_to (copied theirs ours (take (4 * l) (drop b m)) lent a (min k l)) (loaded.Cells (cell_count (min k l))) =
+    ≡ loaded_to (copied theirs ours (take (4 * l) (drop b m)) lent a (min k l)) (Ok (cell_count (min k l))) =
     first_loads ours lent (module_of theirs m b l) a g k ∙ rw (n, module_order theirs m b l, module_code theirs m b l) in
     rw e
     (record {

@@ -1,9 +1,8 @@
 -- What is proved of loads and saves together. The proofs stand in proofs/Theorems.antt: accepted_exactly, saved_exactly, saved_loads,
 -- loaded_saves. A list of numbers stands for lent bytes where each is below 256 (Bytewise).
-use Rattle.std.specs.Prelude.{◌≡◌, List, ◌++◌, ℕ, ◌+◌, ◌*◌, ◌≤◌, ◌<◌, length, take, drop}
+use Rattle.std.specs.Prelude.{◌≡◌, List, ◌++◌, ℕ, ◌+◌, ◌*◌, ◌≤◌, ◌<◌, length, take, drop, Ok}
 use Rattle.cell.specs.Memory.{cell_at, Alike, Bytewise}
 use Rattle.cell.specs.Refusals.{GoodMachine}
-use Rattle.module_saving.specs.declared.Saved.TheVariants.{Bytes}
 use Rattle.module_judging.specs.Format.{order_of, count_of}
 use Rattle.module_loading.specs.Answers.{LoadResult, load_of}
 use Rattle.module_saving.specs.Answers.{SaveResult, saved_to, save_of}
@@ -51,4 +50,4 @@ LoadedSaves =
     (order : ℕ) (m file : List ℕ) (a : ℕ) → Bytewise file → (load_of order m file a).number ≡ 0 → order_of file ≡ order
     → (out : List ℕ) → length file ≤ length out
     → save_of order (load_of order m file a).memory a (count_of file) out
-    ≡ saved_to (file ++ drop (length file) out) (Bytes (length file))
+    ≡ saved_to (file ++ drop (length file) out) (Ok (length file))

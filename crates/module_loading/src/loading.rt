@@ -1,11 +1,11 @@
-// load_object and load_first.
-ghost use Rattle.std.specs.Prelude.{◌≡◌, ◌≤◌, min, length};
-ghost use Rattle.cell.specs.Memory.{cell_count};
+// load_object and load_first, which answer the number of cells loaded. specs/Answers.antt has document 01's numbers of each case.
+#![tactic(auto, using(module_judging::proofs::ConditionLaws::load_good), unfolding(crate::specs::Answers::load_first_of))]
+
+ghost use Rattle.std.specs.Prelude.{◌≡◌, ◌≤◌, length};
 ghost use Rattle.module_judging.specs.Format as format;
 ghost use Rattle.module_loading.specs.Answers as answers;
 
-use crate::Loaded;
-use cell::{Address, CellCount, Judged};
+use cell::{Address, CellCount, Refusal};
 use module_copying::copying::copy_cells;
 use module_judging::judgement::{count_of, judge_load};
 
@@ -17,13 +17,6 @@ pub fn code_of(file: &[u8]) -> &[u8]
     &file[12..]
 }
 
-// The smaller of two counts.
-fn fewer(a: CellCount, b: CellCount) -> CellCount
-    ensures { result ≡ cell_count (min a.0 b.0) }
-{
-    if a.0 < b.0 { a } else { b }
-}
-
 // A load that is told to halt after a number of cells, first cell first.
 pub fn load_first(
     order: u8,
@@ -31,21 +24,23 @@ pub fn load_first(
     file: &[u8],
     address: Address,
     cells: CellCount,
-) -> Loaded
+) -> Result<CellCount, Refusal>
     ensures { answers.loaded_to memory.new result ≡ answers.load_first_of order memory.old file.now address.0 cells.0 }
 {
-    match judge_load(memory.len(), order, file, address) {
-        Judged::Refused(r) => Loaded::Refused(r),
-        Judged::Passed => {
-            let first = fewer(cells, count_of(file));
-            copy_cells(file[7], order, code_of(file), memory, address, first);
-            Loaded::Cells(first)
-        }
-    }
+    judge_load(memory.len(), order, file, address)?;
+    let first = CellCount(cells.0.min(count_of(file).0));
+    copy_cells(file[7], order, code_of(file), memory, address, first);
+    Ok(first)
 }
 
 // A load with no halt: no file has more cells than a cell can count.
-pub fn load_object(order: u8, memory: &mut [u8], file: &[u8], address: Address) -> Loaded
+#[tactic(auto, using(crate::proofs::AnswerLaws::all_whole), unfolding(cell::specs::Memory::Bytewise))]
+pub fn load_object(
+    order: u8,
+    memory: &mut [u8],
+    file: &[u8],
+    address: Address,
+) -> Result<CellCount, Refusal>
     ensures { answers.loaded_to memory.new result ≡ answers.load_of order memory.old file.now address.0 }
 {
     load_first(order, memory, file, address, CellCount(0xFFFFFFFF))

@@ -1,4 +1,6 @@
 // Arithmetic.
+#![tactic(auto, unfolding(instruction::specs::Plain::plain_of))]
+
 ghost use Rattle.std.specs.Prelude.{◌≡◌, length};
 ghost use Rattle.machine.specs.Places as places;
 ghost use Rattle.machine.specs.Effects as effects;
@@ -6,297 +8,207 @@ ghost use Rattle.instruction.specs.Plain as plain;
 
 use cell::division::{divide_floored, divide_symmetric, divide_unsigned};
 use cell::number::{add, greater_of, halve, lesser_of, magnitude, multiply, subtract};
-use cell::{Address, Fault, Fetched, number};
+use cell::{Address, Fault, number};
 use instruction::Instruction;
-use instruction::shape::{fail_one, fail_two, reduce, replace, replace_both};
+use instruction::shape::{reduce, replace, replace_both};
 use machine::places::fetch_data;
 use machine::{Machine, OneStore, Registers, TwoStores};
 
 // 1Eh + ( n1 n2 -- n3 )
-pub fn plus(machine: Machine, memory: &[u8], r: Registers) -> OneStore
+pub fn plus(machine: Machine, memory: &[u8], r: Registers) -> Result<OneStore, Fault>
     requires { places.Fits machine (length memory.now) }
-    ensures { effects.one_store result ≡ plain.plain_at machine Instruction.Plus memory.now r }
+    ensures { effects.asked effects.one_store result ≡ plain.plain_at machine Instruction.Plus memory.now r }
 {
-    let got = fetch_data(machine, memory, Address(r.sp));
-    let Fetched::Cell(x2) = got else {
-        return fail_one(got);
-    };
-    let got2 = fetch_data(machine, memory, Address(add(r.sp, 4)));
-    let Fetched::Cell(x1) = got2 else {
-        return fail_one(got2);
-    };
-    reduce(r, add(x1, x2))
+    let x2 = fetch_data(machine, memory, Address(r.sp))?;
+    let x1 = fetch_data(machine, memory, Address(add(r.sp, 4)))?;
+    Ok(reduce(r, add(x1, x2)))
 }
 
 // 1Fh - ( n1 n2 -- n3 )
-pub fn minus(machine: Machine, memory: &[u8], r: Registers) -> OneStore
+pub fn minus(machine: Machine, memory: &[u8], r: Registers) -> Result<OneStore, Fault>
     requires { places.Fits machine (length memory.now) }
-    ensures { effects.one_store result ≡ plain.plain_at machine Instruction.Minus memory.now r }
+    ensures { effects.asked effects.one_store result ≡ plain.plain_at machine Instruction.Minus memory.now r }
 {
-    let got = fetch_data(machine, memory, Address(r.sp));
-    let Fetched::Cell(x2) = got else {
-        return fail_one(got);
-    };
-    let got2 = fetch_data(machine, memory, Address(add(r.sp, 4)));
-    let Fetched::Cell(x1) = got2 else {
-        return fail_one(got2);
-    };
-    reduce(r, subtract(x1, x2))
+    let x2 = fetch_data(machine, memory, Address(r.sp))?;
+    let x1 = fetch_data(machine, memory, Address(add(r.sp, 4)))?;
+    Ok(reduce(r, subtract(x1, x2)))
 }
 
 // 20h >-< ( n1 n2 -- n3 )
-pub fn swap_minus(machine: Machine, memory: &[u8], r: Registers) -> OneStore
+pub fn swap_minus(machine: Machine, memory: &[u8], r: Registers) -> Result<OneStore, Fault>
     requires { places.Fits machine (length memory.now) }
-    ensures { effects.one_store result ≡ plain.plain_at machine Instruction.SwapMinus memory.now r }
+    ensures { effects.asked effects.one_store result ≡ plain.plain_at machine Instruction.SwapMinus memory.now r }
 {
-    let got = fetch_data(machine, memory, Address(r.sp));
-    let Fetched::Cell(x2) = got else {
-        return fail_one(got);
-    };
-    let got2 = fetch_data(machine, memory, Address(add(r.sp, 4)));
-    let Fetched::Cell(x1) = got2 else {
-        return fail_one(got2);
-    };
-    reduce(r, subtract(x2, x1))
+    let x2 = fetch_data(machine, memory, Address(r.sp))?;
+    let x1 = fetch_data(machine, memory, Address(add(r.sp, 4)))?;
+    Ok(reduce(r, subtract(x2, x1)))
 }
 
 // 21h 1+ ( n1 -- n2 )
-pub fn one_plus(machine: Machine, memory: &[u8], r: Registers) -> OneStore
+pub fn one_plus(machine: Machine, memory: &[u8], r: Registers) -> Result<OneStore, Fault>
     requires { places.Fits machine (length memory.now) }
-    ensures { effects.one_store result ≡ plain.plain_at machine Instruction.OnePlus memory.now r }
+    ensures { effects.asked effects.one_store result ≡ plain.plain_at machine Instruction.OnePlus memory.now r }
 {
-    let got = fetch_data(machine, memory, Address(r.sp));
-    let Fetched::Cell(x) = got else {
-        return fail_one(got);
-    };
-    replace(r, add(x, 1))
+    let x = fetch_data(machine, memory, Address(r.sp))?;
+    Ok(replace(r, add(x, 1)))
 }
 
 // 22h 1- ( n1 -- n2 )
-pub fn one_minus(machine: Machine, memory: &[u8], r: Registers) -> OneStore
+pub fn one_minus(machine: Machine, memory: &[u8], r: Registers) -> Result<OneStore, Fault>
     requires { places.Fits machine (length memory.now) }
-    ensures { effects.one_store result ≡ plain.plain_at machine Instruction.OneMinus memory.now r }
+    ensures { effects.asked effects.one_store result ≡ plain.plain_at machine Instruction.OneMinus memory.now r }
 {
-    let got = fetch_data(machine, memory, Address(r.sp));
-    let Fetched::Cell(x) = got else {
-        return fail_one(got);
-    };
-    replace(r, subtract(x, 1))
+    let x = fetch_data(machine, memory, Address(r.sp))?;
+    Ok(replace(r, subtract(x, 1)))
 }
 
 // 23h CELL+ ( n1 -- n2 )
-pub fn cell_plus(machine: Machine, memory: &[u8], r: Registers) -> OneStore
+pub fn cell_plus(machine: Machine, memory: &[u8], r: Registers) -> Result<OneStore, Fault>
     requires { places.Fits machine (length memory.now) }
-    ensures { effects.one_store result ≡ plain.plain_at machine Instruction.CellPlus memory.now r }
+    ensures { effects.asked effects.one_store result ≡ plain.plain_at machine Instruction.CellPlus memory.now r }
 {
-    let got = fetch_data(machine, memory, Address(r.sp));
-    let Fetched::Cell(x) = got else {
-        return fail_one(got);
-    };
-    replace(r, add(x, 4))
+    let x = fetch_data(machine, memory, Address(r.sp))?;
+    Ok(replace(r, add(x, 4)))
 }
 
 // 24h CELL- ( n1 -- n2 )
-pub fn cell_minus(machine: Machine, memory: &[u8], r: Registers) -> OneStore
+pub fn cell_minus(machine: Machine, memory: &[u8], r: Registers) -> Result<OneStore, Fault>
     requires { places.Fits machine (length memory.now) }
-    ensures { effects.one_store result ≡ plain.plain_at machine Instruction.CellMinus memory.now r }
+    ensures { effects.asked effects.one_store result ≡ plain.plain_at machine Instruction.CellMinus memory.now r }
 {
-    let got = fetch_data(machine, memory, Address(r.sp));
-    let Fetched::Cell(x) = got else {
-        return fail_one(got);
-    };
-    replace(r, subtract(x, 4))
+    let x = fetch_data(machine, memory, Address(r.sp))?;
+    Ok(replace(r, subtract(x, 4)))
 }
 
 // 25h * ( n1 n2 -- n3 )
-pub fn star(machine: Machine, memory: &[u8], r: Registers) -> OneStore
+pub fn star(machine: Machine, memory: &[u8], r: Registers) -> Result<OneStore, Fault>
     requires { places.Fits machine (length memory.now) }
-    ensures { effects.one_store result ≡ plain.plain_at machine Instruction.Star memory.now r }
+    ensures { effects.asked effects.one_store result ≡ plain.plain_at machine Instruction.Star memory.now r }
 {
-    let got = fetch_data(machine, memory, Address(r.sp));
-    let Fetched::Cell(x2) = got else {
-        return fail_one(got);
-    };
-    let got2 = fetch_data(machine, memory, Address(add(r.sp, 4)));
-    let Fetched::Cell(x1) = got2 else {
-        return fail_one(got2);
-    };
-    reduce(r, multiply(x1, x2))
+    let x2 = fetch_data(machine, memory, Address(r.sp))?;
+    let x1 = fetch_data(machine, memory, Address(add(r.sp, 4)))?;
+    Ok(reduce(r, multiply(x1, x2)))
 }
 
 // 26h / ( n1 n2 -- n3 )
-pub fn slash(machine: Machine, memory: &[u8], r: Registers) -> OneStore
+pub fn slash(machine: Machine, memory: &[u8], r: Registers) -> Result<OneStore, Fault>
     requires { places.Fits machine (length memory.now) }
-    ensures { effects.one_store result ≡ plain.plain_at machine Instruction.Slash memory.now r }
+    ensures { effects.asked effects.one_store result ≡ plain.plain_at machine Instruction.Slash memory.now r }
 {
-    let got = fetch_data(machine, memory, Address(r.sp));
-    let Fetched::Cell(n2) = got else {
-        return fail_one(got);
-    };
-    let got2 = fetch_data(machine, memory, Address(add(r.sp, 4)));
-    let Fetched::Cell(n1) = got2 else {
-        return fail_one(got2);
-    };
+    let n2 = fetch_data(machine, memory, Address(r.sp))?;
+    let n1 = fetch_data(machine, memory, Address(add(r.sp, 4)))?;
     if n2 == 0 {
-        return fail_one(Fetched::Failed(Fault::Divisor));
+        return Err(Fault::Divisor);
     }
     let q = divide_floored(n1, n2);
-    reduce(r, q.quotient)
+    Ok(reduce(r, q.quotient))
 }
 
 // 27h MOD ( n1 n2 -- n3 )
-pub fn modulo(machine: Machine, memory: &[u8], r: Registers) -> OneStore
+pub fn modulo(machine: Machine, memory: &[u8], r: Registers) -> Result<OneStore, Fault>
     requires { places.Fits machine (length memory.now) }
-    ensures { effects.one_store result ≡ plain.plain_at machine Instruction.Mod memory.now r }
+    ensures { effects.asked effects.one_store result ≡ plain.plain_at machine Instruction.Mod memory.now r }
 {
-    let got = fetch_data(machine, memory, Address(r.sp));
-    let Fetched::Cell(n2) = got else {
-        return fail_one(got);
-    };
-    let got2 = fetch_data(machine, memory, Address(add(r.sp, 4)));
-    let Fetched::Cell(n1) = got2 else {
-        return fail_one(got2);
-    };
+    let n2 = fetch_data(machine, memory, Address(r.sp))?;
+    let n1 = fetch_data(machine, memory, Address(add(r.sp, 4)))?;
     if n2 == 0 {
-        return fail_one(Fetched::Failed(Fault::Divisor));
+        return Err(Fault::Divisor);
     }
     let q = divide_floored(n1, n2);
-    reduce(r, q.remainder)
+    Ok(reduce(r, q.remainder))
 }
 
 // 28h /MOD ( n1 n2 -- n3 n4 )
-pub fn slash_mod(machine: Machine, memory: &[u8], r: Registers) -> TwoStores
+pub fn slash_mod(machine: Machine, memory: &[u8], r: Registers) -> Result<TwoStores, Fault>
     requires { places.Fits machine (length memory.now) }
-    ensures { effects.two_stores result ≡ plain.plain_at machine Instruction.SlashMod memory.now r }
+    ensures { effects.asked effects.two_stores result ≡ plain.plain_at machine Instruction.SlashMod memory.now r }
 {
-    let got = fetch_data(machine, memory, Address(r.sp));
-    let Fetched::Cell(n2) = got else {
-        return fail_two(got);
-    };
-    let got2 = fetch_data(machine, memory, Address(add(r.sp, 4)));
-    let Fetched::Cell(n1) = got2 else {
-        return fail_two(got2);
-    };
+    let n2 = fetch_data(machine, memory, Address(r.sp))?;
+    let n1 = fetch_data(machine, memory, Address(add(r.sp, 4)))?;
     if n2 == 0 {
-        return fail_two(Fetched::Failed(Fault::Divisor));
+        return Err(Fault::Divisor);
     }
-    replace_both(r, divide_floored(n1, n2))
+    Ok(replace_both(r, divide_floored(n1, n2)))
 }
 
 // 29h U/MOD ( u1 u2 -- u3 u4 )
-pub fn u_slash_mod(machine: Machine, memory: &[u8], r: Registers) -> TwoStores
+pub fn u_slash_mod(machine: Machine, memory: &[u8], r: Registers) -> Result<TwoStores, Fault>
     requires { places.Fits machine (length memory.now) }
-    ensures { effects.two_stores result ≡ plain.plain_at machine Instruction.USlashMod memory.now r }
+    ensures { effects.asked effects.two_stores result ≡ plain.plain_at machine Instruction.USlashMod memory.now r }
 {
-    let got = fetch_data(machine, memory, Address(r.sp));
-    let Fetched::Cell(n2) = got else {
-        return fail_two(got);
-    };
-    let got2 = fetch_data(machine, memory, Address(add(r.sp, 4)));
-    let Fetched::Cell(n1) = got2 else {
-        return fail_two(got2);
-    };
+    let n2 = fetch_data(machine, memory, Address(r.sp))?;
+    let n1 = fetch_data(machine, memory, Address(add(r.sp, 4)))?;
     if n2 == 0 {
-        return fail_two(Fetched::Failed(Fault::Divisor));
+        return Err(Fault::Divisor);
     }
-    replace_both(r, divide_unsigned(n1, n2))
+    Ok(replace_both(r, divide_unsigned(n1, n2)))
 }
 
 // 2Ah S/REM ( n1 n2 -- n3 n4 )
-pub fn s_slash_rem(machine: Machine, memory: &[u8], r: Registers) -> TwoStores
+pub fn s_slash_rem(machine: Machine, memory: &[u8], r: Registers) -> Result<TwoStores, Fault>
     requires { places.Fits machine (length memory.now) }
-    ensures { effects.two_stores result ≡ plain.plain_at machine Instruction.SSlashRem memory.now r }
+    ensures { effects.asked effects.two_stores result ≡ plain.plain_at machine Instruction.SSlashRem memory.now r }
 {
-    let got = fetch_data(machine, memory, Address(r.sp));
-    let Fetched::Cell(n2) = got else {
-        return fail_two(got);
-    };
-    let got2 = fetch_data(machine, memory, Address(add(r.sp, 4)));
-    let Fetched::Cell(n1) = got2 else {
-        return fail_two(got2);
-    };
+    let n2 = fetch_data(machine, memory, Address(r.sp))?;
+    let n1 = fetch_data(machine, memory, Address(add(r.sp, 4)))?;
     if n2 == 0 {
-        return fail_two(Fetched::Failed(Fault::Divisor));
+        return Err(Fault::Divisor);
     }
-    replace_both(r, divide_symmetric(n1, n2))
+    Ok(replace_both(r, divide_symmetric(n1, n2)))
 }
 
 // 2Bh 2/ ( x1 -- x2 )
-pub fn two_slash(machine: Machine, memory: &[u8], r: Registers) -> OneStore
+pub fn two_slash(machine: Machine, memory: &[u8], r: Registers) -> Result<OneStore, Fault>
     requires { places.Fits machine (length memory.now) }
-    ensures { effects.one_store result ≡ plain.plain_at machine Instruction.TwoSlash memory.now r }
+    ensures { effects.asked effects.one_store result ≡ plain.plain_at machine Instruction.TwoSlash memory.now r }
 {
-    let got = fetch_data(machine, memory, Address(r.sp));
-    let Fetched::Cell(x) = got else {
-        return fail_one(got);
-    };
-    replace(r, halve(x))
+    let x = fetch_data(machine, memory, Address(r.sp))?;
+    Ok(replace(r, halve(x)))
 }
 
 // 2Ch CELLS ( n1 -- n2 )
-pub fn cells(machine: Machine, memory: &[u8], r: Registers) -> OneStore
+pub fn cells(machine: Machine, memory: &[u8], r: Registers) -> Result<OneStore, Fault>
     requires { places.Fits machine (length memory.now) }
-    ensures { effects.one_store result ≡ plain.plain_at machine Instruction.Cells memory.now r }
+    ensures { effects.asked effects.one_store result ≡ plain.plain_at machine Instruction.Cells memory.now r }
 {
-    let got = fetch_data(machine, memory, Address(r.sp));
-    let Fetched::Cell(x) = got else {
-        return fail_one(got);
-    };
-    replace(r, multiply(x, 4))
+    let x = fetch_data(machine, memory, Address(r.sp))?;
+    Ok(replace(r, multiply(x, 4)))
 }
 
 // 2Dh ABS ( n -- u )
-pub fn abs(machine: Machine, memory: &[u8], r: Registers) -> OneStore
+pub fn abs(machine: Machine, memory: &[u8], r: Registers) -> Result<OneStore, Fault>
     requires { places.Fits machine (length memory.now) }
-    ensures { effects.one_store result ≡ plain.plain_at machine Instruction.Abs memory.now r }
+    ensures { effects.asked effects.one_store result ≡ plain.plain_at machine Instruction.Abs memory.now r }
 {
-    let got = fetch_data(machine, memory, Address(r.sp));
-    let Fetched::Cell(x) = got else {
-        return fail_one(got);
-    };
-    replace(r, magnitude(x))
+    let x = fetch_data(machine, memory, Address(r.sp))?;
+    Ok(replace(r, magnitude(x)))
 }
 
 // 2Eh NEGATE ( n1 -- n2 )
-pub fn negate(machine: Machine, memory: &[u8], r: Registers) -> OneStore
+pub fn negate(machine: Machine, memory: &[u8], r: Registers) -> Result<OneStore, Fault>
     requires { places.Fits machine (length memory.now) }
-    ensures { effects.one_store result ≡ plain.plain_at machine Instruction.Negate memory.now r }
+    ensures { effects.asked effects.one_store result ≡ plain.plain_at machine Instruction.Negate memory.now r }
 {
-    let got = fetch_data(machine, memory, Address(r.sp));
-    let Fetched::Cell(x) = got else {
-        return fail_one(got);
-    };
-    replace(r, number::negate(x))
+    let x = fetch_data(machine, memory, Address(r.sp))?;
+    Ok(replace(r, number::negate(x)))
 }
 
 // 2Fh MAX ( n1 n2 -- n3 )
-pub fn max(machine: Machine, memory: &[u8], r: Registers) -> OneStore
+pub fn max(machine: Machine, memory: &[u8], r: Registers) -> Result<OneStore, Fault>
     requires { places.Fits machine (length memory.now) }
-    ensures { effects.one_store result ≡ plain.plain_at machine Instruction.Max memory.now r }
+    ensures { effects.asked effects.one_store result ≡ plain.plain_at machine Instruction.Max memory.now r }
 {
-    let got = fetch_data(machine, memory, Address(r.sp));
-    let Fetched::Cell(x2) = got else {
-        return fail_one(got);
-    };
-    let got2 = fetch_data(machine, memory, Address(add(r.sp, 4)));
-    let Fetched::Cell(x1) = got2 else {
-        return fail_one(got2);
-    };
-    reduce(r, greater_of(x1, x2))
+    let x2 = fetch_data(machine, memory, Address(r.sp))?;
+    let x1 = fetch_data(machine, memory, Address(add(r.sp, 4)))?;
+    Ok(reduce(r, greater_of(x1, x2)))
 }
 
 // 30h MIN ( n1 n2 -- n3 )
-pub fn min(machine: Machine, memory: &[u8], r: Registers) -> OneStore
+pub fn min(machine: Machine, memory: &[u8], r: Registers) -> Result<OneStore, Fault>
     requires { places.Fits machine (length memory.now) }
-    ensures { effects.one_store result ≡ plain.plain_at machine Instruction.Min memory.now r }
+    ensures { effects.asked effects.one_store result ≡ plain.plain_at machine Instruction.Min memory.now r }
 {
-    let got = fetch_data(machine, memory, Address(r.sp));
-    let Fetched::Cell(x2) = got else {
-        return fail_one(got);
-    };
-    let got2 = fetch_data(machine, memory, Address(add(r.sp, 4)));
-    let Fetched::Cell(x1) = got2 else {
-        return fail_one(got2);
-    };
-    reduce(r, lesser_of(x1, x2))
+    let x2 = fetch_data(machine, memory, Address(r.sp))?;
+    let x1 = fetch_data(machine, memory, Address(add(r.sp, 4)))?;
+    Ok(reduce(r, lesser_of(x1, x2)))
 }

@@ -1,13 +1,12 @@
 // The calls from C for listings. Each judges first, and writes nothing that was lent where it refuses.
-#![tactic(auto)]
+#![tactic(auto, using(lent_arrays::proofs::LendingLaws::roomy), unfolding(calls::specs::Listings::pack_call, calls::specs::Listings::pack_file_call))]
 
 ghost use Rattle.std.specs.Prelude.{◌≡◌};
 ghost use Rattle.calls.specs.Modules as modules;
 ghost use Rattle.calls.specs.Listings as listings;
 
-use calls::listings::note_packed;
-use cell::judgement::refusal_number;
-use cell::{Address, Judged};
+use calls::notes::note_cells;
+use cell::Address;
 use lent_arrays::lending::with_room;
 use pack_files::file::{judge_pack_file, pack_file};
 use pack_refusals::judgement::judge_pack;
@@ -25,8 +24,8 @@ pub fn call_pack(
 {
     let judged = judge_pack(order, kinds, operands, Address(base), output.len());
     match with_room(judged, out.len(), 1) {
-        Judged::Refused(n) => refusal_number(n),
-        Judged::Passed => note_packed(pack(order, kinds, operands, Address(base), output), out),
+        Err(r) => u32::from(r),
+        Ok(()) => note_cells(pack(order, kinds, operands, Address(base), output), out),
     }
 }
 
@@ -35,7 +34,7 @@ pub fn call_pack_file(order: u8, file: &[u8], output: &mut [u8], out: &mut [u32]
 {
     let judged = judge_pack_file(order, file, output.len());
     match with_room(judged, out.len(), 1) {
-        Judged::Refused(n) => refusal_number(n),
-        Judged::Passed => note_packed(pack_file(order, file, output), out),
+        Err(r) => u32::from(r),
+        Ok(()) => note_cells(pack_file(order, file, output), out),
     }
 }

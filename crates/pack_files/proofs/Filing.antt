@@ -9,38 +9,35 @@ use borrow.Author.Tests.{eq-eqb, ne_eqb, lt-ltb, le-ltb, ltb-true, ltb-false}
 use lib.Dec.{eqb, ltb}
 use lib.ListN.{length, take, drop, length-append, length-take, length-drop}
 use lib.Seq.{take_at}
+use Rattle.std.specs.Prelude.{Err, Ok}
 use Rattle.cell.specs.Choice.{if}
-use Rattle.cell.specs.Refusals.{judge, after, in_order}
+use Rattle.cell.specs.Refusals.{judge, after, in_order, Judged, passed}
 use Rattle.cell.specs.declared.Refusal.{Refusal}
 use Rattle.cell.specs.declared.Refusal.TheVariants.{ItemCount}
-use Rattle.cell.specs.declared.Judged.{Judged}
-use Rattle.cell.specs.declared.Judged.TheVariants.{Passed, Refused}
 use Rattle.cell.proofs.JudgementLaws.{both_pass, one_clear}
 use Rattle.pack_layout.specs.Listing.{listed, judged_arrays, judged_listing}
 use Rattle.pack_layout.specs.File.{cells_from, file_count, file_base, file_kinds, file_operands, filed, judged_length, judged_file}
 use Rattle.pack_layout.specs.Packing.{image_cells, judged_place}
 use Rattle.pack_judging.proofs.Reading.{length_of}
-use Rattle.packer.specs.declared.Packed.{Packed}
-use Rattle.packer.specs.declared.Packed.TheVariants as packed
 use Rattle.pack_refusals.specs.Judgement.{judge_order, judge_room, judge_pack}
-use Rattle.packer.specs.Pack.{pack_count, PackResult, packed_to, pack_of}
+use Rattle.packer.specs.Pack.{pack_count, PackResult, packed_to, pack_of, Packed}
 use Rattle.pack_refusals.proofs.Judging.{all_room}
 use Rattle.packer.proofs.Answering.{if_room, handed_judged, handed_packed}
 use Rattle.pack_files.specs.Files.{Header, many_items, judge_header, judge_pack_file, pack_file_of}
 
 -- more than 4,096 items
-many : (kinds operands : List ℕ) → 4096 < length kinds → judged_arrays kinds operands ≡ Refused ItemCount
+many : (kinds operands : List ℕ) → 4096 < length kinds → judged_arrays kinds operands ≡ Err ItemCount
 unfolding judged_arrays judged_listing
 many kinds operands h = go (eqb (length kinds) (length operands))
   where
-    go : (b : Bool) → after (if (not b) (Refused ItemCount) Passed) (judged_listing (listed kinds operands)) ≡ Refused ItemCount
+    go : (b : Bool) → after (if (not b) (Err ItemCount) passed) (judged_listing (listed kinds operands)) ≡ Err ItemCount
     go false = refl
     go true =
         let z : length kinds ≡ 0 → ⊥ = λ q. omega arith in
         simp (ne_eqb (length kinds) 0 z, lt-ltb 4096 (length kinds) h)
 
-many_file : (s : List ℕ) → judged_length s ≡ Passed → 4096 < file_count s
-    → judged_arrays (file_kinds s) (file_operands s) ≡ Refused ItemCount
+many_file : (s : List ℕ) → judged_length s ≡ passed → 4096 < file_count s
+    → judged_arrays (file_kinds s) (file_operands s) ≡ Err ItemCount
 many_file s e h =
     let k : 4096 < length (file_kinds s) = simp (length-take, length-drop) (omega (arith, length_of s e)) in
     many (file_kinds s) (file_operands s) k
@@ -55,19 +52,19 @@ operands_back s x y n k h e g l f q =
     )
 
 module _ (order : ℕ) (s : List ℕ) where
-  pub header_good : judge_header order s ≡ Passed → Header s
+  pub header_good : judge_header order s ≡ passed → Header s
   unfolding judge_header
   header_good e =
       let p = both_pass (judge_order order) (in_order (judged_length s ∷ judge (many_items (file_count s) ∷ []) ∷ [])) e in
       let q = both_pass (judged_length s) (in_order (judge (many_items (file_count s) ∷ []) ∷ [])) p.1 in
-      let t = both_pass (judge (many_items (file_count s) ∷ [])) Passed q.1 in
+      let t = both_pass (judge (many_items (file_count s) ∷ [])) passed q.1 in
       record {
         whole = length_of s q.0;
-        most = ltb-false 4096 (file_count s) (one_clear (ltb 4096 (file_count s)) ItemCount Passed t.0).0;
+        most = ltb-false 4096 (file_count s) (one_clear (ltb 4096 (file_count s)) ItemCount passed t.0).0;
       }
 
   -- a bad header refuses the packing, whatever follows
-  pub header_refused : (r : Refusal) → judge_header order s ≡ Refused r → (size : ℕ) → judge_pack_file order s size ≡ Refused r
+  pub header_refused : (r : Refusal) → judge_header order s ≡ Err r → (size : ℕ) → judge_pack_file order s size ≡ Err r
   unfolding judge_header judge_pack_file judged_file
   header_refused r e size = go (judge_order order) (judged_length s) refl (ltb 4096 (file_count s)) refl e
       (in_order (judged_place (file_base s) (image_cells (filed s)) ∷ judge_room (image_cells (filed s)) size ∷ []))
@@ -76,17 +73,17 @@ module _ (order : ℕ) (s : List ℕ) where
       arrays j = after j (judged_arrays (file_kinds s) (file_operands s))
 
       go : (a b : Judged) → judged_length s ≡ b → (t : Bool) → ltb 4096 (file_count s) ≡ t
-          → in_order (a ∷ b ∷ if t (Refused ItemCount) Passed ∷ []) ≡ Refused r → (j : Judged) → after a (after (judged_file s) j) ≡ Refused r
-      go (Refused x) b p t q e j = e
-      go Passed (Refused x) p t q e j = ap (λ (i : Judged). after i j) (ap arrays p) ∙ e
-      go Passed Passed p true q e j =
+          → in_order (a ∷ b ∷ if t (Err ItemCount) passed ∷ []) ≡ Err r → (j : Judged) → after a (after (judged_file s) j) ≡ Err r
+      go (Err x) b p t q e j = e
+      go (Ok _) (Err x) p t q e j = ap (λ (i : Judged). after i j) (ap arrays p) ∙ e
+      go (Ok _) (Ok _) p true q e j =
           ap (λ (i : Judged). after i j)
           (ap arrays p ∙ many_file s p (ltb-true 4096 (file_count s) q))
           ∙ e
-      go Passed Passed p false q e j = absurd (let z : ◌≡◌ {A = ℕ} 0 1 = cc in omega arith)
+      go (Ok _) (Ok _) p false q e j = absurd (let z : ◌≡◌ {A = ℕ} 0 1 = cc in omega arith)
 
   -- with a good header a file is packed as its two arrays are
-  length_judged : Header s → judged_length s ≡ Passed
+  length_judged : Header s → judged_length s ≡ passed
   length_judged h = simp (le-ltb (length s) 8 (omega (arith, h.whole)), eq-eqb (length s) (8 + 5 * file_count s) h.whole)
 
   file_arrays : Header s → judged_file s ≡ judged_arrays (file_kinds s) (file_operands s)
@@ -97,8 +94,8 @@ module _ (order : ℕ) (s : List ℕ) where
   unfolding judge_pack_file judge_pack
   header_passed h size = rw (file_arrays h)
 
-  pub pack_file_refused : (out : List ℕ) (r : Refusal) → judge_header order s ≡ Refused r
-      → packed_to out (packed.Refused r) ≡ pack_file_of order s out
+  pub pack_file_refused : (out : List ℕ) (r : Refusal) → judge_header order s ≡ Err r
+      → packed_to out (Err r) ≡ pack_file_of order s out
   unfolding pack_file_of
   pack_file_refused out r e = rw (header_refused r e (length out))
 

@@ -1,8 +1,7 @@
 -- What refuses the packing of a listing file, and what it leaves and answers.
 use Rattle.std.specs.Prelude.{◌≡◌, List, [], ◌∷◌, ℕ, ◌+◌, ◌*◌, ◌≤◌, ltb, length}
-use Rattle.cell.specs.Refusals.{Ground, judge, in_order}
+use Rattle.cell.specs.Refusals.{Ground, judge, in_order, Judged}
 use Rattle.cell.specs.declared.Refusal.TheVariants.{ItemCount}
-use Rattle.cell.specs.declared.Judged.{Judged}
 use Rattle.pack_layout.specs.File.{filed, file_count, file_base, judged_length, judged_file}
 use Rattle.pack_refusals.specs.Judgement.{judge_order, judge_all}
 use Rattle.packer.specs.Pack.{PackResult, pack_if}

@@ -1,5 +1,6 @@
 -- Stores of cells, and one step of the image pass.
 -- Assumes nothing.
+use Rattle.cell.specs.Refusals.{passed}
 use Rattle.cell.specs.Memory.{cell_bytes}
 use Rattle.cell.proofs.StoreLaws.{cell_length}
 use mathlib.Core.Path.{◌≡◌, refl, sym, ap, ap₂, ◌∙◌}
@@ -12,7 +13,6 @@ use lib.Dec.{eqb}
 use lib.ListN.{length, get_or, take, drop, length-append, take-append-drop}
 use lib.Seq.{sets, sets-eq, length-take-le, take-append-le, take-take, drop_at}
 use Rattle.cell.specs.Choice.{if}
-use Rattle.cell.specs.declared.Judged.TheVariants.{Passed}
 use Rattle.pack_layout.specs.declared.Class.{Class}
 use Rattle.pack_layout.specs.declared.ItemForm.{ItemForm}
 use Rattle.pack_layout.specs.Bytes.{pack}
@@ -178,7 +178,7 @@ value_same branch g x next to goal base h = ap (λ (k : ℕ). branch_value g nex
 value_same no_kind g x next to goal base h = refl
 
 -- what the code reads at item j of the settled layout
-module _ (base : ℕ) (l : Listing) (ok : judged_listing l ≡ Passed) (flags ats nexts lefts : List ℕ)
+module _ (base : ℕ) (l : Listing) (ok : judged_listing l ≡ passed) (flags ats nexts lefts : List ℕ)
     (laid : Laid (layout l) ats nexts lefts l.count) (marked : flagged flags ≡ marks l) (j : ℕ) (h : j < l.count) where
   pub form_is : form_of (class_of (l.kind j)) (flagged flags j) (l.operand j) (get_or lefts j 0) ≡ form_at (layout l) j
   form_is = rw (laid.left j h) (ap (λ (m : ℕ → Bool). form_of (class_of (l.kind j)) (m j) (l.operand j) (left (layout l) j)) marked)

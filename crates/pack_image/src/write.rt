@@ -1,4 +1,6 @@
 // Cells of an image, and their bytes in a lent output.
+#![tactic(auto, unfolding(pack_layout::specs::Bytes::pack))]
+
 ghost use Rattle.std.specs.Prelude.{true, false, ◌≡◌, ◌+◌, ◌*◌, ◌≤◌, ◌<◌, length, get_or};
 ghost use Rattle.std.proofs.lemmas.List.Edits.{sets};
 ghost use Rattle.cell.specs.Memory.{cell_bytes, cell_count};
@@ -151,10 +153,8 @@ pub fn write_image(
     requires base_bound { (base.0 ≤ 16777216) × (4 * image_cells (listed kinds.now operands.now) ≤ length out.old) }
     ensures { out.new ≡ written order (image base.0 (listed kinds.now operands.now)) out.old }
 {
-    let mut i = kinds.len();
     let mut rest: u32 = 0;
-    while 0 < i {
-        i -= 1;
+    for i in (0..kinds.len()).rev() {
         let f = lefts[i];
         let next = CellCount(nexts[i]);
         let kind = kinds[i];

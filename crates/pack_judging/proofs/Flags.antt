@@ -4,18 +4,17 @@ use mathlib.Core.Path.{◌≡◌, refl, sym, ap, ◌∙◌}
 use mathlib.Core.Bool.{Bool, true, false, ◌||◌, or-true, or-false}
 use mathlib.Core.Logic.{⊎_elim}
 use mathlib.Core.List.{List}
-use Prim.Native.Nat.{ℕ, zero, suc, ◌+◌, ◌-◌, ◌≤◌, ◌<◌}
+use Prim.Native.Nat.{ℕ, suc, ◌+◌, ◌≤◌, ◌<◌}
 use native.Mathlib.Nat.{le_of_suc-le-suc, eq-or-lt_of_le}
 use native.Mathlib.Numerals.{add-one}
 use native.Mathlib.Decide.{dec_lt, ℕ_discrete}
 use native.Mathlib.Omega.{arith}
-use borrow.Author.Tests.{eq-eqb, ne_eqb, lt-leb}
-use lib.Dec.{leb}
+use borrow.Author.Tests.{eq-eqb, ne_eqb}
 use lib.ListN.{length, get_or, set, get_or-eq_default}
 use lib.Seq.{get_or-set_same, get_or-set_other}
 use Rattle.pack_layout.specs.Kinds.{is_branch, class_of}
 use Rattle.pack_layout.specs.Flags.{bit, Flags, flagged}
-use Rattle.pack_layout.specs.Listing.{Listing, any, targets, calls, after_call}
+use Rattle.pack_layout.specs.Listing.{Listing, any, targets, after_call}
 
 pub flagged_bit : (s : List ℕ) (i : ℕ) (b : Bool) → get_or s i 0 ≡ bit b → flagged s i ≡ b
 unfolding flagged
@@ -29,42 +28,6 @@ stored_more P s i v h here before j l =
     ⊎_elim (λ (e : j ≡ i). rw (e, get_or-set_same s i v 0 h) here)
     (λ (e : j < i). rw (get_or-set_other s i j v 0 (λ (z : j ≡ i). omega arith)) (before j e))
     (eq-or-lt_of_le (le_of_suc-le-suc (let k : suc j ≤ suc i = omega arith in k)))
-
-pub flags_more : (s : List ℕ) (p : ℕ → Bool) (i v : ℕ) → i < length s → v ≡ bit (p i) → Flags s p i → Flags (set s i v) p (i + 1)
-flags_more s p i v h e f = stored_more (λ j x. x ≡ bit (p j)) s i v h e f
-
-pub flags_first : (s : List ℕ) (kind : ℕ → ℕ) → 0 < length s → Flags (set s 0 1) (after_call kind) 1
-flags_first s kind h = flags_more s (after_call kind) 0 1 h refl (λ j l. absurd (omega arith))
-
-pub call_before : (kind : ℕ → ℕ) (i : ℕ) → 1 ≤ i → calls (kind (i - 1)) ≡ after_call kind i
-call_before kind zero h = absurd (omega arith)
-call_before kind (suc i) h = ap (λ (k : ℕ). calls (kind k)) (let e : suc i - 1 ≡ i = omega arith in e)
-
-pub call_below : (k : ℕ) → k < 0x46 → false ≡ calls k
-call_below k h =
-    simp (
-      ne_eqb k 0x46 (λ (e : k ≡ 0x46). omega arith),
-      ne_eqb k 0x47 (λ (e : k ≡ 0x47). omega arith),
-      ne_eqb k 0x48 (λ (e : k ≡ 0x48). omega arith),
-    )
-
-pub call_from : (k : ℕ) → 0x46 ≤ k → leb k 0x48 ≡ calls k
-call_from k h = go (dec_lt k 0x47) (dec_lt k 0x48) (dec_lt k 0x49)
-  where
-    at : (m : ℕ) → k ≡ m → leb m 0x48 ≡ calls m → leb k 0x48 ≡ calls k
-    at m e q = rw e q
-
-    go : Dec (k < 0x47) → Dec (k < 0x48) → Dec (k < 0x49) → leb k 0x48 ≡ calls k
-    go (yes a) b c = at 0x46 (omega arith) refl
-    go (no a) (yes b) c = at 0x47 (omega arith) refl
-    go (no a) (no b) (yes c) = at 0x48 (omega arith) refl
-    go (no a) (no b) (no c) =
-        simp (
-          lt-leb k 0x48 (omega arith),
-          ne_eqb k 0x46 (λ (e : k ≡ 0x46). omega arith),
-          ne_eqb k 0x47 (λ (e : k ≡ 0x47). omega arith),
-          ne_eqb k 0x48 (λ (e : k ≡ 0x48). omega arith),
-        )
 
 -- the entries with the targets of the first j items
 abbrev pub entry_with : Listing → ℕ → ℕ → Bool

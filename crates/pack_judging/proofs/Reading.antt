@@ -9,8 +9,8 @@ use borrow.Author.Tests.{eqb-true, not-false}
 use lib.Dec.{eqb, ltb}
 use lib.ListN.{length, get_or}
 use lib.Seq.{ext_get_or}
+use Rattle.cell.specs.Refusals.{passed}
 use Rattle.cell.specs.declared.Refusal.TheVariants.{ItemCount}
-use Rattle.cell.specs.declared.Judged.TheVariants.{Passed}
 use Rattle.cell.proofs.BooleanLaws.{neither}
 use Rattle.cell.proofs.JudgementLaws.{one_clear}
 use Rattle.pack_layout.specs.File.{least_first, cells_from, file_count, judged_length}
@@ -34,8 +34,8 @@ all_read s a k l e f =
     (λ i h. f i (omega arith) ∙ sym (cells_at s a k i (omega arith)))
 
 -- a file whose length is that of its header and its items
-pub length_of : (s : List ℕ) → judged_length s ≡ Passed → length s ≡ 8 + 5 * file_count s
+pub length_of : (s : List ℕ) → judged_length s ≡ passed → length s ≡ 8 + 5 * file_count s
 length_of s e =
     let same = eqb (length s) (8 + 5 * file_count s) in
-    let p = one_clear (ltb (length s) 8 || not same) ItemCount Passed e in
+    let p = one_clear (ltb (length s) 8 || not same) ItemCount passed e in
     eqb-true (length s) (8 + 5 * file_count s) (not-false same (neither (ltb (length s) 8) (not same) p.0).1)

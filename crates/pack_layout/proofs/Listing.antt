@@ -8,9 +8,8 @@ use native.Mathlib.Decide.{dec_lt}
 use native.Mathlib.Omega.{arith}
 use borrow.Author.Tests.{eqb-true, leb-false, ltb-false, eqb-false, eq-eqb, not-false}
 use lib.Dec.{eqb, leb, ltb}
-use Rattle.cell.specs.Refusals.{judge}
+use Rattle.cell.specs.Refusals.{judge, passed}
 use Rattle.cell.specs.declared.Refusal.TheVariants as refusal
-use Rattle.cell.specs.declared.Judged.TheVariants.{Passed}
 use Rattle.cell.proofs.BooleanLaws.{neither}
 use Rattle.cell.proofs.JudgementLaws.{both_pass, one_clear}
 use Rattle.pack_layout.specs.declared.Class.{Class}
@@ -28,20 +27,20 @@ kind_low k h = go (dec_lt k 0x5C)
     go (no l) = absurd (h (sym (high_is_none k (omega arith))))
 
 -- an item that is not refused
-judged_kind : (c : Class) (n x : ℕ) → judged c n x ≡ Passed → c ≡ no_kind → ⊥
+judged_kind : (c : Class) (n x : ℕ) → judged c n x ≡ passed → c ≡ no_kind → ⊥
 judged_kind plain n x e q = let z : ◌≡◌ {A = ℕ} 0 1 = cc in omega arith
 judged_kind literal n x e q = let z : ◌≡◌ {A = ℕ} 0 1 = cc in omega arith
 judged_kind branch n x e q = let z : ◌≡◌ {A = ℕ} 0 1 = cc in omega arith
 judged_kind no_kind n x e q = let z : ◌≡◌ {A = ℕ} 0 1 = cc in omega arith
 
-judged_target : (c : Class) (n x : ℕ) → judged c n x ≡ Passed → c ≡ branch → x < n
+judged_target : (c : Class) (n x : ℕ) → judged c n x ≡ passed → c ≡ branch → x < n
 judged_target plain n x e q = absurd (let z : ◌≡◌ {A = ℕ} 0 1 = cc in omega arith)
 judged_target literal n x e q = absurd (let z : ◌≡◌ {A = ℕ} 0 1 = cc in omega arith)
-judged_target branch n x e q = leb-false n x (one_clear (leb n x) refusal.Target Passed e).0
+judged_target branch n x e q = leb-false n x (one_clear (leb n x) refusal.Target passed e).0
 judged_target no_kind n x e q = absurd (let z : ◌≡◌ {A = ℕ} 0 1 = cc in omega arith)
 
-judged_plain : (c : Class) (n x : ℕ) → judged c n x ≡ Passed → c ≡ plain → x ≡ 0
-judged_plain plain n x e q = eqb-true x 0 (not-false (eqb x 0) (one_clear (not (eqb x 0)) refusal.PlainOperand Passed e).0)
+judged_plain : (c : Class) (n x : ℕ) → judged c n x ≡ passed → c ≡ plain → x ≡ 0
+judged_plain plain n x e q = eqb-true x 0 (not-false (eqb x 0) (one_clear (not (eqb x 0)) refusal.PlainOperand passed e).0)
 judged_plain literal n x e q = absurd (let z : ◌≡◌ {A = ℕ} 0 1 = cc in omega arith)
 judged_plain branch n x e q = absurd (let z : ◌≡◌ {A = ℕ} 0 1 = cc in omega arith)
 judged_plain no_kind n x e q = absurd (let z : ◌≡◌ {A = ℕ} 0 1 = cc in omega arith)
@@ -85,20 +84,20 @@ is_branch_lem literal q = cc
 is_branch_lem branch q = refl
 is_branch_lem no_kind q = cc
 
-module _ (l : Listing) (ok : judged_listing l ≡ Passed) where
-  items_from_lem : (k i : ℕ) → judged_from l k i ≡ Passed → (j : ℕ) → i ≤ j → j < i + k
-      → judged (class_of (l.kind j)) l.count (l.operand j) ≡ Passed
+module _ (l : Listing) (ok : judged_listing l ≡ passed) where
+  items_from_lem : (k i : ℕ) → judged_from l k i ≡ passed → (j : ℕ) → i ≤ j → j < i + k
+      → judged (class_of (l.kind j)) l.count (l.operand j) ≡ passed
   unfolding judged_from
   items_from_lem zero i e j a b = absurd (omega arith)
   items_from_lem (suc k) i e j a b = go (dec_lt i j) (both_pass _ _ e) (λ q c. items_from_lem k (suc i) q j c (omega arith))
     where
-      go : Dec (i < j) → (judged (class_of (l.kind i)) l.count (l.operand i) ≡ Passed) × (judged_from l k (suc i) ≡ Passed)
-          → (judged_from l k (suc i) ≡ Passed → suc i ≤ j → judged (class_of (l.kind j)) l.count (l.operand j) ≡ Passed)
-          → judged (class_of (l.kind j)) l.count (l.operand j) ≡ Passed
+      go : Dec (i < j) → (judged (class_of (l.kind i)) l.count (l.operand i) ≡ passed) × (judged_from l k (suc i) ≡ passed)
+          → (judged_from l k (suc i) ≡ passed → suc i ≤ j → judged (class_of (l.kind j)) l.count (l.operand j) ≡ passed)
+          → judged (class_of (l.kind j)) l.count (l.operand j) ≡ passed
       go (yes c) q f = f q.1 c
       go (no c) q f = rw (let t : j ≡ i = omega arith in t) q.0
 
-  item_judged : (i : ℕ) → i < l.count → judged (class_of (l.kind i)) l.count (l.operand i) ≡ Passed
+  item_judged : (i : ℕ) → i < l.count → judged (class_of (l.kind i)) l.count (l.operand i) ≡ passed
   unfolding judged_listing
   item_judged i h = items_from_lem l.count 0 (both_pass (judge (item_count l.count ∷ [])) (judged_from l l.count 0) ok).1 i (omega arith) (omega arith)
 
@@ -117,7 +116,7 @@ module _ (l : Listing) (ok : judged_listing l ≡ Passed) where
   pub some_item : (0 < l.count) × (l.count ≤ 4096)
   unfolding judged_listing
   some_item =
-      let e = one_clear (eqb l.count 0 || ltb 4096 l.count) refusal.ItemCount Passed (both_pass _ (judged_from l l.count 0) ok).0 in
+      let e = one_clear (eqb l.count 0 || ltb 4096 l.count) refusal.ItemCount passed (both_pass _ (judged_from l l.count 0) ok).0 in
       let t = neither (eqb l.count 0) (ltb 4096 l.count) e.0 in
       (nonzero l.count (eqb-false l.count 0 t.0), ltb-false 4096 l.count t.1)
     where

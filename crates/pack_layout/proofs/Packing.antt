@@ -7,8 +7,8 @@ use native.Mathlib.Omega.{arith}
 use borrow.Author.Tests.{not-false, eqb-true, ltb-false}
 use lib.Dec.{eqb, ltb}
 use lib.ListN.{length, get_or}
+use Rattle.cell.specs.Refusals.{passed}
 use Rattle.cell.specs.declared.Refusal.TheVariants.{Unaligned, Base}
-use Rattle.cell.specs.declared.Judged.TheVariants.{Passed}
 use Rattle.cell.proofs.BooleanLaws.{neither}
 use Rattle.cell.proofs.JudgementLaws.{one_clear}
 use Rattle.pack_layout.specs.declared.Class.{Class}
@@ -90,10 +90,10 @@ pub record Placed (base size : ℕ) : Type 0 where
   pub above_cells : 0x10 ≤ base
   pub inside : base + 4 * size ≤ 16777216
 
-pub base_of : (base size : ℕ) → judged_place base size ≡ Passed → Placed base size
+pub base_of : (base size : ℕ) → judged_place base size ≡ passed → Placed base size
 base_of base size e =
     let p = one_clear (not (eqb (base % 4) 0)) Unaligned _ e in
-    let q = one_clear (ltb base 0x10 || ltb 16777216 (base + 4 * size)) Base Passed p.1 in
+    let q = one_clear (ltb base 0x10 || ltb 16777216 (base + 4 * size)) Base passed p.1 in
     let t = neither (ltb base 0x10) (ltb 16777216 (base + 4 * size)) q.0 in
     record {
       aligned = eqb-true (base % 4) 0 (not-false (eqb (base % 4) 0) p.0);

@@ -3,7 +3,7 @@
 use mathlib.Core.Path.{◌≡◌, refl, sym, ap, ap₂, ◌∙◌}
 use mathlib.Core.Bool.{Bool, true, false, not, ◌&&◌, true≢false}
 use mathlib.Core.List.{List}
-use Prim.Native.Nat.{ℕ, zero, suc, ◌+◌, ◌-◌, ◌*◌, ◌%◌, ◌^◌, ◌≤◌, ◌<◌}
+use Prim.Native.Nat.{ℕ, zero, suc, ◌+◌, ◌*◌, ◌%◌, ◌≤◌, ◌<◌}
 use native.Mathlib.Decide.{dec_lt}
 use native.Mathlib.Omega.{arith}
 use borrow.Author.Tests.{eqb-true, ne_eqb, eq-eqb, le-leb, lt-leb}
@@ -20,7 +20,7 @@ use Rattle.pack_layout.specs.Bytes.{fits}
 use Rattle.pack_layout.specs.Listing.{Listing, listed}
 use Rattle.pack_layout.specs.Layout.{extra, cur, opens, mid, form_at, left, alone, immediate, in_cell}
 use Rattle.pack_layout.specs.Packing.{taking, form_of, layout, marks, value, image, image_cells, address_of, register, Legal}
-use Rattle.pack_layout.specs.Reading.{each, Reader, done, at_cell, behind_item, opcode_read, reader, items_from, items_read, form_read, kind_read, form_read_at, kind_read_at, value_read, leads_to, first_at, held_of, operand_of, operand_read_at, kinds_read, operands_read}
+use Rattle.pack_layout.specs.Reading.{each, Reader, done, at_cell, reader, items_from, items_read, form_read, kind_read, form_read_at, kind_read_at, value_read, leads_to, first_at, held_of, operand_of, operand_read_at, kinds_read, operands_read}
 use Rattle.pack_layout.proofs.Placing.{entry_opens, next_after, closes, same, one_entry}
 use Rattle.pack_layout.proofs.Listing.{first_entry, is_kind_lem, plain_operand_lem, some_item}
 use Rattle.pack_layout.proofs.Packing.{decoded, at_inside, size_is}

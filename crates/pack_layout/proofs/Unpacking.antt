@@ -1,24 +1,23 @@
 -- Which images are taken: those of legal listings, each read back to the listing that it was packed from, and no other.
 -- Assumes nothing.
-use mathlib.Core.Path.{◌≡◌, refl, sym, ap, ap₂, ◌∙◌}
-use mathlib.Core.Bool.{Bool, true, false, ◌&&◌, true≢false, false≢true}
+use mathlib.Core.Path.{◌≡◌, refl, ap₂, ◌∙◌}
+use mathlib.Core.Bool.{true, false≢true}
 use mathlib.Core.List.{List, [], ◌∷◌}
-use Prim.Native.Nat.{ℕ, zero, suc, ◌+◌, ◌*◌, ◌^◌, ◌≤◌, ◌<◌}
-use native.Mathlib.Omega.{arith}
+use Prim.Native.Nat.{ℕ}
 use borrow.Author.Tests.{eqb-true, eq-eqb}
 use lib.Dec.{eqb}
-use lib.ListN.{length, get_or}
-use Rattle.cell.specs.declared.Judged.{Judged}
-use Rattle.cell.specs.declared.Judged.TheVariants.{Passed, Refused}
+use lib.ListN.{length}
+use Rattle.std.specs.Prelude.{Err, Ok}
+use Rattle.cell.specs.Refusals.{Judged, passed}
 use Rattle.cell.proofs.BooleanLaws.{both_true}
 use Rattle.pack_layout.specs.Listing.{Listing, listed, judged_listing}
-use Rattle.pack_layout.specs.Packing.{image, image_cells, Legal}
+use Rattle.pack_layout.specs.Packing.{image, Legal}
 use Rattle.pack_layout.specs.Output.{bytes_of}
-use Rattle.pack_layout.specs.Reading.{cells_of, kinds_read, operands_read, listing_read}
+use Rattle.pack_layout.specs.Reading.{cells_of, kinds_read, operands_read}
 use Rattle.pack_layout.specs.Unpacking.{same, passes, packs_to, taken}
-use Rattle.pack_layout.proofs.Packing.{image_below, size_is}
+use Rattle.pack_layout.proofs.Packing.{image_below}
 use Rattle.pack_layout.proofs.Reading.{kinds_back, operands_back}
-use Rattle.pack_layout.proofs.Output.{bytes_length, cells_back}
+use Rattle.pack_layout.proofs.Output.{cells_back}
 
 pub same_is : (xs ys : List ℕ) → same xs ys ≡ true → xs ≡ ys
 unfolding same
@@ -34,13 +33,13 @@ unfolding same
 same_own [] = refl
 same_own (x ∷ xs) = rw (eq-eqb x x refl) (same_own xs)
 
-passes_is : (j : Judged) → passes j ≡ true → j ≡ Passed
-passes_is Passed e = refl
-passes_is (Refused r) e = absurd (false≢true e)
+passes_is : (j : Judged) → passes j ≡ true → j ≡ passed
+passes_is (Ok _) e = refl
+passes_is (Err r) e = absurd (false≢true e)
 
 -- bytes that a listing packs to
 pub record Packs (order base : ℕ) (l : Listing) (s : List ℕ) : Type 0 where
-  pub input : judged_listing l ≡ Passed
+  pub input : judged_listing l ≡ passed
   pub bytes : bytes_of order (image base l) ≡ s
 
 pub packs_is : (order base : ℕ) (l : Listing) (s : List ℕ) → packs_to order base l s ≡ true → Packs order base l s
@@ -49,7 +48,7 @@ packs_is order base l s e =
     let p = both_true (passes (judged_listing l)) (same (bytes_of order (image base l)) s) e in
     record { input = passes_is (judged_listing l) p.0; bytes = same_is _ _ p.1 }
 
-pub packs_so : (order base : ℕ) (l : Listing) → judged_listing l ≡ Passed → packs_to order base l (bytes_of order (image base l)) ≡ true
+pub packs_so : (order base : ℕ) (l : Listing) → judged_listing l ≡ passed → packs_to order base l (bytes_of order (image base l)) ≡ true
 unfolding packs_to
 packs_so order base l e = rw e (same_own (bytes_of order (image base l)))
 

@@ -2,8 +2,7 @@
 -- the least significant first.
 use Rattle.std.specs.Prelude.{List, [], ◌∷◌, ℕ, zero, suc, ◌+◌, length, take, drop}
 use Rattle.cell.specs.Memory.{cell_at}
-use Rattle.cell.specs.Refusals.{judge, after}
-use Rattle.cell.specs.declared.Judged.{Judged}
+use Rattle.cell.specs.Refusals.{judge, after, Judged}
 use Rattle.pack_layout.specs.Grounds.{listing_length}
 use Rattle.pack_layout.specs.Listing.{Listing, listed, judged_arrays}
 

@@ -1,9 +1,7 @@
 -- Listings. Document 01, Listings: a base, kinds and operands. The base is held apart: neither entries nor layout depend on it.
-use Rattle.std.specs.Prelude.{◌≡◌, Bool, true, false, ◌&&◌, ◌||◌, List, [], ◌∷◌, ℕ, zero, suc, eqb, length, get_or}
-use Rattle.cell.specs.Refusals.{judge, after}
+use Rattle.std.specs.Prelude.{◌≡◌, Bool, true, false, ◌&&◌, ◌||◌, List, [], ◌∷◌, ℕ, zero, suc, eqb, length, get_or, Err}
+use Rattle.cell.specs.Refusals.{judge, after, Judged, passed}
 use Rattle.cell.specs.declared.Refusal.TheVariants as refusal
-use Rattle.cell.specs.declared.Judged.{Judged}
-use Rattle.cell.specs.declared.Judged.TheVariants.{Passed, Refused}
 use Rattle.pack_layout.specs.declared.Class.{Class}
 use Rattle.pack_layout.specs.Grounds.{item_count, unequal, plain_operand, no_target}
 use Rattle.pack_layout.specs.Kinds.{class_of, among, is_branch, plain, literal, branch, no_kind}
@@ -43,13 +41,13 @@ entry l i = after_call l.kind i || any (λ j. targets (class_of (l.kind j)) (l.o
 -- document 01, Turned back for the input: one item of n, by its class; a byte that is no kind is -4107
 abbrev pub judged : Class → ℕ → ℕ → Judged
 judged plain n x = judge (plain_operand x ∷ [])
-judged literal n x = Passed
+judged literal n x = passed
 judged branch n x = judge (no_target n x ∷ [])
-judged no_kind n x = Refused refusal.Kind
+judged no_kind n x = Err refusal.Kind
 
 -- k items from item i on, lowest first
 unfoldable pub judged_from : Listing → ℕ → ℕ → Judged
-judged_from l zero i = Passed
+judged_from l zero i = passed
 judged_from l (suc k) i = after (judged (class_of (l.kind i)) l.count (l.operand i)) (judged_from l k (suc i))
 
 unfoldable pub judged_listing : Listing → Judged
@@ -63,4 +61,4 @@ judged_arrays kinds operands =
 -- arrays of one length that are not refused
 pub record Checked (kinds operands : List ℕ) : Type 0 where
   pub equal : length operands ≡ length kinds
-  pub input : judged_listing (listed kinds operands) ≡ Passed
+  pub input : judged_listing (listed kinds operands) ≡ passed

@@ -1,13 +1,10 @@
 -- The image of a listing: forms, values, marks and cells. Document 01, Listings, the paragraph on entries, its second half.
-use Rattle.std.specs.Prelude.{◌≡◌, Bool, true, false, not, ◌&&◌, ◌||◌, List, [], ◌∷◌, ℕ, zero, suc, ◌+◌, ◌-◌, ◌*◌, ◌%◌, ◌^◌, ◌<◌, eqb}
+use Rattle.std.specs.Prelude.{◌≡◌, Bool, true, false, not, ◌&&◌, ◌||◌, List, [], ◌∷◌, ℕ, zero, suc, ◌+◌, ◌-◌, ◌*◌, ◌%◌, ◌^◌, ◌<◌, eqb, Option, None, Some}
 use Rattle.cell.specs.Choice.{if}
-use Rattle.cell.specs.Refusals.{judge, unaligned}
-use Rattle.cell.specs.declared.Judged.{Judged}
-use Rattle.cell.specs.declared.Judged.TheVariants.{Passed}
+use Rattle.cell.specs.Refusals.{judge, unaligned, Judged, passed}
 use Rattle.pack_layout.specs.declared.Class.{Class}
-use Rattle.pack_layout.specs.declared.Entry.{Entry}
-use Rattle.pack_layout.specs.declared.Entry.TheVariants.{Item, Nothing}
 use Rattle.pack_layout.specs.declared.ItemForm.{ItemForm}
+use Rattle.pack_layout.specs.declared.ItemNumber.{ItemNumber}
 use Rattle.pack_layout.specs.Bytes.{fits}
 use Rattle.pack_layout.specs.Flags.{flagged}
 use Rattle.pack_layout.specs.Kinds.{class_of, plain, literal, branch, no_kind}
@@ -89,6 +86,10 @@ judged_place base size = judge (unaligned base ∷ out_of_place base size ∷ []
 abbrev pub Marked : Listing → List ℕ → List ℕ → ℕ → Type 0
 Marked l before after n = (j : ℕ) → j < n → flagged after j ≡ (flagged before j || new l (flagged before) j)
 
+-- the entry that an address leads to, if any
+abbrev pub Entry : Type 0
+Entry = Option ItemNumber
+
 module _ (base : ℕ) (l : Listing) where
   abbrev pub value : ℕ → ℕ
   value i =
@@ -108,8 +109,8 @@ module _ (base : ℕ) (l : Listing) where
   -- document 01, Listings, the list machine: the entry whose cell is at an address; here among the first items, as many as the first
   -- argument says
   unfoldable pub entry_below : ℕ → ℕ → Entry
-  entry_below zero a = Nothing
-  entry_below (suc i) a = if (entry l i && eqb (address_of i) a) (Item (record { 0 = i })) (entry_below i a)
+  entry_below zero a = None
+  entry_below (suc i) a = if (entry l i && eqb (address_of i) a) (Some (record { 0 = i })) (entry_below i a)
 
   unfoldable pub entry_at : ℕ → Entry
   entry_at = entry_below l.count
@@ -127,6 +128,6 @@ module _ (base : ℕ) (l : Listing) where
 
 -- document 01, Listings, on demand 3: what an accepted listing and a legal base are; operands are cells
 pub record Legal (base : ℕ) (l : Listing) : Type 0 where
-  pub input : judged_listing l ≡ Passed
-  pub state : judged_base base l ≡ Passed
+  pub input : judged_listing l ≡ passed
+  pub state : judged_base base l ≡ passed
   pub cell : (i : ℕ) → i < l.count → l.operand i < 2 ^ 32

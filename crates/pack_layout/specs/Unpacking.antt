@@ -1,7 +1,6 @@
 -- Which images are taken. Document 02, (h): those that the packer writes, and no other.
-use Rattle.std.specs.Prelude.{Bool, true, false, ◌&&◌, List, [], ◌∷◌, ℕ, eqb}
-use Rattle.cell.specs.declared.Judged.{Judged}
-use Rattle.cell.specs.declared.Judged.TheVariants.{Passed, Refused}
+use Rattle.std.specs.Prelude.{Bool, true, false, ◌&&◌, List, [], ◌∷◌, ℕ, eqb, Err, Ok}
+use Rattle.cell.specs.Refusals.{Judged}
 use Rattle.pack_layout.specs.Listing.{Listing, judged_listing}
 use Rattle.pack_layout.specs.Packing.{image}
 use Rattle.pack_layout.specs.Output.{bytes_of}
@@ -15,8 +14,8 @@ same (x ∷ xs) [] = false
 same (x ∷ xs) (y ∷ ys) = eqb x y && same xs ys
 
 abbrev pub passes : Judged → Bool
-passes Passed = true
-passes (Refused r) = false
+passes (Ok _) = true
+passes (Err r) = false
 
 -- a listing that the input list takes, and whose image these bytes are
 unfoldable pub packs_to : ℕ → ℕ → Listing → List ℕ → Bool

@@ -1,9 +1,7 @@
 -- The rows of document 01, Worked on paper, that speak of packing: a listing in two arrays, and the cells of its image.
-use Rattle.std.specs.Prelude.{◌≡◌, Bool, true, false, List, [], ◌∷◌, ◌++◌, map, ℕ, zero, suc, ◌+◌, ◌-◌, ◌^◌, replicate}
+use Rattle.std.specs.Prelude.{◌≡◌, Bool, true, false, List, [], ◌∷◌, ◌++◌, map, ℕ, zero, suc, ◌+◌, ◌-◌, ◌^◌, replicate, Err, Ok}
 use Rattle.cell.specs.Choice.{if}
-use Rattle.cell.specs.Refusals.{refusal_number}
-use Rattle.cell.specs.declared.Judged.{Judged}
-use Rattle.cell.specs.declared.Judged.TheVariants.{Passed, Refused}
+use Rattle.cell.specs.Refusals.{refusal_number, Judged, passed}
 use Rattle.pack_layout.specs.declared.Class.{Class}
 use Rattle.pack_layout.specs.Kinds.{class_of, plain, literal, branch, no_kind}
 use Rattle.pack_layout.specs.Listing.{listed, judged_arrays}
@@ -26,7 +24,7 @@ row_image r = image r.base (listed r.kinds r.operands)
 
 -- every row of a table is accepted and packs to its cells
 abbrev pub RowsHold : List Row → Type 0
-RowsHold rows = (map row_judged rows ≡ map (λ r. Passed) rows) × (map row_image rows ≡ map (λ r. r.cells) rows)
+RowsHold rows = (map row_judged rows ≡ map (λ r. passed) rows) × (map row_image rows ≡ map (λ r. r.cells) rows)
 
 -- the kinds here: 01h DUP, 1Eh, 42h BRANCH, 52h literal, 55h HALT
 abbrev pub worked : List Row
@@ -83,8 +81,8 @@ further =
 
 -- the number of a judgement: 0, or the refusal's
 abbrev pub judged_number : Judged → ℕ
-judged_number Passed = 0
-judged_number (Refused r) = refusal_number r
+judged_number (Ok _) = 0
+judged_number (Err r) = refusal_number r
 
 -- Listings that are refused: arrays, and k where document 01 gives the refusal -k
 pub record RefusedRow : Type 0 where

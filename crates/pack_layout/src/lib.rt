@@ -33,12 +33,5 @@ pub enum Class {
     NoKind,
 }
 
-// The entry that an address leads to.
-#[derive(Clone, Copy)]
-pub enum Entry {
-    Item(ItemNumber),
-    Nothing,
-}
-
 // The items that a listing has at most, and so the places of a working array.
 pub const MOST_ITEMS: usize = 4096;

@@ -1,9 +1,8 @@
 -- What refuses a packing. Document 01, Turned back for the input, Turned back for the state, and the order below them. -4101 and -1
 -- speak of a memory, and a packing has none.
 use Rattle.std.specs.Prelude.{List, [], ◌∷◌, ℕ, ◌*◌, ltb}
-use Rattle.cell.specs.Refusals.{Ground, judge, in_order, byte_order}
+use Rattle.cell.specs.Refusals.{Ground, judge, in_order, byte_order, Judged}
 use Rattle.cell.specs.declared.Refusal.TheVariants.{ShortOutput}
-use Rattle.cell.specs.declared.Judged.{Judged}
 use Rattle.pack_layout.specs.Listing.{Listing, listed, judged_arrays}
 use Rattle.pack_layout.specs.Packing.{image_cells, judged_place}
 

@@ -1,6 +1,7 @@
 -- One step of the mark pass.
 -- Assumes nothing.
 use Rattle.std.proofs.Common.{◌≡◌, ℕ, zero, suc, ◌+◌, ◌<◌, ◌≤◌, Bool, true, false, ◌||◌, List, length, get_or, set, sym, refl, ap, ◌∙◌, ⊎_elim, le_of_suc-le-suc, eq-or-lt_of_le, add-one, arith, length-set, get_or-set_other, get_or-set_same, ne_eqb}
+use Rattle.cell.specs.Refusals.{passed}
 use mathlib.Core.Path.{fun_ext}
 use mathlib.Core.Bool.{or-true, or-false}
 use native.Mathlib.Decide.{dec_lt}
@@ -11,7 +12,6 @@ use Rattle.pack_layout.specs.declared.Class.TheVariants.{Plain as plain, Literal
 use Rattle.pack_layout.specs.Kinds.{class_of}
 use Rattle.pack_layout.specs.Bytes.{fits}
 use Rattle.pack_layout.specs.Flags.{flagged}
-use Rattle.cell.specs.declared.Judged.TheVariants.{Passed}
 use Rattle.pack_layout.specs.Listing.{Listing, listed, any, judged_listing}
 use Rattle.pack_layout.specs.Layout.{mid, left, Laid}
 use Rattle.pack_layout.specs.Rounds.{rounds}
@@ -27,7 +27,7 @@ new_same branch g a b h = ap (new_of branch g) (h refl)
 new_same no_kind g a b h = refl
 
 -- what the code tests at item i, from the arrays of a layout
-module _ (l : Listing) (ok : judged_listing l ≡ Passed) (m : ℕ → Bool) (ats nexts lefts : List ℕ)
+module _ (l : Listing) (ok : judged_listing l ≡ passed) (m : ℕ → Bool) (ats nexts lefts : List ℕ)
     (laid : Laid (plan l m) ats nexts lefts l.count) where
   pub new_at : (i : ℕ) → i < l.count
       → new_of (class_of (l.kind i)) (form_of (class_of (l.kind i)) (m i) (l.operand i) (get_or lefts i 0))
@@ -94,7 +94,7 @@ unfolding any
 mark_start l before n e =
     record { inside = omega arith; size = e; some = refl; done = λ j h. absurd (omega arith); rest = λ j h. refl }
 
-module _ (l : Listing) (ok : judged_listing l ≡ Passed) (before marks ats nexts lefts : List ℕ)
+module _ (l : Listing) (ok : judged_listing l ≡ passed) (before marks ats nexts lefts : List ℕ)
     (laid : Laid (plan l (flagged before)) ats nexts lefts l.count) (i : ℕ) (h : i < l.count)
     (same : flagged marks i ≡ flagged before i) where
   pub test_is : (r : Bool)

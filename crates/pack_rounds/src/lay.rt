@@ -34,8 +34,7 @@ pub fn lay_out(
         free: 0,
         next: CellCount(0),
     };
-    let mut i: usize = 0;
-    while i < n {
+    for i in 0..n {
         let d = begun(c, entries[i] == 1);
         let f = d.free - 1;
         let g = form_of(class_of(kinds[i]), marks[i] == 1, operands[i], f);
@@ -43,8 +42,6 @@ pub fn lay_out(
         nexts[i] = d.next.0;
         lefts[i] = f;
         c = finished(d, g);
-        i += 1;
     }
-    let cells = c.next;
-    cells
+    c.next
 }

@@ -67,9 +67,7 @@ pub fn mark_branches(
 {
     let n = kinds.len();
     let mut added = false;
-    let mut i: usize = 0;
-    while i < n {
-        let after = i + 1;
+    for i in 0..n {
         if newly(
             kinds[i],
             marks[i] == 1,
@@ -81,7 +79,6 @@ pub fn mark_branches(
             marks[i] = 1;
             added = true;
         }
-        i = after;
     }
     added
 }

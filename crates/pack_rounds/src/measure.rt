@@ -6,7 +6,6 @@ ghost use Rattle.pack_layout.specs.Packing.{distance, value_of};
 use cell::place::address_at;
 use cell::{Address, CellCount};
 use pack_layout::{Class, ItemForm};
-use std::num::wrapping_sub_u32;
 
 // Whether a cell, as a signed number, is at least -h and below h.
 fn within(x: u32, h: u32) -> bool
@@ -20,6 +19,7 @@ fn within(x: u32, h: u32) -> bool
 }
 
 // Whether a cell fits f signed bytes, at most three.
+#[tactic(auto, unfolding(pack_layout::specs::Bytes::fits))]
 pub fn fits_in(f: u32, x: u32) -> bool
     requires { f ≤ 3 }
     ensures { result ≡ fits f x }
@@ -36,7 +36,7 @@ pub fn fits_in(f: u32, x: u32) -> bool
 pub fn distance_of(next: CellCount, to: CellCount) -> u32
     ensures { result ≡ distance next.0 to.0 }
 {
-    wrapping_sub_u32(to.0, next.0)
+    to.0.wrapping_sub(next.0)
 }
 
 // The value of an item with operand x. The base is legal, and an image has at most 8,192 cells.

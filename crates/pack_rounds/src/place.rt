@@ -24,12 +24,8 @@ pub fn begun(c: Cursor, entry: bool) -> Cursor
     requires { c.next.0 ≤ 8192 }
     ensures { spot_of result ≡ begin (fresh c.free entry) (spot_of c) }
 {
-    let next = c.next;
-    if c.free == 0 {
-        return open_cell(next);
-    }
-    if entry {
-        return open_cell(next);
+    if c.free == 0 || entry {
+        return open_cell(c.next);
     }
     c
 }
@@ -64,10 +60,7 @@ pub fn finished(c: Cursor, g: ItemForm) -> Cursor
 pub fn taken(marked: bool, f: u32) -> ItemForm
     ensures { result ≡ taking marked f }
 {
-    if f == 0 {
-        return ItemForm::InCell;
-    }
-    if marked {
+    if f == 0 || marked {
         return ItemForm::InCell;
     }
     ItemForm::Immediate

@@ -10,18 +10,6 @@ use crate::lay::lay_out;
 use crate::mark::mark_branches;
 use cell::CellCount;
 
-// No mark.
-fn clear(flags: &mut [u8])
-    ensures { (j : ℕ) → slice_index flags.new j ≡ 0 }
-{
-    let n = flags.len();
-    let mut i: usize = 0;
-    while i < n {
-        flags[i] = 0;
-        i += 1;
-    }
-}
-
 // Rounds until one adds no mark. The answer is the number of cells of the image.
 pub fn settle_marks(
     kinds: &[u8],
@@ -40,7 +28,7 @@ pub fn settle_marks(
     ensures marks_after { flagged marks.new ≡ marks_of (listed kinds.now operands.now) }
     ensures laid { Laid (layout (listed kinds.now operands.now)) ats.new nexts.new lefts.new (length kinds.now) }
 {
-    clear(marks);
+    marks.fill(0);
     loop {
         let cells = lay_out(kinds, operands, entries, marks, ats, nexts, lefts);
         let added = mark_branches(kinds, operands, ats, nexts, lefts, marks);

@@ -6,14 +6,14 @@ ghost use Rattle.pack_refusals.specs.Judgement as judgement;
 ghost use Rattle.packer.specs.Pack as answers;
 ghost use Rattle.pack_prepare.specs.Prepared.{Places};
 
-use crate::Packed;
-use cell::{Address, Judged};
+use cell::{Address, CellCount, Refusal};
 use pack_image::write::write_image;
 use pack_layout::MOST_ITEMS;
 use pack_prepare::prepare::prepare;
 use pack_refusals::judgement::{judge_image, judge_input};
 
 // A listing that the input list passed, with the working arrays lent.
+#[tactic(auto, using(pack_prepare::proofs::Checking::cells_most, crate::proofs::Answering::image_refused, crate::proofs::Answering::image_packed))]
 fn pack_checked(
     order: u8,
     kinds: &[u8],
@@ -25,47 +25,46 @@ fn pack_checked(
     nexts: &mut [u32],
     lefts: &mut [u32],
     output: &mut [u8],
-) -> Packed
+) -> Result<CellCount, Refusal>
     requires checked { Checked kinds.now operands.now }
     requires places { Places (length kinds.now) entries.old marks.old ats.old nexts.old lefts.old }
     ensures { answers.packed_to output.new result ≡ answers.pack_if (judgement.judge_image base.0 (image_cells (listed kinds.now operands.now)) (length output.old)) order base.0 (listed kinds.now operands.now) output.old }
 {
     let cells = prepare(kinds, operands, entries, marks, ats, nexts, lefts);
-    match judge_image(base, cells, output.len()) {
-        Judged::Refused(r) => Packed::Refused(r),
-        Judged::Passed => {
-            write_image(
-                order, base, kinds, operands, marks, ats, nexts, lefts, output,
-            );
-            Packed::Cells(cells)
-        }
-    }
+    judge_image(base, cells, output.len())?;
+    write_image(
+        order, base, kinds, operands, marks, ats, nexts, lefts, output,
+    );
+    Ok(cells)
 }
 
-pub fn pack(order: u8, kinds: &[u8], operands: &[u32], base: Address, output: &mut [u8]) -> Packed
+#[tactic(auto, using(pack_prepare::proofs::Checking::items_most, pack_refusals::proofs::Judging::input_checked, crate::proofs::Answering::pack_refused, crate::proofs::Answering::pack_packed))]
+pub fn pack(
+    order: u8,
+    kinds: &[u8],
+    operands: &[u32],
+    base: Address,
+    output: &mut [u8],
+) -> Result<CellCount, Refusal>
     ensures { answers.packed_to output.new result ≡ answers.pack_of order kinds.now operands.now base.0 output.old }
 {
-    match judge_input(order, kinds, operands) {
-        Judged::Refused(r) => Packed::Refused(r),
-        Judged::Passed => {
-            let n = kinds.len();
-            let mut entries = [0u8; MOST_ITEMS];
-            let mut marks = [0u8; MOST_ITEMS];
-            let mut ats = [0u32; MOST_ITEMS];
-            let mut nexts = [0u32; MOST_ITEMS];
-            let mut lefts = [0u32; MOST_ITEMS];
-            pack_checked(
-                order,
-                kinds,
-                operands,
-                base,
-                &mut entries[0..n],
-                &mut marks[0..n],
-                &mut ats[0..n],
-                &mut nexts[0..n],
-                &mut lefts[0..n],
-                output,
-            )
-        }
-    }
+    judge_input(order, kinds, operands)?;
+    let n = kinds.len();
+    let mut entries = [0u8; MOST_ITEMS];
+    let mut marks = [0u8; MOST_ITEMS];
+    let mut ats = [0u32; MOST_ITEMS];
+    let mut nexts = [0u32; MOST_ITEMS];
+    let mut lefts = [0u32; MOST_ITEMS];
+    pack_checked(
+        order,
+        kinds,
+        operands,
+        base,
+        &mut entries[0..n],
+        &mut marks[0..n],
+        &mut ats[0..n],
+        &mut nexts[0..n],
+        &mut lefts[0..n],
+        output,
+    )
 }

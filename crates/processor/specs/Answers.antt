@@ -1,8 +1,7 @@
 -- What cycle and run leave and answer. Document 02, (a): the areas join the registers, which are eight so. Document 02, (b): a table goes with each.
-use Rattle.std.specs.Prelude.{List, ℕ, length}
-use Rattle.cell.specs.Refusals.{refusal_number}
-use Rattle.cell.specs.declared.Judged.{Judged}
-use Rattle.cell.specs.declared.Judged.TheVariants as judged
+use Rattle.std.specs.Prelude.{List, ℕ, length, Result, Ok, Err}
+use Rattle.cell.specs.declared.Refusal.{Refusal}
+use Rattle.cell.specs.Refusals.{refusal_number, Judged}
 use Rattle.exceptions.specs.Exceptions.{exception_code}
 use Rattle.throws.specs.Throws.{CycleState}
 use Rattle.machine.specs.declared.Table.{Table}
@@ -36,48 +35,55 @@ exception_address Divisor = 0
 exception_address Illegal = 0
 exception_address Library = 0
 
+-- what a cycle and a run answer, or their refusal
+abbrev pub CycleAnswered : Type 0
+CycleAnswered = Result Cycled Refusal
+
+abbrev pub RunAnswered : Type 0
+RunAnswered = Result Ran Refusal
+
 -- cycle: the number (0 went on or threw, 1 stopped, or the refusal's), the reason of a stop, the registers (those given, r, on a refusal), and the
 -- code and the address of the exception that was thrown
-abbrev pub cycle_number : Cycled → ℕ
-cycle_number (cycled.Refused n) = refusal_number n
-cycle_number (cycled.Went r) = 0
-cycle_number (cycled.Threw r e) = 0
-cycle_number (cycled.Stopped r x) = 1
+abbrev pub cycle_number : CycleAnswered → ℕ
+cycle_number (Err n) = refusal_number n
+cycle_number (Ok (cycled.Went r)) = 0
+cycle_number (Ok (cycled.Threw r e)) = 0
+cycle_number (Ok (cycled.Stopped r x)) = 1
 
-abbrev pub cycle_reason : Cycled → ℕ
-cycle_reason (cycled.Refused n) = 0
-cycle_reason (cycled.Went r) = 0
-cycle_reason (cycled.Threw r e) = 0
-cycle_reason (cycled.Stopped r x) = x
+abbrev pub cycle_reason : CycleAnswered → ℕ
+cycle_reason (Err n) = 0
+cycle_reason (Ok (cycled.Went r)) = 0
+cycle_reason (Ok (cycled.Threw r e)) = 0
+cycle_reason (Ok (cycled.Stopped r x)) = x
 
-abbrev pub cycle_registers : RegisterFile → Cycled → RegisterFile
-cycle_registers given (cycled.Refused n) = given
-cycle_registers given (cycled.Went r) = r
-cycle_registers given (cycled.Threw r e) = r
-cycle_registers given (cycled.Stopped r x) = r
+abbrev pub cycle_registers : RegisterFile → CycleAnswered → RegisterFile
+cycle_registers given (Err n) = given
+cycle_registers given (Ok (cycled.Went r)) = r
+cycle_registers given (Ok (cycled.Threw r e)) = r
+cycle_registers given (Ok (cycled.Stopped r x)) = r
 
-abbrev pub cycle_code : Cycled → ℕ
-cycle_code (cycled.Refused n) = 0
-cycle_code (cycled.Went r) = 0
-cycle_code (cycled.Threw r e) = exception_code e
-cycle_code (cycled.Stopped r x) = 0
+abbrev pub cycle_code : CycleAnswered → ℕ
+cycle_code (Err n) = 0
+cycle_code (Ok (cycled.Went r)) = 0
+cycle_code (Ok (cycled.Threw r e)) = exception_code e
+cycle_code (Ok (cycled.Stopped r x)) = 0
 
-abbrev pub cycle_address : Cycled → ℕ
-cycle_address (cycled.Refused n) = 0
-cycle_address (cycled.Went r) = 0
-cycle_address (cycled.Threw r e) = exception_address e
-cycle_address (cycled.Stopped r x) = 0
+abbrev pub cycle_address : CycleAnswered → ℕ
+cycle_address (Err n) = 0
+cycle_address (Ok (cycled.Went r)) = 0
+cycle_address (Ok (cycled.Threw r e)) = exception_address e
+cycle_address (Ok (cycled.Stopped r x)) = 0
 
 pub record CycleAnswer : Type 0 where
   pub memory : List ℕ
-  pub answer : Cycled
+  pub answer : CycleAnswered
   pub number : ℕ
   pub reason : ℕ
   pub registers : RegisterFile
   pub code : ℕ
   pub address : ℕ
 
-abbrev pub cycled_to : RegisterFile → List ℕ → Cycled → CycleAnswer
+abbrev pub cycled_to : RegisterFile → List ℕ → CycleAnswered → CycleAnswer
 cycled_to given m a =
     record {
       memory = m;
@@ -89,14 +95,14 @@ cycled_to given m a =
       address = cycle_address a;
     }
 
-abbrev pub cycled_as : Areas → Registers → Ended → Cycled
-cycled_as areas r Went = cycled.Went (filed areas r)
-cycled_as areas r (Threw e) = cycled.Threw (filed areas r) e
-cycled_as areas r (Stopped x) = cycled.Stopped (filed areas r) x
+abbrev pub cycled_as : Areas → Registers → Ended → CycleAnswered
+cycled_as areas r Went = Ok (cycled.Went (filed areas r))
+cycled_as areas r (Threw e) = Ok (cycled.Threw (filed areas r) e)
+cycled_as areas r (Stopped x) = Ok (cycled.Stopped (filed areas r) x)
 
 abbrev pub cycle_if : Judged → ℕ → Table → List ℕ → RegisterFile → CycleAnswer
-cycle_if (judged.Refused n) order table m r = cycled_to r m (cycled.Refused n)
-cycle_if judged.Passed order table m r =
+cycle_if (Err n) order table m r = cycled_to r m (Err n)
+cycle_if (Ok _) order table m r =
     let t = cycle_of (machine_of order r.areas table (length m)) m r.registers in
     cycled_to r t.memory (cycled_as r.areas t.result.registers t.result.ended)
 
@@ -106,36 +112,36 @@ cycle_answer order table m r = cycle_if (judge_bounded (length m) order r.areas 
 -- run: the number (0 spent, 1 stopped, or the refusal's), the reason of a stop, the registers (those given on a refusal), and the cycles: none on a
 -- refusal, the budget where it is spent, those done where it stopped. Document 01, The processor, on run: the budget is spent exactly if so many
 -- cycles passed without a stop
-abbrev pub run_number : Ran → ℕ
-run_number (ran.Refused n) = refusal_number n
-run_number (ran.Spent r) = 0
-run_number (ran.Stopped r x n) = 1
+abbrev pub run_number : RunAnswered → ℕ
+run_number (Err n) = refusal_number n
+run_number (Ok (ran.Spent r)) = 0
+run_number (Ok (ran.Stopped r x n)) = 1
 
-abbrev pub run_reason : Ran → ℕ
-run_reason (ran.Refused n) = 0
-run_reason (ran.Spent r) = 0
-run_reason (ran.Stopped r x n) = x
+abbrev pub run_reason : RunAnswered → ℕ
+run_reason (Err n) = 0
+run_reason (Ok (ran.Spent r)) = 0
+run_reason (Ok (ran.Stopped r x n)) = x
 
-abbrev pub run_registers : RegisterFile → Ran → RegisterFile
-run_registers given (ran.Refused n) = given
-run_registers given (ran.Spent r) = r
-run_registers given (ran.Stopped r x n) = r
+abbrev pub run_registers : RegisterFile → RunAnswered → RegisterFile
+run_registers given (Err n) = given
+run_registers given (Ok (ran.Spent r)) = r
+run_registers given (Ok (ran.Stopped r x n)) = r
 
-abbrev pub run_count : ℕ → Ran → ℕ
-run_count budget (ran.Refused n) = 0
-run_count budget (ran.Spent r) = budget
-run_count budget (ran.Stopped r x n) = n
+abbrev pub run_count : ℕ → RunAnswered → ℕ
+run_count budget (Err n) = 0
+run_count budget (Ok (ran.Spent r)) = budget
+run_count budget (Ok (ran.Stopped r x n)) = n
 
 pub record RunAnswer : Type 0 where
   pub memory : List ℕ
-  pub answer : Ran
+  pub answer : RunAnswered
   pub number : ℕ
   pub reason : ℕ
   pub registers : RegisterFile
   pub count : ℕ
 
 -- of a run that was given registers and a budget
-abbrev pub ran_to : RegisterFile → ℕ → List ℕ → Ran → RunAnswer
+abbrev pub ran_to : RegisterFile → ℕ → List ℕ → RunAnswered → RunAnswer
 ran_to given budget m a =
     record {
       memory = m;
@@ -146,10 +152,10 @@ ran_to given budget m a =
       count = run_count budget a;
     }
 
-abbrev pub ran_as : Areas → Registers → ℕ → Ended → Ran
-ran_as areas r n Went = ran.Spent (filed areas r)
-ran_as areas r n (Threw e) = ran.Spent (filed areas r)
-ran_as areas r n (Stopped x) = ran.Stopped (filed areas r) x n
+abbrev pub ran_as : Areas → Registers → ℕ → Ended → RunAnswered
+ran_as areas r n Went = Ok (ran.Spent (filed areas r))
+ran_as areas r n (Threw e) = Ok (ran.Spent (filed areas r))
+ran_as areas r n (Stopped x) = Ok (ran.Stopped (filed areas r) x n)
 
 -- n cycles were done, and left t; the areas come back as they were given
 abbrev pub run_for : RegisterFile → ℕ → ℕ → CycleState → RunAnswer
@@ -180,8 +186,8 @@ abbrev pub judge_run : Given RegisterFile → Judged
 judge_run g = judge_bounded (length g.memory) g.setting.order g.registers.areas g.setting.table
 
 abbrev pub run_if : Judged → Given RegisterFile → RunAnswer
-run_if (judged.Refused n) g = ran_to g.registers g.budget g.memory (ran.Refused n)
-run_if judged.Passed g =
+run_if (Err n) g = ran_to g.registers g.budget g.memory (Err n)
+run_if (Ok _) g =
     let s = begun g.memory g.registers.registers in
     let n = done_of (machine_in g) g.budget s in
     run_for g.registers g.budget n (cycles_of (machine_in g) n s)

@@ -1,4 +1,6 @@
 // Cycle and run. Neither requires anything: a bad memory length, a bad byte order, bad areas and a bad table are refused, and then nothing is written.
+#![tactic(auto, using(bounds::proofs::BoundLaws::lent, bounds::proofs::BoundLaws::areas_pass, bounds::proofs::BoundLaws::passed_fits, cycles::proofs::RunLaws::one_cycle, crate::proofs::EntryLaws::done_is), unfolding(crate::specs::Answers::cycle_answer, crate::specs::Answers::run_answer))]
+
 ghost use Rattle.std.specs.Prelude.{◌≡◌, ◌≤◌, ◌-◌};
 ghost use Rattle.processor.specs.Answers as answers;
 
@@ -6,63 +8,53 @@ use crate::{Cycled, Ran};
 use areas::{Areas, RegisterFile};
 use bounds::bounding::machine_of;
 use bounds::judging::judge_bounded;
-use cell::Judged;
+use cell::Refusal;
 use cycles::running::{Progress, run_cycles};
 use machine::{CycleResult, Ended, Table};
 use processor_start::entry::file;
 
 fn cycled_as(areas: Areas, t: CycleResult) -> Cycled
-    ensures { result ≡ answers.cycled_as areas t.registers t.ended }
+    ensures { Ok result ≡ answers.cycled_as areas t.registers t.ended }
 {
-    let r = t.registers;
-    let ended = t.ended;
-    match ended {
-        Ended::Went => Cycled::Went(file(areas, r)),
-        Ended::Threw(e) => Cycled::Threw(file(areas, r), e),
-        Ended::Stopped(x) => Cycled::Stopped(file(areas, r), x),
+    let left = file(areas, t.registers);
+    match t.ended {
+        Ended::Went => Cycled::Went(left),
+        Ended::Threw(e) => Cycled::Threw(left, e),
+        Ended::Stopped(x) => Cycled::Stopped(left, x),
     }
 }
 
-pub fn cycle(order: u8, memory: &mut [u8], table: Table, r: RegisterFile) -> Cycled
+pub fn cycle(order: u8, memory: &mut [u8], table: Table, r: RegisterFile) -> Result<Cycled, Refusal>
     ensures { answers.cycled_to r memory.new result ≡ answers.cycle_answer order table memory.old r }
 {
-    let areas = r.areas;
-    match judge_bounded(memory.len(), order, areas, table) {
-        Judged::Refused(n) => Cycled::Refused(n),
-        Judged::Passed => {
-            let given = r.registers;
-            let machine = machine_of(order, areas, table, memory.len());
-            let t = run_cycles(machine, memory, given, 1);
-            let u = t.result;
-            cycled_as(areas, u)
-        }
-    }
+    judge_bounded(memory.len(), order, r.areas, table)?;
+    let machine = machine_of(order, r.areas, table, memory.len());
+    let t = run_cycles(machine, memory, r.registers, 1);
+    Ok(cycled_as(r.areas, t.result))
 }
 
 fn ran_as(areas: Areas, t: Progress, budget: u32) -> Ran
     requires { t.left ≤ budget }
-    ensures { result ≡ answers.ran_as areas t.result.registers (budget - t.left) t.result.ended }
+    ensures { Ok result ≡ answers.ran_as areas t.result.registers (budget - t.left) t.result.ended }
 {
-    let u = t.result;
-    let r = u.registers;
-    let ended = u.ended;
-    match ended {
-        Ended::Went => Ran::Spent(file(areas, r)),
-        Ended::Threw(_) => Ran::Spent(file(areas, r)),
-        Ended::Stopped(x) => Ran::Stopped(file(areas, r), x, budget - t.left),
+    let left = file(areas, t.result.registers);
+    match t.result.ended {
+        Ended::Went | Ended::Threw(_) => Ran::Spent(left),
+        Ended::Stopped(x) => Ran::Stopped(left, x, budget - t.left),
     }
 }
 
-pub fn run(order: u8, memory: &mut [u8], table: Table, r: RegisterFile, budget: u32) -> Ran
+pub fn run(
+    order: u8,
+    memory: &mut [u8],
+    table: Table,
+    r: RegisterFile,
+    budget: u32,
+) -> Result<Ran, Refusal>
     ensures { answers.ran_to r budget memory.new result ≡ answers.run_answer (answers.given_of order table memory.old r budget) }
 {
-    let areas = r.areas;
-    match judge_bounded(memory.len(), order, areas, table) {
-        Judged::Refused(n) => Ran::Refused(n),
-        Judged::Passed => {
-            let given = r.registers;
-            let machine = machine_of(order, areas, table, memory.len());
-            ran_as(areas, run_cycles(machine, memory, given, budget), budget)
-        }
-    }
+    judge_bounded(memory.len(), order, r.areas, table)?;
+    let machine = machine_of(order, r.areas, table, memory.len());
+    let t = run_cycles(machine, memory, r.registers, budget);
+    Ok(ran_as(r.areas, t, budget))
 }

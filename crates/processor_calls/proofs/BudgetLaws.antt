@@ -1,12 +1,12 @@
 -- `beetle_run` with a budget cut in two, or with budget to spare.
+use Rattle.cell.specs.Refusals.{Judged, passed}
+use Rattle.std.specs.Prelude.{Ok, Err}
 use mathlib.Core.Path.{◌≡◌, refl, sym, ap, ◌∙◌}
 use mathlib.Core.Logic.{◌≢◌}
 use mathlib.Core.List.{List, [], ◌∷◌}
 use Prim.Native.Nat.{ℕ, ◌+◌, ◌≤◌}
 use native.Mathlib.Omega.{arith}
 use lib.ListN.{length}
-use Rattle.cell.specs.declared.Judged.{Judged}
-use Rattle.cell.specs.declared.Judged.TheVariants.{Passed, Refused}
 use Rattle.cell.proofs.JudgementLaws.{refusal_some}
 use Rattle.machine.specs.declared.Registers.{Registers}
 use Rattle.machine.specs.declared.Ended.{Ended}
@@ -14,8 +14,7 @@ use Rattle.machine.specs.declared.Ended.TheVariants.{Went, Threw, Stopped}
 use Rattle.areas.specs.Areas.{filed}
 use Rattle.areas.specs.declared.Areas.{Areas}
 use Rattle.areas.specs.declared.RegisterFile.{RegisterFile}
-use Rattle.processor.specs.Answers.{Given, ran_as, RunAnswer, run_number, judge_run, run_answer}
-use Rattle.processor.specs.declared.Ran.{Ran}
+use Rattle.processor.specs.Answers.{Given, ran_as, RunAnswer, run_number, judge_run, run_answer, RunAnswered}
 use Rattle.processor.specs.declared.Ran.TheVariants as ran
 use Rattle.processor_laws.specs.Budgets.{with_budget, carried_on, later_stop}
 use Rattle.processor_laws.proofs.BudgetLaws.{its_registers, run_keeps_length, number_is, Accepted, accepted, cut_budget, larger_budget}
@@ -41,22 +40,22 @@ told_spent registers out areas r b n (Threw f) q = refl
 told_spent registers out areas r b n (Stopped x) q = absurd (omega (arith, q))
 
 -- the number that is told is the answer's
-number_told : (registers out : List ℕ) (b : ℕ) (a : Ran) → run_number a ≡ (run_told registers out b a).number
-number_told registers out b (ran.Refused n) = refl
-number_told registers out b (ran.Spent r) = refl
-number_told registers out b (ran.Stopped r x n) = refl
+number_told : (registers out : List ℕ) (b : ℕ) (a : RunAnswered) → run_number a ≡ (run_told registers out b a).number
+number_told registers out b (Err n) = refl
+number_told registers out b (Ok (ran.Spent r)) = refl
+number_told registers out b (Ok (ran.Stopped r x n)) = refl
 
 told_number : (g : Given (List ℕ)) (out : List ℕ)
     → (run_answer (as_read g)).number ≡ (run_told g.registers out g.budget (run_answer (as_read g)).answer).number
 told_number g out = number_is (as_read g) ∙ number_told g.registers out g.budget (run_answer (as_read g)).answer
 
 -- what is told of a run that is not spent names no budget
-told_alike : (registers out : List ℕ) (b c : ℕ) (a : Ran) → run_number a ≢ 0 → run_told registers out b a ≡ run_told registers out c a
-told_alike registers out b c (ran.Refused n) h = refl
-told_alike registers out b c (ran.Spent r) h = absurd (h refl)
-told_alike registers out b c (ran.Stopped r x n) h = refl
+told_alike : (registers out : List ℕ) (b c : ℕ) (a : RunAnswered) → run_number a ≢ 0 → run_told registers out b a ≡ run_told registers out c a
+told_alike registers out b c (Err n) h = refl
+told_alike registers out b c (Ok (ran.Spent r)) h = absurd (h refl)
+told_alike registers out b c (Ok (ran.Stopped r x n)) h = refl
 
-module _ (g : Given (List ℕ)) (out : List ℕ) (j : judge_with (length g.memory) g.setting.order g.setting.table g.registers (length out) 2 ≡ Passed) where
+module _ (g : Given (List ℕ)) (out : List ℕ) (j : judge_with (length g.memory) g.setting.order g.setting.table g.registers (length out) 2 ≡ passed) where
   abbrev first : RunAnswer
   first = run_answer (as_read g)
 
@@ -82,11 +81,11 @@ module _ (g : Given (List ℕ)) (out : List ℕ) (j : judge_with (length g.memor
     j,
   )
 
-  passed : judge_run (as_read g) ≡ Passed
-  passed = with_passed (length g.memory) g.setting.order g.setting.table g.registers (length out) 2 j
+  run_passes : judge_run (as_read g) ≡ passed
+  run_passes = with_passed (length g.memory) g.setting.order g.setting.table g.registers (length out) 2 j
 
   one : Accepted (as_read g)
-  one = accepted (as_read g) passed
+  one = accepted (as_read g) run_passes
 
   -- the first call's answer is spent, and leaves the arrays so
   spent_told : (run_told g.registers out g.budget first.answer).number ≡ 0
@@ -103,11 +102,11 @@ module _ (g : Given (List ℕ)) (out : List ℕ) (j : judge_with (length g.memor
       ∙ its_registers (registers_of g.registers) (registers_of g.registers).areas one.registers one.done one.ended
 
   two : (c : ℕ) → Accepted (carried_on (as_read g) first.memory (whole one.registers) c)
-  two c = accepted (carried_on (as_read g) first.memory (whole one.registers) c) (rw (run_keeps_length (as_read g)) passed)
+  two c = accepted (carried_on (as_read g) first.memory (whole one.registers) c) (rw (run_keeps_length (as_read g)) run_passes)
 
   cut_passed : (c : ℕ) → (run_told g.registers out g.budget first.answer).number ≡ 0
-      → run_if Passed (with_budget (g.budget + c) g) out
-      ≡ with_cycles g.budget (run_call (carried_on g first.memory (run_if Passed g out).told.registers c) (run_if Passed g out).told.out)
+      → run_if passed (with_budget (g.budget + c) g) out
+      ≡ with_cycles g.budget (run_call (carried_on g first.memory (run_if passed g out).told.registers c) (run_if passed g out).told.out)
   cut_passed c q =
       let r : Registers = one.registers in
       let areas : Areas = (registers_of g.registers).areas in
@@ -122,13 +121,13 @@ cut_by : (g : Given (List ℕ)) (out : List ℕ) (c : ℕ) (j : Judged)
     → (run_if j g out).told.number ≡ 0
     → run_if j (with_budget (g.budget + c) g) out
     ≡ with_cycles g.budget (run_call (carried_on g (run_if j g out).memory (run_if j g out).told.registers c) (run_if j g out).told.out)
-cut_by g out c (Refused n) q e = absurd (refusal_some n e)
-cut_by g out c Passed q e = cut_passed g out q c e
+cut_by g out c (Err n) q e = absurd (refusal_some n e)
+cut_by g out c (Ok _) q e = cut_passed g out q c e
 
 larger_by : (g : Given (List ℕ)) (out : List ℕ) (b : ℕ) (j : Judged) → (run_if j g out).told.number ≢ 0 → g.budget ≤ b
     → run_if j (with_budget b g) out ≡ run_if j g out
-larger_by g out b (Refused n) h w = refl
-larger_by g out b Passed h w =
+larger_by g out b (Err n) h w = refl
+larger_by g out b (Ok _) h w =
     let s : RunAnswer = run_answer (as_read g) in
     rw (larger_budget (as_read g) b (λ q. h (sym (told_number g out) ∙ q)) w)
     (ap (λ (t : Told). record { memory = s.memory; told = t })

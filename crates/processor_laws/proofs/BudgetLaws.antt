@@ -1,4 +1,6 @@
 -- A run in two parts, and a run with budget to spare.
+use Rattle.std.specs.Prelude.{Ok, Err}
+use Rattle.cell.specs.Refusals.{Judged, passed}
 use mathlib.Core.Path.{◌≡◌, refl, sym, ap, ◌∙◌}
 use mathlib.Core.Logic.{◌≢◌}
 use mathlib.Core.Bool.{Bool, true, false, true≢false}
@@ -6,8 +8,6 @@ use mathlib.Core.List.{List}
 use Prim.Native.Nat.{ℕ, zero, suc, ◌+◌, ◌-◌}
 use native.Mathlib.Omega.{arith}
 use lib.ListN.{length}
-use Rattle.cell.specs.declared.Judged.{Judged}
-use Rattle.cell.specs.declared.Judged.TheVariants.{Passed, Refused}
 use Rattle.cell.proofs.JudgementLaws.{refusal_some}
 use Rattle.throws.specs.Throws.{CycleState}
 use Rattle.machine.specs.declared.Machine.{Machine}
@@ -37,7 +37,7 @@ is_stopped areas r n Went h = absurd (h refl)
 is_stopped areas r n (Threw f) h = absurd (h refl)
 is_stopped areas r n (Stopped x) h = refl
 
-as_spent : (areas : Areas) (r : Registers) (n : ℕ) (e : Ended) → is_stop e ≡ false → ran_as areas r n e ≡ Spent (filed areas r)
+as_spent : (areas : Areas) (r : Registers) (n : ℕ) (e : Ended) → is_stop e ≡ false → ran_as areas r n e ≡ Ok (Spent (filed areas r))
 as_spent areas r n Went q = refl
 as_spent areas r n (Threw f) q = refl
 as_spent areas r n (Stopped x) q = absurd (true≢false q)
@@ -111,8 +111,8 @@ module _ (machine : Machine) where
 
 -- a run leaves the areas as they were given
 areas_if : (g : Given RegisterFile) (j : Judged) → (run_if j g).registers.areas ≡ g.registers.areas
-areas_if g (Refused n) = refl
-areas_if g Passed =
+areas_if g (Err n) = refl
+areas_if g (Ok _) =
     let s : CycleState = begun g.memory g.registers.registers in
     let t : CycleState = end_of (machine_in g) g.budget s in
     ap (λ (r : RegisterFile). r.areas)
@@ -121,8 +121,8 @@ areas_if g Passed =
 -- by the judgement, which both runs share
 cut_if : (g : Given RegisterFile) (c : ℕ) (j : Judged) → (run_if j g).number ≡ 0
     → run_if j (with_budget (g.budget + c) g) ≡ with_cycles g.budget (run_if j (carried_on g (run_if j g).memory (run_if j g).registers c))
-cut_if g c (Refused n) e = absurd (refusal_some n e)
-cut_if g c Passed e =
+cut_if g c (Err n) e = absurd (refusal_some n e)
+cut_if g c (Ok _) e =
     let machine : Machine = machine_in g in
     let areas : Areas = g.registers.areas in
     let s : CycleState = begun g.memory g.registers.registers in
@@ -132,8 +132,8 @@ cut_if g c Passed e =
     (cut_answer machine g.registers g.budget c s (is_spent areas t.result.registers n t.result.ended e))
 
 more_if : (g : Given RegisterFile) (c : ℕ) (j : Judged) → (run_if j g).number ≢ 0 → run_if j (with_budget (g.budget + c) g) ≡ run_if j g
-more_if g c (Refused n) h = refl
-more_if g c Passed h =
+more_if g c (Err n) h = refl
+more_if g c (Ok _) h =
     let machine : Machine = machine_in g in
     let s : CycleState = begun g.memory g.registers.registers in
     let t : CycleState = end_of machine g.budget s in
@@ -142,8 +142,8 @@ more_if g c Passed h =
 
 -- a run leaves the memory's length
 long_if : (g : Given RegisterFile) (j : Judged) → length (run_if j g).memory ≡ length g.memory
-long_if g (Refused n) = refl
-long_if g Passed =
+long_if g (Err n) = refl
+long_if g (Ok _) =
     let s : CycleState = begun g.memory g.registers.registers in
     cycles_keep_length (machine_in g) (done_of (machine_in g) g.budget s) s
 
@@ -153,8 +153,8 @@ run_keeps_length g = long_if g (judge_run g)
 
 -- the number of a run is its answer's
 number_if : (g : Given RegisterFile) (j : Judged) → (run_if j g).number ≡ run_number (run_if j g).answer
-number_if g (Refused n) = refl
-number_if g Passed = refl
+number_if g (Err n) = refl
+number_if g (Ok _) = refl
 
 pub number_is : (g : Given RegisterFile) → (run_answer g).number ≡ run_number (run_answer g).answer
 unfolding run_answer
@@ -167,7 +167,7 @@ pub record Accepted (g : Given RegisterFile) : Type 0 where
   pub ended : Ended
   pub answers : run_answer g ≡ ran_to g.registers g.budget (run_answer g).memory (ran_as g.registers.areas registers done ended)
 
-pub accepted : (g : Given RegisterFile) → judge_run g ≡ Passed → Accepted g
+pub accepted : (g : Given RegisterFile) → judge_run g ≡ passed → Accepted g
 unfolding run_answer
 accepted g q =
     let s : CycleState = begun g.memory g.registers.registers in

@@ -1,4 +1,5 @@
 -- The shapes that effects are made of are bounded where what they hand on is.
+use Rattle.std.specs.Prelude.{Ok, Err}
 use mathlib.Core.Bool.{Bool, true, false}
 use mathlib.Core.List.{List}
 use Prim.{tt}
@@ -9,12 +10,8 @@ use lib.ListN.{length, get_or}
 use Rattle.cell.specs.Choice.{if}
 use Rattle.cell.specs.Memory.{Bytewise, cell_at}
 use Rattle.cell.specs.Number.{sum}
-use Rattle.cell.specs.Place.{read, address}
-use Rattle.cell.specs.declared.Checked.{Checked}
-use Rattle.cell.specs.declared.Checked.TheVariants.{Good, Bad}
+use Rattle.cell.specs.Place.{read, address, Checked, Fetched}
 use Rattle.cell.specs.declared.Fault.TheVariants.{Range}
-use Rattle.cell.specs.declared.Fetched.{Fetched}
-use Rattle.cell.specs.declared.Fetched.TheVariants.{Cell, Failed}
 use Rattle.cell.proofs.MemoryLaws.{cell_below}
 use Rattle.machine.specs.Places.{one_byte, one_cell, place_of, fetch_of, fetch_byte_of}
 use Rattle.machine.specs.Effects.{Store, Control, Effect, fetched, roll_stores, rolled}
@@ -33,12 +30,12 @@ either true p q = p
 either false p q = q
 
 pub fetched_bounded : (g : Fetched) {k : ℕ → Effect} → Below g → ((x : ℕ) → x < 2 ^ 32 → Bounded (k x)) → Bounded (fetched g k)
-fetched_bounded (Cell x) h f = f x h
-fetched_bounded (Failed e) h f = raises
+fetched_bounded (Ok x) h f = f x h
+fetched_bounded (Err e) h f = raises
 
 read_below : (c : Checked) (x : ℕ) → x < 2 ^ 32 → Below (read c x)
-read_below Good x h = h
-read_below (Bad f) x h = tt
+read_below (Ok _) x h = h
+read_below (Err f) x h = tt
 
 -- ROLL stores cells only
 roll_holds : (order : ℕ) (m : List ℕ) (top last u : ℕ) → AllHold (roll_stores order m top last u)
@@ -63,7 +60,7 @@ module _ (machine : Machine) (m : List ℕ) (low : Bytewise m) where
   pub deep_below : (a : ℕ) → Below (fetch_deep machine m a)
   deep_below a = go (ltb a (2 ^ 32))
     where
-      go : (t : Bool) → Below (if t (fetch_of machine DataRead m a) (Failed (Range (address (a % 2 ^ 32)))))
+      go : (t : Bool) → Below (if t (fetch_of machine DataRead m a) (Err (Range (address (a % 2 ^ 32)))))
       go true = fetch_below DataRead a
       go false = tt
 

@@ -1,4 +1,6 @@
 -- The effects of the instructions without an operand are bounded.
+use Rattle.std.specs.Prelude.{Ok, Err}
+use Rattle.cell.specs.Place.{Fetched}
 use mathlib.Core.List.{List}
 use Prim.{tt}
 use Prim.Native.Nat.{ℕ, ◌+◌, ◌*◌, ◌%◌, ◌^◌, ◌<◌}
@@ -6,8 +8,6 @@ use lib.Dec.{eqb}
 use Rattle.cell.specs.Memory.{Bytewise}
 use Rattle.cell.specs.Number.{byte_address}
 use Rattle.cell.specs.declared.Quotient.{Quotient}
-use Rattle.cell.specs.declared.Fetched.{Fetched}
-use Rattle.cell.specs.declared.Fetched.TheVariants.{Cell, Failed}
 use Rattle.machine.specs.Places.{fetch_of, fetch_byte_of}
 use Rattle.machine.specs.Effects.{Effect, fetched}
 use Rattle.machine.specs.declared.Machine.{Machine}
@@ -34,8 +34,8 @@ module _ (machine : Machine) (m : List ℕ) (low : Bytewise m) (ep sp rp : ℕ) 
   both = acting hs hr (tt, (tt, tt)) tt
 
   halting : (g : Fetched) → Bounded (halted sp rp g)
-  halting (Cell x) = acting (sum_below sp 4) hr tt tt
-  halting (Failed f) = acting hs hr tt tt
+  halting (Ok x) = acting (sum_below sp 4) hr tt tt
+  halting (Err f) = acting hs hr tt tt
 
   one : {k : ℕ → Effect} → ((x : ℕ) → x < 2 ^ 32 → Bounded (k x)) → Bounded (data1 machine m sp k)
   one f = read1 machine m low DataRead sp f

@@ -1,4 +1,6 @@
 -- A sound machine stays sound: through stores, a commit, a throw, a NEXT and a stop.
+use Rattle.std.specs.Prelude.{Ok, Err}
+use Rattle.cell.specs.Place.{Checked, Fetched}
 use mathlib.Core.Bool.{Bool, true, false}
 use mathlib.Core.List.{List, [], ◌∷◌}
 use Prim.Native.Nat.{ℕ, ◌%◌, ◌^◌, ◌<◌}
@@ -7,10 +9,6 @@ use lib.ListN.{length}
 use Rattle.cell.specs.Choice.{if}
 use Rattle.cell.specs.Memory.{Bytewise, store_cell, cell_at}
 use Rattle.cell.specs.Number.{difference}
-use Rattle.cell.specs.declared.Checked.{Checked}
-use Rattle.cell.specs.declared.Checked.TheVariants.{Good, Bad}
-use Rattle.cell.specs.declared.Fetched.{Fetched}
-use Rattle.cell.specs.declared.Fetched.TheVariants.{Cell, Failed}
 use Rattle.cell.proofs.MemoryLaws.{set_bytewise, store_bytewise}
 use Rattle.machine.specs.declared.Exception.{Exception}
 use Rattle.machine.specs.declared.Exception.TheVariants.{Range, Alignment, DataOverflow, DataUnderflow, ReturnOverflow, ReturnUnderflow, ReadOnly, Divisor, Illegal, Library}
@@ -53,8 +51,8 @@ module _ (machine : Machine) where
 
   carried_sound : (m : List ℕ) (r : Registers) (x : Action) (c : Checked) → Limited x → Sound m r
       → SoundStepped (carried_out machine m r x c)
-  carried_sound m r x (Bad f) l s = s
-  carried_sound m r x Good l s =
+  carried_sound m r x (Err f) l s = s
+  carried_sound m r x (Ok _) l s =
       controlled_sound x.control (stored_of machine m x.stores) (record { ep = r.ep; a = r.a; sp = x.sp; rp = x.rp }) l.control
       (record { bytes = stored_bytewise m x.stores l.stores s.bytes; ep = s.ep; a = s.a; sp = l.sp; rp = l.rp })
 
@@ -64,8 +62,8 @@ module _ (machine : Machine) where
   commit_sound m r (act x) (acts l) s = carried_sound m r x (places_of machine (length m) x.stores) l s
 
   handed_sound : (m : List ℕ) (r : Registers) (e : Ended) (h : ℕ) (g : Fetched) → Below g → Sound m r → SoundState (handed m r e h g)
-  handed_sound m r e h (Cell x) b s = record { bytes = s.bytes; ep = sum_below h 4; a = b; sp = s.sp; rp = s.rp }
-  handed_sound m r e h (Failed f) b s = s
+  handed_sound m r e h (Ok x) b s = record { bytes = s.bytes; ep = sum_below h 4; a = b; sp = s.sp; rp = s.rp }
+  handed_sound m r e h (Err f) b s = s
 
   handler_sound : (m : List ℕ) (r : Registers) (e : Ended) → Sound m r → SoundState (handler_of machine m r e)
   unfolding handler_of
@@ -89,8 +87,8 @@ module _ (machine : Machine) where
 
   pushed_sound : (m : List ℕ) (r : Registers) (e : Exception) (sp : ℕ) (c : Checked) → sp < 2 ^ 32 → Sound m r
       → SoundState (pushed machine m r e sp c)
-  pushed_sound m r e sp (Bad f) h s = s
-  pushed_sound m r e sp Good h s =
+  pushed_sound m r e sp (Err f) h s = s
+  pushed_sound m r e sp (Ok _) h s =
       let b = store_bytewise machine.order (noted machine m e) sp (exception_code e) (noted_bytewise m e s.bytes) in
       handler_sound _ _ _ (record { bytes = b; ep = s.ep; a = s.a; sp = h; rp = s.rp })
 
@@ -109,8 +107,8 @@ module _ (machine : Machine) where
       go false = s
 
   nexted_sound : (m : List ℕ) (r : Registers) (g : Fetched) → Below g → Sound m r → SoundState (nexted machine m r g)
-  nexted_sound m r (Cell x) b s = record { bytes = s.bytes; ep = sum_below r.ep 4; a = b; sp = s.sp; rp = s.rp }
-  nexted_sound m r (Failed f) b s = throw_sound m r (exception_of machine f) s
+  nexted_sound m r (Ok x) b s = record { bytes = s.bytes; ep = sum_below r.ep 4; a = b; sp = s.sp; rp = s.rp }
+  nexted_sound m r (Err f) b s = throw_sound m r (exception_of machine f) s
 
   pub next_sound : (m : List ℕ) (r : Registers) → Sound m r → SoundState (next_of machine m r)
   unfolding next_of

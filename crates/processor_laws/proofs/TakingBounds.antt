@@ -1,11 +1,11 @@
 -- The effects of the instructions that take an operand are bounded.
+use Rattle.cell.specs.Place.{Fetched}
 use mathlib.Core.List.{List}
 use Prim.{tt}
 use Prim.Native.Nat.{ℕ, ◌+◌, ◌*◌, ◌%◌, ◌^◌, ◌<◌}
 use native.Mathlib.Omega.{arith}
 use lib.Dec.{eqb}
 use Rattle.cell.specs.Memory.{Bytewise}
-use Rattle.cell.specs.declared.Fetched.{Fetched}
 use Rattle.machine.specs.declared.Machine.{Machine}
 use Rattle.machine.specs.declared.Registers.{Registers}
 use Rattle.machine.specs.declared.Access.TheVariants.{Stream, DataRead, ReturnRead}

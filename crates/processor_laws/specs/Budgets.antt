@@ -1,9 +1,8 @@
 -- Budgets that can be cut. Document 02, (m). A run's answer is read by its memory, number, reason, registers and count (processor, Answers), and what is
 -- claimed is claimed over all that a run is given. That b + c is below 2^32 is no part of the claims: a call's budget is a cell, and they hold for any numbers.
-use Rattle.std.specs.Prelude.{◌≡◌, ◌≢◌, List, ℕ, ◌+◌, ◌≤◌}
+use Rattle.std.specs.Prelude.{◌≡◌, ◌≢◌, List, ℕ, ◌+◌, ◌≤◌, Ok, Err}
 use Rattle.areas.specs.declared.RegisterFile.{RegisterFile}
-use Rattle.processor.specs.Answers.{Given, RunAnswer, run_answer}
-use Rattle.processor.specs.declared.Ran.{Ran}
+use Rattle.processor.specs.Answers.{Given, RunAnswer, run_answer, RunAnswered}
 use Rattle.processor.specs.declared.Ran.TheVariants as ran
 
 -- the same with another budget
@@ -15,10 +14,10 @@ abbrev pub carried_on : {R : Type 0} → Given R → List ℕ → R → ℕ → 
 carried_on g m r c = record { setting = g.setting; memory = m; registers = r; budget = c }
 
 -- an answer, with the b cycles that were done before added to its count
-abbrev pub later_stop : ℕ → Ran → Ran
-later_stop b (ran.Refused n) = ran.Refused n
-later_stop b (ran.Spent r) = ran.Spent r
-later_stop b (ran.Stopped r x n) = ran.Stopped r x (b + n)
+abbrev pub later_stop : ℕ → RunAnswered → RunAnswered
+later_stop b (Err n) = Err n
+later_stop b (Ok (ran.Spent r)) = Ok (ran.Spent r)
+later_stop b (Ok (ran.Stopped r x n)) = Ok (ran.Stopped r x (b + n))
 
 abbrev pub with_cycles : ℕ → RunAnswer → RunAnswer
 with_cycles b s =

@@ -1,10 +1,9 @@
 -- A sound machine: its memory is made of bytes and its registers are cells. And the effects that keep it so.
-use Rattle.std.specs.Prelude.{List, [], ◌∷◌, ℕ, ◌<◌, ◌^◌}
+use Rattle.cell.specs.Place.{Fetched}
+use Rattle.std.specs.Prelude.{List, [], ◌∷◌, ℕ, ◌<◌, ◌^◌, Ok, Err}
 use Prim.{Unit}
 use Rattle.cell.specs.Memory.{Bytewise}
 use Rattle.cell.specs.declared.Fault.{Fault}
-use Rattle.cell.specs.declared.Fetched.{Fetched}
-use Rattle.cell.specs.declared.Fetched.TheVariants.{Cell, Failed}
 use Rattle.machine.specs.Places.{Width, one_byte, one_cell}
 use Rattle.machine.specs.Effects.{Store, Control, go_on, jump, halt, throwing, Action, Effect, act, raise}
 use Rattle.machine.specs.Commits.{Stepped}
@@ -28,8 +27,8 @@ SoundState t = Sound t.memory t.result.registers
 
 -- a fetch that answers with a cell, if it does not fail
 abbrev pub Below : Fetched → Type 0
-Below (Cell x) = x < 2 ^ 32
-Below (Failed f) = Unit
+Below (Ok x) = x < 2 ^ 32
+Below (Err f) = Unit
 
 -- a value that its place can hold; of a cell's value the four bytes are stored, whatever it is
 abbrev pub FitsWidth : Width → ℕ → Type 0

@@ -1,4 +1,6 @@
 // Start. It requires nothing: a bad memory length, a bad byte order, bad areas and a bad table are refused, and then nothing is written.
+#![tactic(auto, using(bounds::proofs::BoundLaws::lent, bounds::proofs::BoundLaws::areas_pass, bounds::proofs::BoundLaws::passed_fits), unfolding(crate::specs::Starting::start_of, crate::specs::Answers::start_answer))]
+
 ghost use Rattle.std.specs.Prelude.{◌≡◌, ◌≤◌, length};
 ghost use Rattle.machine.specs.Places as places;
 ghost use Rattle.throws.specs.Throws as throws;
@@ -11,7 +13,7 @@ use areas::{Areas, RegisterFile};
 use bounds::bounding::{first_rp, first_sp, machine_of};
 use bounds::judging::judge_bounded;
 use cell::memory::store;
-use cell::{Address, Judged};
+use cell::{Address, Refusal};
 use exceptions::fixed::{ADDRESS_CELL, BAD_CELL, HANDLER_CELL, MEMORY_CELL};
 use machine::{CycleResult, Ended, Machine, Registers, Table};
 use throws::ending::next;
@@ -40,8 +42,8 @@ fn begin(
         Registers {
             ep: ep.0,
             a: 0,
-            sp: sp,
-            rp: rp,
+            sp,
+            rp,
         },
     )
 }
@@ -52,19 +54,17 @@ pub fn file(areas: Areas, r: Registers) -> RegisterFile
 {
     RegisterFile {
         registers: r,
-        areas: areas,
+        areas,
     }
 }
 
 fn started_as(areas: Areas, t: CycleResult) -> Started
-    ensures { result ≡ answers.started_as areas t.registers t.ended }
+    ensures { Ok result ≡ answers.started_as areas t.registers t.ended }
 {
-    let r = t.registers;
-    let ended = t.ended;
-    match ended {
-        Ended::Went => Started::Ready(file(areas, r)),
-        Ended::Threw(_) => Started::Ready(file(areas, r)),
-        Ended::Stopped(x) => Started::Stopped(file(areas, r), x),
+    let left = file(areas, t.registers);
+    match t.ended {
+        Ended::Went | Ended::Threw(_) => Started::Ready(left),
+        Ended::Stopped(x) => Started::Stopped(left, x),
     }
 }
 
@@ -75,16 +75,12 @@ pub fn start(
     handler: Address,
     areas: Areas,
     table: Table,
-) -> Started
+) -> Result<Started, Refusal>
     ensures { answers.started_to memory.new result ≡ answers.start_answer order areas table memory.old ep.0 handler.0 }
 {
-    match judge_bounded(memory.len(), order, areas, table) {
-        Judged::Refused(n) => Started::Refused(n),
-        Judged::Passed => {
-            let sp = first_sp(memory.len(), areas);
-            let rp = first_rp(memory.len(), areas);
-            let machine = machine_of(order, areas, table, memory.len());
-            started_as(areas, begin(machine, memory, ep, handler, sp, rp))
-        }
-    }
+    judge_bounded(memory.len(), order, areas, table)?;
+    let sp = first_sp(memory.len(), areas);
+    let rp = first_rp(memory.len(), areas);
+    let machine = machine_of(order, areas, table, memory.len());
+    Ok(started_as(areas, begin(machine, memory, ep, handler, sp, rp)))
 }

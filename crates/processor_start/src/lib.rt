@@ -4,12 +4,10 @@
 pub mod entry;
 
 use areas::RegisterFile;
-use cell::Refusal;
 
-// What start answers. A refusal stands for zero registers.
+// What start answers, where it is not refused. A refusal stands for zero registers.
 #[derive(Clone, Copy)]
 pub enum Started {
-    Refused(Refusal),
     Ready(RegisterFile),
     Stopped(RegisterFile, u32),
 }

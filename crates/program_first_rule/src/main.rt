@@ -2,27 +2,20 @@
 #![tactic(auto)]
 
 use areas::{Area, Areas};
-use cell::{Address, CellCount};
+use cell::{Address, CellCount, Refusal};
 use machine::Table;
 use processor::Ran;
 use processor::entry::run;
 use processor_start::Started;
 use processor_start::entry::start;
-use program_print::print_digits;
 use std::io;
 
 // How a run ended.
-fn print_ran(rt: &impl Print, ran: Ran) -> io::Result<()> {
+fn print_ran(rt: &impl Print, ran: Result<Ran, Refusal>) -> io::Result<()> {
     match ran {
-        Ran::Refused(_) => println!(rt; "refused"),
-        Ran::Spent(_) => println!(rt; "spent"),
-        Ran::Stopped(_, reason, done) => {
-            print!(rt; "reason ")?;
-            print_digits(rt, reason)?;
-            print!(rt; ", cycles ")?;
-            print_digits(rt, done)?;
-            println!(rt)
-        }
+        Err(_) => println!(rt; "refused"),
+        Ok(Ran::Spent(_)) => println!(rt; "spent"),
+        Ok(Ran::Stopped(_, reason, done)) => println!(rt; "reason {reason:08X}, cycles {done:08X}"),
     }
 }
 
@@ -48,7 +41,7 @@ fn main(rt: HostRuntime) -> io::Result<()> {
         end: Address(28),
     };
     match start(0, &mut memory, Address(16), Address(0), areas, table) {
-        Started::Ready(r) => print_ran(&rt, run(0, &mut memory, table, r, 100)),
+        Ok(Started::Ready(r)) => print_ran(&rt, run(0, &mut memory, table, r, 100)),
         _ => println!(rt; "not ready"),
     }
 }

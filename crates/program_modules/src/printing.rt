@@ -1,8 +1,6 @@
 // What the program prints.
-use module_loading::Loaded;
-use module_loading::answers::{load_count, load_number};
-use module_saving::Saved;
-use module_saving::answers::{save_count, save_number};
+use cell::judgement::answer_number;
+use cell::{CellCount, Refusal};
 use program_print::print_number;
 use std::io;
 
@@ -19,13 +17,13 @@ fn print_answer(rt: &impl Print, number: u32, count: u32) -> io::Result<()> {
     println!(rt; ", count {count}")
 }
 
-pub fn print_loaded(rt: &impl Print, answer: Loaded) -> io::Result<()> {
-    let cells = load_count(answer);
-    print_answer(rt, load_number(answer), cells.0)
+pub fn print_loaded(rt: &impl Print, answer: Result<CellCount, Refusal>) -> io::Result<()> {
+    let cells = answer.unwrap_or(CellCount(0));
+    print_answer(rt, answer_number(answer), cells.0)
 }
 
-pub fn print_saved(rt: &impl Print, answer: Saved) -> io::Result<()> {
-    print_answer(rt, save_number(answer), save_count(answer))
+pub fn print_saved(rt: &impl Print, answer: Result<u32, Refusal>) -> io::Result<()> {
+    print_answer(rt, answer_number(answer), answer.unwrap_or(0))
 }
 
 fn print_byte(rt: &impl Print, x: u8) -> io::Result<()> {

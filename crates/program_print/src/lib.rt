@@ -4,10 +4,8 @@
 ghost use Rattle.std.specs.Prelude.{◌*◌, ◌≤◌, length};
 ghost use Rattle.packer.specs.Pack.{pack_count};
 
-use cell::CellCount;
 use cell::memory::load_at;
-use packer::Packed;
-use packer::answers::{pack_count, pack_number};
+use cell::{CellCount, Refusal};
 use std::io;
 
 // A cell, eight capital digits.
@@ -37,14 +35,18 @@ pub fn print_number(rt: &impl Print, x: u32) -> io::Result<()> {
 }
 
 // What a packing in order 0 answered and left.
-pub fn print_packed(rt: &impl Print, answer: Packed, output: &[u8]) -> io::Result<()>
+pub fn print_packed(
+    rt: &impl Print,
+    answer: Result<CellCount, Refusal>,
+    output: &[u8],
+) -> io::Result<()>
     requires { 4 * pack_count answer ≤ length output.now }
 {
-    let number = pack_number(answer);
-    if number == 0 {
-        print_cells(rt, output, pack_count(answer))
-    } else {
-        print_number(rt, number)?;
-        println!(rt)
+    match answer {
+        Ok(cells) => print_cells(rt, output, cells),
+        Err(refusal) => {
+            print_number(rt, u32::from(refusal))?;
+            println!(rt)
+        }
     }
 }

@@ -1,11 +1,11 @@
 // The call from C for a set of modules.
-#![tactic(auto)]
+#![tactic(auto, using(calls::proofs::SetLaws::set_no_place, calls::proofs::SetLaws::set_told))]
 
 ghost use Rattle.std.specs.Prelude.{◌≡◌};
 ghost use Rattle.calls.specs.Modules.{moved};
 ghost use Rattle.calls.specs.Sets as sets;
 
-use calls::modules::note_loaded;
+use calls::notes::note_cells;
 use lent_arrays::lending::no_place;
 use set_loading::loading::load_set;
 use set_refusals::judge_set;
@@ -19,8 +19,8 @@ pub fn call_load_set(
 ) -> u32
     ensures { moved memory.new out.new result ≡ sets.load_set_call order memory.old buffer.now modules.now out.old }
 {
-    if out.len() < 1 {
+    if out.is_empty() {
         return no_place(judge_set(memory.len(), order, buffer, modules));
     }
-    note_loaded(load_set(order, memory, buffer, modules), out)
+    note_cells(load_set(order, memory, buffer, modules), out)
 }

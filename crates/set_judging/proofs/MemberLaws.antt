@@ -2,6 +2,7 @@
 use mathlib.Core.Path.{◌≡◌, refl, ◌∙◌}
 use mathlib.Core.List.{List, [], ◌∷◌}
 use Prim.Native.Nat.{ℕ, zero, suc, ◌+◌, ◌*◌, ◌/◌, ◌≤◌, ◌<◌}
+use native.Mathlib.Numerals.{add-one}
 use native.Mathlib.Omega.{arith}
 use lib.ListN.{length, drop}
 use Rattle.set_judging.specs.declared.Member.{Member}
@@ -23,13 +24,17 @@ at_next a place size rest k =
     rw (e, f, g)
 
 -- from module k on: it, and those after it
-pub members_from : (numbers : List ℕ) (k : ℕ) → 3 * k + 3 ≤ length numbers
+from_one : (numbers : List ℕ) (k : ℕ) → 3 * k + 3 ≤ length numbers
     → drop k (members_of numbers) ≡ member_at numbers k ∷ drop (suc k) (members_of numbers)
-members_from [] k h = absurd (omega arith)
-members_from (a ∷ []) k h = absurd (omega arith)
-members_from (a ∷ place ∷ []) k h = absurd (omega arith)
-members_from (a ∷ place ∷ size ∷ rest) zero h = refl
-members_from (a ∷ place ∷ size ∷ rest) (suc k) h = members_from rest k (omega arith) ∙ rw (at_next a place size rest k)
+from_one [] k h = absurd (omega arith)
+from_one (a ∷ []) k h = absurd (omega arith)
+from_one (a ∷ place ∷ []) k h = absurd (omega arith)
+from_one (a ∷ place ∷ size ∷ rest) zero h = refl
+from_one (a ∷ place ∷ size ∷ rest) (suc k) h = from_one rest k (omega arith) ∙ rw (at_next a place size rest k)
+
+pub members_from : (numbers : List ℕ) (k : ℕ) → 3 * k + 3 ≤ length numbers
+    → drop k (members_of numbers) ≡ member_at numbers k ∷ drop (k + 1) (members_of numbers)
+members_from numbers k h = rw (add-one k) (from_one numbers k h)
 
 -- behind the last there is none
 pub members_none : (numbers : List ℕ) (k : ℕ) → length numbers < 3 * k + 3 → drop k (members_of numbers) ≡ []

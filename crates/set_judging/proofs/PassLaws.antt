@@ -7,9 +7,8 @@ use borrow.Author.Tests.{ltb-false}
 use lib.Dec.{ltb}
 use lib.ListN.{length, drop, length-drop}
 use lib.Seq.{length-take-le}
-use Rattle.cell.specs.Refusals.{judge, judge_machine}
+use Rattle.cell.specs.Refusals.{passed, judge, judge_machine}
 use Rattle.cell.specs.declared.Refusal.TheVariants.{Header}
-use Rattle.cell.specs.declared.Judged.TheVariants.{Passed}
 use Rattle.cell.proofs.JudgementLaws.{both_pass, one_clear}
 use Rattle.module_judging.specs.Grounds.{judge_file, judge_place, judge_load}
 use Rattle.module_judging.proofs.ConditionLaws.{file_good, place_good}
@@ -27,14 +26,14 @@ file_length_lem buffer x h = length-take-le x.size (drop x.place buffer) (simp l
 
 module _ (len order : ℕ) (buffer : List ℕ) where
   -- it lies inside the buffer, and loads alone
-  pub member_parts : (x : Member) → judge_member len order buffer x ≡ Passed
-      → (x.place + x.size ≤ length buffer) × (judge_load len order (file_of buffer x) x.address.0 ≡ Passed)
+  pub member_parts : (x : Member) → judge_member len order buffer x ≡ passed
+      → (x.place + x.size ≤ length buffer) × (judge_load len order (file_of buffer x) x.address.0 ≡ passed)
   unfolding judge_member
   member_parts x e =
       let p = both_pass (judge (beyond buffer x ∷ [])) (judge_load len order (file_of buffer x) x.address.0) e in
-      (ltb-false (length buffer) (x.place + x.size) (one_clear (ltb (length buffer) (x.place + x.size)) Header Passed p.0).0, p.1)
+      (ltb-false (length buffer) (x.place + x.size) (one_clear (ltb (length buffer) (x.place + x.size)) Header passed p.0).0, p.1)
 
-  pub member_fits : (x : Member) → judge_member len order buffer x ≡ Passed → Fits len buffer x
+  pub member_fits : (x : Member) → judge_member len order buffer x ≡ passed → Fits len buffer x
   member_fits x e =
       let p = member_parts x e in
       let q = both_pass (judge_machine len order) _ (sym (load_parts len order (file_of buffer x) x.address.0) ∙ p.1) in
@@ -45,18 +44,18 @@ module _ (len order : ℕ) (buffer : List ℕ) where
         room = (place_good len x.address.0 (cells_of buffer x) s.1).room;
       }
 
-  pub each_passes : (xs : List Member) → judge_members len order buffer xs ≡ Passed
-      → Each (λ (x : Member). judge_member len order buffer x ≡ Passed) xs
+  pub each_passes : (xs : List Member) → judge_members len order buffer xs ≡ passed
+      → Each (λ (x : Member). judge_member len order buffer x ≡ passed) xs
   each_passes [] e = none
   each_passes (x ∷ xs) e =
       let p = both_pass (judge_member len order buffer x) (judge_members len order buffer xs) e in
       more p.0 (each_passes xs p.1)
 
-  pub all_fit : (numbers : List ℕ) → judge_members len order buffer (members_of numbers) ≡ Passed → AllFit len buffer numbers
+  pub all_fit : (numbers : List ℕ) → judge_members len order buffer (members_of numbers) ≡ passed → AllFit len buffer numbers
   unfolding AllFit
   all_fit numbers e k h =
       member_fits (member_at numbers k)
-      (each_at (λ (x : Member). judge_member len order buffer x ≡ Passed) numbers (each_passes (members_of numbers) e) k h)
+      (each_at (λ (x : Member). judge_member len order buffer x ≡ passed) numbers (each_passes (members_of numbers) e) k h)
 
 -- every file has its header
 pub all_headed : (len : ℕ) (buffer numbers : List ℕ) → AllFit len buffer numbers → Headed numbers

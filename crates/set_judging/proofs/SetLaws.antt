@@ -7,9 +7,8 @@ use native.Mathlib.Omega.{arith}
 use borrow.Author.Tests.{ltb-false, eqb-true, eqb-false, not-false, le-ltb, eq-eqb, ne_eqb}
 use lib.Dec.{ltb, eqb}
 use lib.ListN.{length}
-use Rattle.cell.specs.Refusals.{judge, after, judge_machine}
+use Rattle.cell.specs.Refusals.{passed, judge, after, judge_machine}
 use Rattle.cell.specs.declared.Refusal.TheVariants.{ModuleSet}
-use Rattle.cell.specs.declared.Judged.TheVariants.{Passed}
 use Rattle.cell.proofs.BooleanLaws.{neither}
 use Rattle.cell.proofs.JudgementLaws.{both_pass, one_clear}
 use Rattle.set_judging.specs.Members.{members_of}
@@ -17,15 +16,15 @@ use Rattle.set_judging.specs.Sharing.{end_of, sharing}
 use Rattle.set_judging.specs.Grounds.{judge_members, module_set, judge_set}
 
 pub record Passing (len order : ℕ) (buffer numbers : List ℕ) : Type 0 where
-  pub machine : judge_machine len order ≡ Passed
-  pub alone : judge_members len order buffer (members_of numbers) ≡ Passed
+  pub machine : judge_machine len order ≡ passed
+  pub alone : judge_members len order buffer (members_of numbers) ≡ passed
   pub whole : length numbers % 3 ≡ 0
   pub some : 1 ≤ length (members_of numbers)
   pub few : length (members_of numbers) ≤ 16
   pub apart : sharing (end_of buffer) (members_of numbers) ≡ false
 
 module _ (len order : ℕ) (buffer numbers : List ℕ) where
-  pub set_passing : judge_set len order buffer numbers ≡ Passed → Passing len order buffer numbers
+  pub set_passing : judge_set len order buffer numbers ≡ passed → Passing len order buffer numbers
   unfolding judge_set
   set_passing e =
       let n = length (members_of numbers) in
@@ -33,7 +32,7 @@ module _ (len order : ℕ) (buffer numbers : List ℕ) where
       let together = judge (module_set (end_of buffer) numbers ∷ []) in
       let p = both_pass (judge_machine len order) (after (judge_members len order buffer (members_of numbers)) together) e in
       let q = both_pass (judge_members len order buffer (members_of numbers)) together p.1 in
-      let s = one_clear (module_set (end_of buffer) numbers).applies ModuleSet Passed q.1 in
+      let s = one_clear (module_set (end_of buffer) numbers).applies ModuleSet passed q.1 in
       let t = neither (not (eqb (length numbers % 3) 0)) (eqb n 0 || (ltb 16 n || shared)) s.0 in
       let u = neither (eqb n 0) (ltb 16 n || shared) t.1 in
       let v = neither (ltb 16 n) shared u.1 in
@@ -47,7 +46,7 @@ module _ (len order : ℕ) (buffer numbers : List ℕ) where
         apart = v.1;
       }
 
-  pub passing_set : Passing len order buffer numbers → judge_set len order buffer numbers ≡ Passed
+  pub passing_set : Passing len order buffer numbers → judge_set len order buffer numbers ≡ passed
   unfolding judge_set
   passing_set g =
       let n = length (members_of numbers) in

@@ -1,9 +1,7 @@
 -- What refuses a set of modules. Document 02, (d), and the order of refusals. Every sum is exact.
 use Rattle.std.specs.Prelude.{not, ◌||◌, List, [], ◌∷◌, ℕ, ◌+◌, ◌%◌, ltb, eqb, length}
-use Rattle.cell.specs.Refusals.{Ground, judge, after, judge_machine}
+use Rattle.cell.specs.Refusals.{Judged, passed, Ground, judge, after, judge_machine}
 use Rattle.cell.specs.declared.Refusal.TheVariants.{Header, ModuleSet}
-use Rattle.cell.specs.declared.Judged.{Judged}
-use Rattle.cell.specs.declared.Judged.TheVariants.{Passed}
 use Rattle.module_judging.specs.Grounds.{judge_load}
 use Rattle.set_judging.specs.declared.Member.{Member}
 use Rattle.set_judging.specs.Members.{members_of, file_of}
@@ -20,7 +18,7 @@ judge_member len order buffer x =
 
 -- one module after another, in the order given
 abbrev pub judge_members : ℕ → ℕ → List ℕ → List Member → Judged
-judge_members len order buffer [] = Passed
+judge_members len order buffer [] = passed
 judge_members len order buffer (x ∷ xs) = after (judge_member len order buffer x) (judge_members len order buffer xs)
 
 -- -4113: numbers left over behind the last three, a set of none or of seventeen and up, or a byte that two of it take, told where each ends

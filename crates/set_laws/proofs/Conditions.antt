@@ -8,8 +8,8 @@ use Prim.Native.Nat.{ℕ, ◌+◌, ◌≤◌, ◌<◌, max, min}
 use native.Mathlib.Omega.{arith}
 use borrow.Author.Tests.{ltb-true, ltb-false, lt-ltb, le-ltb}
 use lib.ListN.{length}
-use Rattle.cell.specs.declared.Judged.{Judged}
-use Rattle.cell.specs.declared.Judged.TheVariants.{Passed, Refused}
+use Rattle.std.specs.Prelude.{Ok, Err}
+use Rattle.cell.specs.Refusals.{Judged, passed}
 use Rattle.cell.proofs.BooleanLaws.{neither}
 use Rattle.cell.proofs.JudgementLaws.{refusal_some, machine_good}
 use Rattle.module_judging.proofs.ConditionLaws.{good_machine, load_good, good_load}
@@ -28,12 +28,12 @@ use Rattle.set_laws.proofs.Orders.{Apart}
 use Rattle.set_laws.proofs.Singles.{Passes}
 
 -- the number 0 is that of no refusal
-number_passed : (j : Judged) (order : ℕ) (m buffer : List ℕ) (xs : List Member) → (load_set_if j order m buffer xs).number ≡ 0 → j ≡ Passed
-number_passed Passed order m buffer xs e = refl
-number_passed (Refused r) order m buffer xs e = absurd (refusal_some r e)
+number_passed : (j : Judged) (order : ℕ) (m buffer : List ℕ) (xs : List Member) → (load_set_if j order m buffer xs).number ≡ 0 → j ≡ passed
+number_passed (Ok _) order m buffer xs e = refl
+number_passed (Err r) order m buffer xs e = absurd (refusal_some r e)
 
 pub accepted_passed : (order : ℕ) (m buffer numbers : List ℕ) → (load_set_of order m buffer numbers).number ≡ 0
-    → judge_set (length m) order buffer numbers ≡ Passed
+    → judge_set (length m) order buffer numbers ≡ passed
 unfolding load_set_of
 accepted_passed order m buffer numbers e = number_passed (judge_set (length m) order buffer numbers) order m buffer (members_of numbers) e
 
@@ -95,17 +95,17 @@ apart_all buffer (x ∷ xs) (pairs p s) = rw (apart_one buffer x xs p, apart_all
 
 -- modules that pass, each by itself
 pub passes_each : (order len : ℕ) (buffer : List ℕ) (xs : List Member) → Each (Passes order len buffer) xs
-    → judge_members len order buffer xs ≡ Passed
+    → judge_members len order buffer xs ≡ passed
 passes_each order len buffer [] none = refl
 passes_each order len buffer (x ∷ xs) (more p s) = rw (p, passes_each order len buffer xs s)
 
 module _ (order : ℕ) (m buffer : List ℕ) (x : Member) where
-  member_good : judge_member (length m) order buffer x ≡ Passed → GoodMember order m buffer x
+  member_good : judge_member (length m) order buffer x ≡ passed → GoodMember order m buffer x
   member_good e =
       let p = member_parts (length m) order buffer x e in
       record { inside = p.0; loadable = load_good order m (file_of buffer x) x.address.0 p.1 }
 
-  good_member : GoodMember order m buffer x → judge_member (length m) order buffer x ≡ Passed
+  good_member : GoodMember order m buffer x → judge_member (length m) order buffer x ≡ passed
   unfolding judge_member
   good_member g =
       rw (le-ltb (length buffer) (x.place + x.size) g.inside) (good_load order m (file_of buffer x) x.address.0 g.loadable)

@@ -1,10 +1,10 @@
 -- Facts about each module of a list and about each two, in another order and by number.
 -- Assumes nothing.
-use mathlib.Core.Path.{◌≡◌, refl, subst}
+use mathlib.Core.Path.{subst}
 use mathlib.Core.List.{List, [], ◌∷◌, ◌++◌}
 use Prim.Native.Nat.{ℕ, zero, suc, ◌+◌, ◌*◌, ◌≤◌, ◌<◌}
 use native.Mathlib.Omega.{arith}
-use lib.ListN.{length, length-append}
+use lib.ListN.{length}
 use Rattle.set_judging.specs.declared.Member.{Member}
 use Rattle.set_judging.specs.Members.{members_of, member_at}
 use Rattle.set_judging.proofs.MemberLaws.{Each, none, more, at_next, each_at}

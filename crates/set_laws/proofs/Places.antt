@@ -6,8 +6,8 @@ use Prim.Native.Nat.{ℕ, ◌+◌, ◌*◌, ◌<◌}
 use native.Mathlib.Omega.{arith}
 use lib.ListN.{length, get_or, drop}
 use Rattle.cell.specs.Memory.{cell_at, Alike, Bytewise}
-use Rattle.cell.specs.declared.Judged.{Judged}
-use Rattle.cell.specs.declared.Judged.TheVariants.{Passed, Refused}
+use Rattle.std.specs.Prelude.{Ok, Err}
+use Rattle.cell.specs.Refusals.{Judged}
 use Rattle.cell.proofs.MemoryLaws.{cell_alike}
 use Rattle.module_judging.specs.Format.{order_of, code_of}
 use Rattle.module_copying.proofs.CopyLaws.{copied_cell}
@@ -37,8 +37,8 @@ module _ (order : ℕ) (buffer : List ℕ) where
   copied_out (x ∷ xs) m b (more p s) = copied_out xs (copied_one order buffer x m) b s ∙ one_out order buffer x m b p
 
   untouched_if : (j : Judged) (m numbers : List ℕ) → Untouched m buffer numbers (load_set_if j order m buffer (members_of numbers)).memory
-  untouched_if (Refused r) m numbers = record { long = refl; bytes = λ b s. refl }
-  untouched_if Passed m numbers =
+  untouched_if (Err r) m numbers = record { long = refl; bytes = λ b s. refl }
+  untouched_if (Ok _) m numbers =
       record {
         long = set_length (members_of numbers) m;
         bytes = λ b s. copied_out (members_of numbers) m b (each_of (λ (x : Member). Holds buffer x b → ⊥) numbers s);

@@ -6,9 +6,8 @@ use Prim.Native.Nat.{ℕ, ◌*◌}
 use native.Mathlib.Omega.{arith}
 use lib.ListN.{length}
 use Rattle.cell.specs.Memory.{cell_count}
-use Rattle.cell.specs.declared.Judged.{Judged}
-use Rattle.cell.specs.declared.Judged.TheVariants.{Passed, Refused}
-use Rattle.module_loading.specs.declared.Loaded.TheVariants.{Cells}
+use Rattle.std.specs.Prelude.{Ok, Err}
+use Rattle.cell.specs.Refusals.{Judged, passed}
 use Rattle.module_loading.specs.Answers.{loaded_to}
 use Rattle.set_judging.specs.declared.Member.{Member}
 use Rattle.set_judging.specs.Members.{members_of}
@@ -26,9 +25,9 @@ use Rattle.set_laws.proofs.Singles.{Passes, singly_copied}
 use Rattle.set_laws.proofs.Conditions.{accepted_passed, apart_turned, all_apart, apart_all, passes_each}
 
 -- the result where the judgement passes
-passed_result : (order : ℕ) (m buffer numbers : List ℕ) → judge_set (length m) order buffer numbers ≡ Passed
+passed_result : (order : ℕ) (m buffer numbers : List ℕ) → judge_set (length m) order buffer numbers ≡ passed
     → load_set_of order m buffer numbers
-    ≡ loaded_to (copied_set order buffer (members_of numbers) m) (Cells (cell_count (cells_in buffer (members_of numbers))))
+    ≡ loaded_to (copied_set order buffer (members_of numbers) m) (Ok (cell_count (cells_in buffer (members_of numbers))))
 unfolding load_set_of
 passed_result order m buffer numbers j = rw j
 
@@ -37,7 +36,7 @@ pub record Accepted (order : ℕ) (m buffer numbers : List ℕ) : Type 0 where
   pub passed : Each (Passes order (length m) buffer) (members_of numbers)
   pub apart : Pairwise (Apart buffer) (members_of numbers)
   pub result : load_set_of order m buffer numbers
-      ≡ loaded_to (copied_set order buffer (members_of numbers) m) (Cells (cell_count (cells_in buffer (members_of numbers))))
+      ≡ loaded_to (copied_set order buffer (members_of numbers) m) (Ok (cell_count (cells_in buffer (members_of numbers))))
 
 pub accepted_set : (order : ℕ) (m buffer numbers : List ℕ) → (load_set_of order m buffer numbers).number ≡ 0 → Accepted order m buffer numbers
 accepted_set order m buffer numbers e =
@@ -56,8 +55,8 @@ module _ (order len : ℕ) (buffer : List ℕ) where
 -- the copy in another order, with its count
 permuted_result : (order : ℕ) (m buffer : List ℕ) (xs ys : List Member) → Permuted xs ys → Each (Passes order (length m) buffer) xs
     → Pairwise (Apart buffer) xs
-    → loaded_to (copied_set order buffer ys m) (Cells (cell_count (cells_in buffer ys)))
-    ≡ loaded_to (copied_set order buffer xs m) (Cells (cell_count (cells_in buffer xs)))
+    → loaded_to (copied_set order buffer ys m) (Ok (cell_count (cells_in buffer ys)))
+    ≡ loaded_to (copied_set order buffer xs m) (Ok (cell_count (cells_in buffer xs)))
 permuted_result order m buffer xs ys q p s =
     rw (copied_permuted order (length m) buffer xs ys m q refl (room_each order (length m) buffer xs p) s, cells_permuted buffer xs ys q)
 
@@ -81,8 +80,8 @@ numbers_length : (xs : List Member) → length (numbers_of xs) ≡ 3 * length xs
 numbers_length [] = refl
 numbers_length (x ∷ xs) = let e = numbers_length xs in omega (arith, e)
 
-set_permuted : (order : ℕ) (m buffer numbers : List ℕ) (ys : List Member) → judge_set (length m) order buffer numbers ≡ Passed
-    → Permuted (members_of numbers) ys → judge_set (length m) order buffer (numbers_of ys) ≡ Passed
+set_permuted : (order : ℕ) (m buffer numbers : List ℕ) (ys : List Member) → judge_set (length m) order buffer numbers ≡ passed
+    → Permuted (members_of numbers) ys → judge_set (length m) order buffer (numbers_of ys) ≡ passed
 set_permuted order m buffer numbers ys j q =
     let len = length m in
     let xs = members_of numbers in
@@ -110,8 +109,8 @@ in_any_order order m buffer numbers e ys q =
 
 refused_none : (j : Judged) (order : ℕ) (m buffer : List ℕ) (xs : List Member) → ((load_set_if j order m buffer xs).number ≡ 0 → ⊥)
     → ((load_set_if j order m buffer xs).memory ≡ m) × ((load_set_if j order m buffer xs).count ≡ 0)
-refused_none Passed order m buffer xs e = absurd (e refl)
-refused_none (Refused r) order m buffer xs e = (refl, refl)
+refused_none (Ok _) order m buffer xs e = absurd (e refl)
+refused_none (Err r) order m buffer xs e = (refl, refl)
 
 pub all_or_none : AllOrNone
 unfolding load_set_of

@@ -1,12 +1,10 @@
 -- What load_set leaves and answers. Document 02, (d): all modules of a set go in, or none.
-use Rattle.std.specs.Prelude.{List, [], ◌∷◌, ℕ, ◌+◌, length}
+use Rattle.std.specs.Prelude.{List, [], ◌∷◌, ℕ, ◌+◌, length, Ok, Err}
 use Rattle.cell.specs.Memory.{cell_count}
-use Rattle.cell.specs.declared.Judged.{Judged}
-use Rattle.cell.specs.declared.Judged.TheVariants as judged
+use Rattle.cell.specs.Refusals.{Judged}
 use Rattle.module_judging.specs.Format.{order_of, code_of}
 use Rattle.module_copying.specs.Copies.{copied}
 use Rattle.module_loading.specs.Answers.{LoadResult, loaded_to}
-use Rattle.module_loading.specs.declared.Loaded.TheVariants as loaded
 use Rattle.set_judging.specs.declared.Member.{Member}
 use Rattle.set_judging.specs.Members.{members_of, file_of, cells_of}
 use Rattle.set_judging.specs.Grounds.{judge_set}
@@ -30,9 +28,9 @@ cells_in buffer (x ∷ xs) = cells_of buffer x + cells_in buffer xs
 
 -- where the judgement is no refusal, every module goes in
 abbrev pub load_set_if : Judged → ℕ → List ℕ → List ℕ → List Member → LoadResult
-load_set_if (judged.Refused r) order m buffer xs = loaded_to m (loaded.Refused r)
-load_set_if judged.Passed order m buffer xs =
-    loaded_to (copied_set order buffer xs m) (loaded.Cells (cell_count (cells_in buffer xs)))
+load_set_if (Err r) order m buffer xs = loaded_to m (Err r)
+load_set_if (Ok _) order m buffer xs =
+    loaded_to (copied_set order buffer xs m) (Ok (cell_count (cells_in buffer xs)))
 
 -- load_set on a machine of a byte order, with its memory, a buffer, and three numbers for each module
 unfoldable pub load_set_of : ℕ → List ℕ → List ℕ → List ℕ → LoadResult

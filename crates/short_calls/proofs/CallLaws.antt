@@ -5,29 +5,27 @@ use mathlib.Core.List.{List}
 use Prim.Native.Nat.{ℕ, ◌≤◌, ◌<◌}
 use borrow.Author.Tests.{lt-ltb, le-ltb}
 use lib.ListN.{length}
-use Rattle.cell.specs.declared.Judged.{Judged}
-use Rattle.cell.specs.declared.Judged.TheVariants.{Passed, Refused}
+use Rattle.std.specs.Prelude.{Err, Ok}
+use Rattle.cell.specs.Refusals.{Judged}
 use Rattle.lent_arrays.specs.Lending.{with_room, no_place}
 use Rattle.calls.specs.Listings.{pack_noted, pack_if as pack_call_if}
 use Rattle.calls.specs.Modules.{Noted, noted, Moved, moved}
 use Rattle.pack_layout.specs.Listing.{Listing}
-use Rattle.packer.specs.declared.Packed.{Packed}
-use Rattle.packer.specs.Pack.{PackResult, packed_to, pack_if}
+use Rattle.packer.specs.Pack.{PackResult, packed_to, pack_if, Packed}
 use Rattle.short_judging.specs.ShortFile.{short_base, short_listing}
-use Rattle.short_files.specs.declared.Converted.{Converted}
-use Rattle.short_files.specs.Converted.{ConvertResult, converted_to, convert_if, judge_shorten, judge_lengthen, shorten_of, lengthen_of}
+use Rattle.short_files.specs.Converted.{ConvertResult, converted_to, convert_if, judge_shorten, judge_lengthen, shorten_of, lengthen_of, Converted}
 use Rattle.short_packing.specs.Packing.{judge_pack_short, pack_short_of}
 use Rattle.short_calls.specs.Shorts.{convert_noted, told, convert_if as call_if, shorten_call, lengthen_call, pack_short_call}
 
 without : (j : Judged) (result : ConvertResult) (output out : List ℕ) → length out < 1
     → moved output out (no_place j) ≡ call_if (with_room j (length out) 1) result output out
-without (Refused r) result output out h = refl
-without Passed result output out h = rw (lt-ltb (length out) 1 h)
+without (Err r) result output out h = refl
+without (Ok _) result output out h = rw (lt-ltb (length out) 1 h)
 
 with_place : (j : Judged) (file output out : List ℕ) → 1 ≤ length out
     → told (convert_if j file output) out ≡ call_if (with_room j (length out) 1) (convert_if j file output) output out
-with_place (Refused r) file output out h = refl
-with_place Passed file output out h = rw (le-ltb (length out) 1 h)
+with_place (Err r) file output out h = refl
+with_place (Ok _) file output out h = rw (le-ltb (length out) 1 h)
 
 -- what is told of an answer is what is told of its result
 noting : (result : ConvertResult) (output out next : List ℕ) (a : Converted) (n : ℕ) → converted_to output a ≡ result
@@ -38,16 +36,16 @@ noting result output out next a n e q =
 -- the same for a packing
 pack_without : (j : Judged) (result : PackResult) (output out : List ℕ) → length out < 1
     → moved output out (no_place j) ≡ pack_call_if (with_room j (length out) 1) result output out
-pack_without (Refused r) result output out h = refl
-pack_without Passed result output out h = rw (lt-ltb (length out) 1 h)
+pack_without (Err r) result output out h = refl
+pack_without (Ok _) result output out h = rw (lt-ltb (length out) 1 h)
 
 abbrev pack_told : PackResult → List ℕ → Moved
 pack_told result out = record { bytes = result.output; noted = pack_noted out result.answer }
 
 pack_with : (j : Judged) (order base : ℕ) (l : Listing) (output out : List ℕ) → 1 ≤ length out
     → pack_told (pack_if j order base l output) out ≡ pack_call_if (with_room j (length out) 1) (pack_if j order base l output) output out
-pack_with (Refused r) order base l output out h = refl
-pack_with Passed order base l output out h = rw (le-ltb (length out) 1 h)
+pack_with (Err r) order base l output out h = refl
+pack_with (Ok _) order base l output out h = rw (le-ltb (length out) 1 h)
 
 pack_noting : (result : PackResult) (output out next : List ℕ) (a : Packed) (n : ℕ) → packed_to output a ≡ result
     → noted next n ≡ pack_noted out a → moved output next n ≡ pack_told result out

@@ -1,20 +1,16 @@
 -- What `beetle_shorten`, `beetle_lengthen` and `beetle_pack_short` leave and answer. Document 02, (l); -4105 is judged last, for `output` and for `out`.
-use Rattle.std.specs.Prelude.{List, [], ◌∷◌, ℕ, length}
-use Rattle.cell.specs.Refusals.{refusal_number}
-use Rattle.cell.specs.declared.Judged.{Judged}
-use Rattle.cell.specs.declared.Judged.TheVariants as judged
+use Rattle.std.specs.Prelude.{List, [], ◌∷◌, ℕ, length, Err, Ok}
+use Rattle.cell.specs.Refusals.{refusal_number, Judged}
 use Rattle.lent_arrays.specs.Lending.{written, with_room}
 use Rattle.calls.specs.Listings.{pack_if}
 use Rattle.calls.specs.Modules.{Noted, noted, Moved, moved}
-use Rattle.short_files.specs.Converted.{ConvertResult, judge_shorten, judge_lengthen, shorten_of, lengthen_of}
-use Rattle.short_files.specs.declared.Converted.{Converted}
-use Rattle.short_files.specs.declared.Converted.TheVariants as converted
+use Rattle.short_files.specs.Converted.{ConvertResult, judge_shorten, judge_lengthen, shorten_of, lengthen_of, Converted}
 use Rattle.short_packing.specs.Packing.{judge_pack_short, pack_short_of}
 
 -- 0 and the bytes written, or a refusal's number with nothing written
 abbrev pub convert_noted : List ℕ → Converted → Noted
-convert_noted out (converted.Refused r) = noted out (refusal_number r)
-convert_noted out (converted.Bytes n) = noted (written (n ∷ []) out) 0
+convert_noted out (Err r) = noted out (refusal_number r)
+convert_noted out (Ok n) = noted (written (n ∷ []) out) 0
 
 -- a result with its count in `out`
 abbrev pub told : ConvertResult → List ℕ → Moved
@@ -22,8 +18,8 @@ told result out = record { bytes = result.output; noted = convert_noted out resu
 
 -- where the judgement of all that was lent is no refusal
 abbrev pub convert_if : Judged → ConvertResult → List ℕ → List ℕ → Moved
-convert_if (judged.Refused r) result output out = moved output out (refusal_number r)
-convert_if judged.Passed result output out = told result out
+convert_if (Err r) result output out = moved output out (refusal_number r)
+convert_if (Ok _) result output out = told result out
 
 unfoldable pub shorten_call : List ℕ → List ℕ → List ℕ → Moved
 shorten_call file output out =

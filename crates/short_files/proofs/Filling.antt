@@ -6,7 +6,7 @@ use Prim.Native.Nat.{ℕ, suc, ◌+◌, ◌≤◌, ◌<◌}
 use native.Mathlib.Numerals.{add-one}
 use native.Mathlib.Omega.{arith}
 use lib.ListN.{length, set, drop, length-append}
-use lib.Seq.{sets, sets-eq, length-sets}
+use lib.Seq.{sets, sets-eq}
 use Rattle.short_judging.specs.Operands.{in_turn}
 use Rattle.short_judging.proofs.Turns.{singles_length}
 use Rattle.short_files.proofs.Stores.{sets_append, set_before}
@@ -26,9 +26,6 @@ module _ (out : List ℕ) (h n : ℕ) (kind : ℕ → ℕ) (g : ℕ → List ℕ
   pub filled_none : out ≡ filled 0
   unfolding in_turn
   filled_none = refl
-
-  pub filled_length : (i : ℕ) → length (filled i) ≡ length out
-  filled_length i = length-sets (sets out h (kinds i)) (h + n) (in_turn g i) ∙ length-sets out h (kinds i)
 
   one_kind : (i : ℕ) → i < n → set (filled i) (h + i) (kind i) ≡ part (suc i) i
   unfolding in_turn

@@ -1,26 +1,23 @@
 -- What shorten and lengthen leave and answer. Document 02, (l): a file is judged by its input list and by the room that the other one needs; neither base
 -- nor byte order is judged. Document 01, Turned back for the state: a refusal has a number and a count of 0 and leaves the output; a success
 -- changes its own bytes alone.
-use Rattle.std.specs.Prelude.{List, [], ◌∷◌, ◌++◌, ℕ, ltb, length, drop}
-use Rattle.cell.specs.Refusals.{Ground, judge, after, refusal_number}
+use Rattle.std.specs.Prelude.{List, [], ◌∷◌, ◌++◌, ℕ, ltb, length, drop, Result, Err, Ok}
+use Rattle.cell.specs.Refusals.{Ground, judge, after, answer_number, Judged}
+use Rattle.cell.specs.declared.Refusal.{Refusal}
 use Rattle.cell.specs.declared.Refusal.TheVariants.{ShortOutput}
-use Rattle.cell.specs.declared.Judged.{Judged}
-use Rattle.cell.specs.declared.Judged.TheVariants as judged
 use Rattle.pack_layout.specs.File.{file_base, filed, judged_file}
 use Rattle.short_judging.specs.ShortFile.{short_base, short_listing}
 use Rattle.short_judging.specs.Judging.{judged_short}
-use Rattle.short_files.specs.declared.Converted.{Converted}
-use Rattle.short_files.specs.declared.Converted.TheVariants as converted
 use Rattle.short_files.specs.Files.{long_file, short_file}
 
--- the number and the count of each answer: 0 and the bytes written, or the refusal's number and 0
-abbrev pub convert_number : Converted → ℕ
-convert_number (converted.Refused r) = refusal_number r
-convert_number (converted.Bytes n) = 0
+-- what shorten and lengthen answer: the number of bytes written
+abbrev pub Converted : Type 0
+Converted = Result ℕ Refusal
 
+-- the count of each answer: the bytes written, or 0 on a refusal
 abbrev pub convert_count : Converted → ℕ
-convert_count (converted.Refused r) = 0
-convert_count (converted.Bytes n) = n
+convert_count (Err r) = 0
+convert_count (Ok n) = n
 
 -- the output afterwards, and the answer
 pub record ConvertResult : Type 0 where
@@ -30,7 +27,7 @@ pub record ConvertResult : Type 0 where
   pub count : ℕ
 
 abbrev pub converted_to : List ℕ → Converted → ConvertResult
-converted_to out a = record { output = out; answer = a; number = convert_number a; count = convert_count a }
+converted_to out a = record { output = out; answer = a; number = answer_number a; count = convert_count a }
 
 -- -4105: an output of this size has no room for so many bytes
 abbrev pub no_room : ℕ → ℕ → Ground
@@ -42,8 +39,8 @@ judge_room input file size = after input (judge (no_room (length file) size ∷ 
 
 -- that file goes into the output's first bytes
 abbrev pub convert_if : Judged → List ℕ → List ℕ → ConvertResult
-convert_if (judged.Refused r) file out = converted_to out (converted.Refused r)
-convert_if judged.Passed file out = converted_to (file ++ drop (length file) out) (converted.Bytes (length file))
+convert_if (Err r) file out = converted_to out (Err r)
+convert_if (Ok _) file out = converted_to (file ++ drop (length file) out) (Ok (length file))
 
 -- the short file of a listing file, and the listing file of a short one
 abbrev pub shortened : List ℕ → List ℕ

@@ -2,12 +2,3 @@
 #![tactic(auto)]
 
 pub mod writing;
-
-use cell::Refusal;
-
-// What shorten and lengthen answer: the number of bytes written. specs/Converted.antt has document 01's numbers of each case.
-#[derive(Clone, Copy)]
-pub enum Converted {
-    Refused(Refusal),
-    Bytes(u32),
-}

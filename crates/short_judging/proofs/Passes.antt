@@ -8,11 +8,11 @@ use native.Mathlib.Omega.{arith}
 use borrow.Author.Tests.{eq-eqb, ne_eqb, le-ltb}
 use lib.Dec.{eqb}
 use lib.ListN.{length, get_or}
+use Rattle.std.specs.Prelude.{Ok, Err}
+use Rattle.std.specs.Result.{result_and}
 use Rattle.cell.specs.Choice.{if}
-use Rattle.cell.specs.Refusals.{judge, after}
+use Rattle.cell.specs.Refusals.{judge, after, Judged, passed}
 use Rattle.cell.specs.declared.Refusal.TheVariants.{OperandCount}
-use Rattle.cell.specs.declared.Judged.{Judged}
-use Rattle.cell.specs.declared.Judged.TheVariants.{Passed, Refused}
 use Rattle.cell.proofs.JudgementLaws.{after_after}
 use Rattle.pack_layout.specs.declared.Class.{Class}
 use Rattle.pack_layout.specs.File.{least_first, file_count, file_kinds, file_operands, filed, judged_length, judged_file}
@@ -45,6 +45,11 @@ short_item s n i k x c j e h l p o q r =
     ∙ rw (q, p, o, e)
     (sym (rw (short_operand_lem s i (omega (arith, short_count_lem s (omega arith))), short_kind_lem s i (omega arith), short_count_lem s (omega arith)) refl))
 
+-- the first refusal of two
+pub and_after : (i j : Judged) → result_and i j ≡ after i j
+and_after (Ok _) j = refl
+and_after (Err r) j = refl
+
 -- the first refusal of the items so far, and of one more
 pub first_more : (l : Listing) (n i : ℕ) (first here : Judged) → i < n → here ≡ judged_at l i
     → after (after first here) (judged_from l (n - (i + 1)) (i + 1)) ≡ after first (judged_from l (n - i) i)
@@ -53,16 +58,16 @@ first_more l n i first here h e =
     ∙ ap (after first) (ap (λ (j : Judged). after j (judged_from l (n - (i + 1)) (i + 1))) e ∙ sym (judged_step l n i h))
 
 -- m against the operands that the kinds have, where the size is right
-pub other_refused : (size n m k : ℕ) (j : Judged) → (m ≡ k → ⊥) → Refused OperandCount ≡ after (judge (other_count size n m k ∷ [])) j
+pub other_refused : (size n m k : ℕ) (j : Judged) → (m ≡ k → ⊥) → Err OperandCount ≡ after (judge (other_count size n m k ∷ [])) j
 other_refused size n m k j h = rw (ne_eqb m k h) refl
 
 pub same_passed : (size n m k : ℕ) (j : Judged) → m ≡ k → size ≡ 12 + n + 4 * m → after (judge (other_count size n m k ∷ [])) j ≡ j
 same_passed size n m k j e l = rw (eq-eqb m k e, eq-eqb size (12 + n + 4 * m) l) refl
 
-pub other_size : (size n m k : ℕ) (j : Judged) → (size ≡ 12 + n + 4 * m → ⊥) → Refused OperandCount ≡ after (judge (other_count size n m k ∷ [])) j
+pub other_size : (size n m k : ℕ) (j : Judged) → (size ≡ 12 + n + 4 * m → ⊥) → Err OperandCount ≡ after (judge (other_count size n m k ∷ [])) j
 other_size size n m k j h = go (eqb m k)
   where
-    go : (b : Bool) → Refused OperandCount ≡ after (if (not b || not (eqb size (12 + n + 4 * m))) (Refused OperandCount) Passed) j
+    go : (b : Bool) → Err OperandCount ≡ after (if (not b || not (eqb size (12 + n + 4 * m))) (Err OperandCount) passed) j
     go true = rw (ne_eqb size (12 + n + 4 * m) h)
     go false = refl
 
@@ -75,7 +80,7 @@ unfolding judged_short
 counts_reached s a b c = rw (le-ltb (length s) 12 a, ne_eqb (short_count s) 0 b, le-ltb 4096 (short_count s) c)
 
 -- a listing file of the right length: its count, then its items
-pub file_counted : (s : List ℕ) → judged_length s ≡ Passed
+pub file_counted : (s : List ℕ) → judged_length s ≡ passed
     → judged_file s ≡ after (judge (item_count (file_count s) ∷ [])) (judged_from (filed s) (file_count s) 0)
 unfolding judged_file judged_arrays judged_listing
 file_counted s e =

@@ -1,15 +1,12 @@
 -- What refuses a short listing file. Document 02, (l): -4119 where its header is cut short; -4106 by n; -4119 where m or the length does not fit
 -- the kinds; then document 01's judgement of the items. -4108 has no place, since the file has no operand for a plain item.
-use Rattle.std.specs.Prelude.{not, ◌||◌, List, [], ◌∷◌, ℕ, ◌+◌, ◌*◌, ltb, eqb, length}
-use Rattle.cell.specs.Refusals.{Ground, judge, after}
+use Rattle.std.specs.Prelude.{not, ◌||◌, List, [], ◌∷◌, ℕ, ◌+◌, ◌*◌, ltb, eqb, length, Result, Err, Ok}
+use Rattle.cell.specs.Refusals.{Ground, judge, after, Judged}
+use Rattle.cell.specs.declared.Refusal.{Refusal}
 use Rattle.cell.specs.declared.Refusal.TheVariants.{OperandCount}
-use Rattle.cell.specs.declared.Judged.{Judged}
-use Rattle.cell.specs.declared.Judged.TheVariants as judged
 use Rattle.pack_layout.specs.Grounds.{item_count}
 use Rattle.pack_layout.specs.File.{file_count, filed, judged_file}
 use Rattle.pack_layout.specs.Listing.{judged_from}
-use Rattle.short_judging.specs.declared.Counted.{Counted}
-use Rattle.short_judging.specs.declared.Counted.TheVariants as counted
 use Rattle.short_judging.specs.Operands.{operands_before}
 use Rattle.short_judging.specs.ShortFile.{short_count, operand_count, short_kind, short_listing}
 
@@ -31,10 +28,14 @@ judged_counts s =
 unfoldable pub judged_short : List ℕ → Judged
 judged_short s = after (judged_counts s) (judged_from (short_listing s) (short_count s) 0)
 
--- what a listing file is judged on the way to a short one: refused, or the operands that it keeps
+-- what a listing file is judged on the way to a short one: the operands that its short file has
+abbrev pub Counted : Type 0
+Counted = Result ℕ Refusal
+
+-- refused, or the operands that it keeps
 abbrev pub keeping : Judged → ℕ → Counted
-keeping (judged.Refused r) m = counted.Refused r
-keeping judged.Passed m = counted.Operands m
+keeping (Err r) m = Err r
+keeping (Ok _) m = Ok m
 
 -- the operands that the short file of a listing file has
 abbrev pub kept_count : List ℕ → ℕ

@@ -7,65 +7,52 @@ ghost use Rattle.short_judging.specs.ShortFile.{short_count, operand_count, shor
 ghost use Rattle.short_judging.specs.Judging.{other_count, judged_short};
 
 use crate::operands::{operand_at, operands_of};
-use cell::{Judged, Refusal};
+use cell::Refusal;
 use pack_judging::check::judge_item;
 use pack_judging::file::cell_at;
 use pack_judging::kinds::class_of;
 use pack_layout::MOST_ITEMS;
 
-// Of two judgements, the first that refuses.
-fn after(a: Judged, b: Judged) -> Judged
-    ensures { result ≡ refusals.after a b }
-{
-    match a {
-        Judged::Refused(r) => Judged::Refused(r),
-        Judged::Passed => b,
-    }
-}
-
 // Every item, lowest first. More operands than m, or fewer, refuse the file whatever its items are.
-fn judge_items(file: &[u8], n: usize, m: usize) -> Judged
+#[tactic(auto, using(crate::proofs::Turns::operands_most), unfolding(crate::specs::Operands::operands_before))]
+fn judge_items(file: &[u8], n: usize, m: usize) -> Result<(), Refusal>
     requires n_value { (n ≡ short_count file.now) × (m ≡ operand_count file.now) }
     requires n_bound { (n ≤ 4096) × (length file.now ≡ 12 + n + 4 * m) }
     ensures { result ≡ refusals.after (refusals.judge (other_count (length file.now) n m (operands_before (short_kind file.now) n) ∷ [])) (judged_from (short_listing file.now) n 0) }
 {
-    let mut first = Judged::Passed;
+    let mut first = Ok(());
     let mut k: usize = 0;
-    let mut i: usize = 0;
-    while i < n {
+    for i in 0..n {
         let c = class_of(file[12 + i]);
         let next = k + operands_of(c) as usize;
         if m < next {
-            return Judged::Refused(Refusal::OperandCount);
+            return Err(Refusal::OperandCount);
         }
         let x = operand_at(file, c, 12 + n + 4 * k);
-        first = after(first, judge_item(c, n as u32, x));
+        first = first.and(judge_item(c, n as u32, x));
         k = next;
-        i += 1;
     }
     if k != m {
-        return Judged::Refused(Refusal::OperandCount);
+        return Err(Refusal::OperandCount);
     }
     first
 }
 
-pub fn judge_short(file: &[u8]) -> Judged
+#[tactic(auto, using(crate::proofs::Passes::counts_reached, crate::proofs::Passes::other_size), unfolding(crate::specs::Judging::judged_short))]
+pub fn judge_short(file: &[u8]) -> Result<(), Refusal>
     ensures { result ≡ judged_short file.now }
 {
     let size = file.len();
     if size < 12 {
-        return Judged::Refused(Refusal::OperandCount);
+        return Err(Refusal::OperandCount);
     }
     let n = cell_at(file, 0) as usize;
-    if n == 0 {
-        return Judged::Refused(Refusal::ItemCount);
-    }
-    if MOST_ITEMS < n {
-        return Judged::Refused(Refusal::ItemCount);
+    if n == 0 || MOST_ITEMS < n {
+        return Err(Refusal::ItemCount);
     }
     let m = cell_at(file, 4) as usize;
     if size != 12 + n + 4 * m {
-        return Judged::Refused(Refusal::OperandCount);
+        return Err(Refusal::OperandCount);
     }
     judge_items(file, n, m)
 }

@@ -8,11 +8,10 @@ use native.Mathlib.Decide.{dec_lt}
 use native.Mathlib.Omega.{arith}
 use lib.Dec.{leb}
 use lib.ListN.{length, get_or-eq_default}
+use Rattle.std.specs.Prelude.{Err, Ok}
 use Rattle.cell.specs.Choice.{if}
-use Rattle.cell.specs.Refusals.{refusal_number, after}
+use Rattle.cell.specs.Refusals.{refusal_number, after, Judged, passed}
 use Rattle.cell.specs.declared.Refusal.TheVariants as refusal
-use Rattle.cell.specs.declared.Judged.{Judged}
-use Rattle.cell.specs.declared.Judged.TheVariants.{Passed, Refused}
 use Rattle.pack_layout.specs.declared.Class.{Class}
 use Rattle.pack_layout.specs.declared.Class.TheVariants as class
 use Rattle.pack_layout.specs.Grounds.{item_count}
@@ -26,30 +25,30 @@ use Rattle.short_laws.specs.Claims.{NoPlainOperand}
 
 -- the refusal's number, or 0
 abbrev number_of : Judged → ℕ
-number_of Passed = 0
-number_of (Refused r) = refusal_number r
+number_of (Ok _) = 0
+number_of (Err r) = refusal_number r
 
 -- a judgement is not -4108
 abbrev Other : Judged → Type 0
-Other j = j ≡ Refused refusal.PlainOperand → ⊥
+Other j = j ≡ Err refusal.PlainOperand → ⊥
 
 other_number : (j : Judged) → (number_of j ≡ refusal_number refusal.PlainOperand → ⊥) → Other j
 other_number j h e = h (ap number_of e)
 
 after_other : (a b : Judged) → Other a → Other b → Other (after a b)
-after_other Passed b p q = q
-after_other (Refused r) b p q = p
+after_other (Ok _) b p q = q
+after_other (Err r) b p q = p
 
 -- an item whose operand is 0 where the short file has none for it
 item_other : (c : Class) (n x : ℕ) → (has_operand c ≡ false → x ≡ 0) → Other (judged c n x)
-item_other class.Plain n x h = rw (h refl) (other_number Passed (λ e. omega arith))
-item_other class.Literal n x h = other_number Passed (λ e. omega arith)
+item_other class.Plain n x h = rw (h refl) (other_number passed (λ e. omega arith))
+item_other class.Literal n x h = other_number passed (λ e. omega arith)
 item_other class.Branch n x h = go (leb n x)
   where
-    go : (b : Bool) → Other (if b (Refused refusal.Target) Passed)
-    go true = other_number (Refused refusal.Target) (λ e. omega arith)
-    go false = other_number Passed (λ e. omega arith)
-item_other class.NoKind n x h = other_number (Refused refusal.Kind) (λ e. omega arith)
+    go : (b : Bool) → Other (if b (Err refusal.Target) passed)
+    go true = other_number (Err refusal.Target) (λ e. omega arith)
+    go false = other_number passed (λ e. omega arith)
+item_other class.NoKind n x h = other_number (Err refusal.Kind) (λ e. omega arith)
 
 module _ (s : List ℕ) where
   no_operand : (i : ℕ) → has_operand (class_of (short_kind s i)) ≡ false → (short_listing s).operand i ≡ 0
@@ -62,7 +61,7 @@ module _ (s : List ℕ) where
 
   items_other : (k i : ℕ) → Other (judged_from (short_listing s) k i)
   unfolding judged_from
-  items_other zero i = other_number Passed (λ e. omega arith)
+  items_other zero i = other_number passed (λ e. omega arith)
   items_other (suc k) i =
       after_other (judged (class_of (short_kind s i)) (length (short_kinds s)) ((short_listing s).operand i)) (judged_from (short_listing s) k (suc i))
       (item_other (class_of (short_kind s i)) (length (short_kinds s)) ((short_listing s).operand i) (no_operand i))
@@ -71,11 +70,11 @@ module _ (s : List ℕ) where
   counts_other : Other (judged_counts s)
   counts_other = go (cut_header (length s)).applies (item_count (short_count s)).applies (other_count (length s) (short_count s) (operand_count s) (operands_before (short_kind s) (short_count s))).applies
     where
-      go : (a b c : Bool) → Other (if a (Refused refusal.OperandCount) (if b (Refused refusal.ItemCount) (if c (Refused refusal.OperandCount) Passed)))
-      go true b c = other_number (Refused refusal.OperandCount) (λ e. omega arith)
-      go false true c = other_number (Refused refusal.ItemCount) (λ e. omega arith)
-      go false false true = other_number (Refused refusal.OperandCount) (λ e. omega arith)
-      go false false false = other_number Passed (λ e. omega arith)
+      go : (a b c : Bool) → Other (if a (Err refusal.OperandCount) (if b (Err refusal.ItemCount) (if c (Err refusal.OperandCount) passed)))
+      go true b c = other_number (Err refusal.OperandCount) (λ e. omega arith)
+      go false true c = other_number (Err refusal.ItemCount) (λ e. omega arith)
+      go false false true = other_number (Err refusal.OperandCount) (λ e. omega arith)
+      go false false false = other_number passed (λ e. omega arith)
 
 pub no_plain_operand : NoPlainOperand
 unfolding judged_short

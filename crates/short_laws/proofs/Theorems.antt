@@ -8,10 +8,9 @@ use native.Mathlib.Omega.{arith}
 use borrow.Author.Tests.{le-ltb}
 use lib.ListN.{length, get_or, drop}
 use lib.Seq.{take_at}
+use Rattle.std.specs.Prelude.{Err, Ok}
 use Rattle.cell.specs.Memory.{Bytewise}
-use Rattle.cell.specs.Refusals.{judge}
-use Rattle.cell.specs.declared.Judged.{Judged}
-use Rattle.cell.specs.declared.Judged.TheVariants.{Passed, Refused}
+use Rattle.cell.specs.Refusals.{judge, Judged, passed}
 use Rattle.cell.proofs.JudgementLaws.{both_pass, refusal_some}
 use Rattle.cell.proofs.MemoryLaws.{cell_below}
 use Rattle.pack_layout.specs.declared.Class.{Class}
@@ -38,12 +37,12 @@ use Rattle.short_laws.proofs.Reading.{Arrays, long_count, long_base, long_kinds,
 use Rattle.short_laws.proofs.Writing.{long_again, short_again}
 
 -- a conversion that answered 0
-wrote_file : (j : Judged) (file out : List ℕ) → (convert_if j file out).number ≡ 0 → (j ≡ Passed) × (file_of (convert_if j file out) ≡ file)
-wrote_file (Refused r) file out e = absurd (refusal_some r e)
-wrote_file Passed file out e = (refl, take_at file (drop (length file) out) (length file) refl)
+wrote_file : (j : Judged) (file out : List ℕ) → (convert_if j file out).number ≡ 0 → (j ≡ passed) × (file_of (convert_if j file out) ≡ file)
+wrote_file (Err r) file out e = absurd (refusal_some r e)
+wrote_file (Ok _) file out e = (refl, take_at file (drop (length file) out) (length file) refl)
 
 -- a conversion that has to answer 0
-converts : (input : Judged) (file same room : List ℕ) → input ≡ Passed → file ≡ same → length same ≤ length room
+converts : (input : Judged) (file same room : List ℕ) → input ≡ passed → file ≡ same → length same ≤ length room
     → convert_if (judge_room input file (length room)) file room ≡ wrote same room
 converts input file same room e q h = rw (e, q, le-ltb (length room) (length same) h) refl
 
@@ -52,7 +51,7 @@ alike_listing : (file short : List ℕ) → Alike file short → short_listing s
 alike_listing file short a = ap (λ (k : List ℕ). listed k (short_operands short)) a.kinds ∙ ap (listed (file_kinds file)) a.operands
 
 -- a listing file that is taken, and its short file
-module _ (s : List ℕ) (low : Bytewise s) (ok : judged_file s ≡ Passed) where
+module _ (s : List ℕ) (low : Bytewise s) (ok : judged_file s ≡ passed) where
   abbrev good : GoodFile s
   good = file_good s ok
 
@@ -68,7 +67,7 @@ module _ (s : List ℕ) (low : Bytewise s) (ok : judged_file s ≡ Passed) where
         base_cell = cell_below 0 s 4 low;
       }
 
-  listing_ok : judged_listing (filed s) ≡ Passed
+  listing_ok : judged_listing (filed s) ≡ passed
   unfolding judged_file judged_arrays
   listing_ok =
       (both_pass (judge (unequal (length (file_kinds s)) (length (file_operands s)) ∷ [])) (judged_listing (filed s))
@@ -95,7 +94,7 @@ module _ (s : List ℕ) (low : Bytewise s) (ok : judged_file s ≡ Passed) where
   shortened_listing : short_listing (shortened s) ≡ filed s
   shortened_listing = alike_listing s (shortened s) shortened_alike
 
-  pub shortened_ok : judged_short (shortened s) ≡ Passed
+  pub shortened_ok : judged_short (shortened s) ≡ passed
   shortened_ok =
       let n = short_count_lem (file_kinds s) (file_operands s) (file_base s) arrays in
       let m = short_operand_count (file_kinds s) (file_operands s) (file_base s) arrays in
@@ -114,7 +113,7 @@ module _ (s : List ℕ) (low : Bytewise s) (ok : judged_file s ≡ Passed) where
       ap (λ (x : Listing). long_file x (short_base (shortened s))) shortened_listing ∙ ap (long_file (filed s)) shortened_alike.base ∙ long_again s low good
 
 -- a short file that is taken, and its listing file
-module _ (s : List ℕ) (low : Bytewise s) (ok : judged_short s ≡ Passed) where
+module _ (s : List ℕ) (low : Bytewise s) (ok : judged_short s ≡ passed) where
   abbrev fine : GoodShort s
   fine = short_good s ok
 
@@ -141,7 +140,7 @@ module _ (s : List ℕ) (low : Bytewise s) (ok : judged_short s ≡ Passed) wher
   lengthened_listing : filed (lengthened s) ≡ short_listing s
   lengthened_listing = sym (alike_listing (lengthened s) s lengthened_alike)
 
-  pub lengthened_ok : judged_file (lengthened s) ≡ Passed
+  pub lengthened_ok : judged_file (lengthened s) ≡ passed
   lengthened_ok =
       let n = long_count (short_kinds s) (short_operands s) (short_base s) short_arrays_lem in
       good_file (lengthened s)
@@ -158,13 +157,13 @@ module _ (s : List ℕ) (low : Bytewise s) (ok : judged_short s ≡ Passed) wher
 
 -- what was taken, and what was written
 module _ (s out : List ℕ) where
-  shorten_took : (shorten_of s out).number ≡ 0 → (judged_file s ≡ Passed) × (file_of (shorten_of s out) ≡ shortened s)
+  shorten_took : (shorten_of s out).number ≡ 0 → (judged_file s ≡ passed) × (file_of (shorten_of s out) ≡ shortened s)
   unfolding shorten_of judge_shorten
   shorten_took e =
       let p = wrote_file (judge_shorten s (length out)) (shortened s) out e in
       ((both_pass (judged_file s) _ p.0).0, p.1)
 
-  lengthen_took : (lengthen_of s out).number ≡ 0 → (judged_short s ≡ Passed) × (file_of (lengthen_of s out) ≡ lengthened s)
+  lengthen_took : (lengthen_of s out).number ≡ 0 → (judged_short s ≡ passed) × (file_of (lengthen_of s out) ≡ lengthened s)
   unfolding lengthen_of judge_lengthen
   lengthen_took e =
       let p = wrote_file (judge_lengthen s (length out)) (lengthened s) out e in
@@ -183,7 +182,7 @@ back_and_there file out room low e h =
     rw p.1 (converts (judged_file (lengthened file)) (shortened (lengthened file)) file room (lengthened_ok file low p.0) (lengthened_back file low p.0) h)
 
 -- twins are both taken, and alike
-both_taken : (file short : List ℕ) → Twins file short → (judged_file file ≡ Passed) × (judged_short short ≡ Passed) × Alike file short
+both_taken : (file short : List ℕ) → Twins file short → (judged_file file ≡ passed) × (judged_short short ≡ passed) × Alike file short
 both_taken _ _ (by_shorten file out low e) =
     let p = shorten_took file out e in
     rw p.1 (p.0, shortened_ok file low p.0, shortened_alike file low p.0)
@@ -199,7 +198,7 @@ module _ (order : ℕ) (out : List ℕ) where
   abbrev packing : Judged → ℕ → Listing → PackResult
   packing j base l = pack_if (judge_all order j base l (length out)) order base l out
 
-  one_packing : (file short : List ℕ) → judged_file file ≡ Passed → judged_short short ≡ Passed → Alike file short
+  one_packing : (file short : List ℕ) → judged_file file ≡ passed → judged_short short ≡ passed → Alike file short
       → packing (judged_short short) (short_base short) (short_listing short) ≡ packing (judged_file file) (file_base file) (filed file)
   one_packing file short p q a =
       ap (λ (j : Judged). packing j (short_base short) (short_listing short)) (q ∙ sym p)

@@ -1,15 +1,13 @@
 -- What is proved of listing files of both kinds. Document 02, (l): a file that is taken comes back byte for byte, both ways, and both files carry the
 -- same listing to the packer. The proofs stand in proofs/Theorems.antt.
-use Rattle.std.specs.Prelude.{◌≡◌, List, ◌++◌, ℕ, ◌≤◌, length, take, drop}
+use Rattle.std.specs.Prelude.{◌≡◌, List, ◌++◌, ℕ, ◌≤◌, length, take, drop, Err, Ok}
 use Rattle.cell.specs.Memory.{Bytewise}
 use Rattle.cell.specs.declared.Refusal.TheVariants.{PlainOperand}
-use Rattle.cell.specs.declared.Judged.TheVariants.{Refused}
 use Rattle.pack_layout.specs.File.{file_base, file_kinds, file_operands}
 use Rattle.pack_files.specs.Files.{pack_file_of}
 use Rattle.short_judging.specs.ShortFile.{short_base, short_kinds, short_operands}
 use Rattle.short_judging.specs.Judging.{judged_short}
 use Rattle.short_files.specs.Converted.{ConvertResult, converted_to, shorten_of, lengthen_of}
-use Rattle.short_files.specs.declared.Converted.TheVariants as converted
 use Rattle.short_packing.specs.Packing.{pack_short_of}
 
 -- the file that a shortening or a lengthening wrote
@@ -18,7 +16,7 @@ file_of r = take r.count r.output
 
 -- the result that has a file in the output's first bytes
 abbrev pub wrote : List ℕ → List ℕ → ConvertResult
-wrote file out = converted_to (file ++ drop (length file) out) (converted.Bytes (length file))
+wrote file out = converted_to (file ++ drop (length file) out) (Ok (length file))
 
 -- shorten, then lengthen with room for the file: its bytes, and no others
 abbrev pub ThereAndBack : Type 0
@@ -53,4 +51,4 @@ OneImage =
 
 -- a short file has no operand that a plain item could not have
 abbrev pub NoPlainOperand : Type 0
-NoPlainOperand = (s : List ℕ) → judged_short s ≡ Refused PlainOperand → ⊥
+NoPlainOperand = (s : List ℕ) → judged_short s ≡ Err PlainOperand → ⊥

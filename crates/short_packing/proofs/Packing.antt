@@ -8,18 +8,16 @@ use native.Mathlib.Omega.{arith}
 use borrow.Author.Tests.{eq-eqb, ne_eqb, le-ltb}
 use lib.ListN.{length, get_or, take, drop, set}
 use lib.Seq.{take-suc-set}
+use Rattle.std.specs.Prelude.{Err, Ok}
 use Rattle.cell.specs.Choice.{if}
-use Rattle.cell.specs.Refusals.{after, in_order}
+use Rattle.cell.specs.Refusals.{after, in_order, Judged, passed}
 use Rattle.cell.specs.declared.Refusal.{Refusal}
-use Rattle.cell.specs.declared.Judged.{Judged}
-use Rattle.cell.specs.declared.Judged.TheVariants.{Passed, Refused}
 use Rattle.cell.proofs.JudgementLaws.{both_pass}
 use Rattle.pack_layout.specs.declared.Class.{Class}
 use Rattle.pack_layout.specs.File.{least_first}
 use Rattle.pack_layout.specs.Kinds.{class_of}
 use Rattle.pack_layout.specs.Listing.{judged_from, judged_arrays, judged_listing}
 use Rattle.pack_layout.specs.Packing.{image_cells, judged_place}
-use Rattle.packer.specs.declared.Packed.TheVariants as packed
 use Rattle.pack_refusals.specs.Judgement.{judge_order, judge_room, judge_pack}
 use Rattle.packer.proofs.Answering.{handed_judged, handed_packed}
 use Rattle.packer.specs.Pack.{PackResult, packed_to, pack_of}
@@ -40,7 +38,7 @@ read_more s xs n i at x c e h l q p r t =
     rw (add-one i) (take-suc-set xs i x l ∙ rw (t, b) refl)
 
 -- the two arrays pass too
-pub arrays_passed : (s : List ℕ) → judged_short s ≡ Passed → judged_arrays (short_kinds s) (short_operands s) ≡ Passed
+pub arrays_passed : (s : List ℕ) → judged_short s ≡ passed → judged_arrays (short_kinds s) (short_operands s) ≡ passed
 unfolding judged_arrays judged_listing
 arrays_passed s e =
     let g = short_good s e in
@@ -50,38 +48,38 @@ arrays_passed s e =
     (ap (λ (i : ℕ). judged_from (short_listing s) i 0) k ∙ g.items)
 
 module _ (order : ℕ) (s : List ℕ) where
-  pub input_refused : (r : Refusal) → judge_input order s ≡ Refused r → (size : ℕ) → judge_pack_short order s size ≡ Refused r
+  pub input_refused : (r : Refusal) → judge_input order s ≡ Err r → (size : ℕ) → judge_pack_short order s size ≡ Err r
   unfolding judge_input judge_pack_short
   input_refused r e size = go (judge_order order) (judged_short s) e
     where
       rest : Judged
       rest = in_order (judged_place (short_base s) (image_cells (short_listing s)) ∷ judge_room (image_cells (short_listing s)) size ∷ [])
 
-      go : (a b : Judged) → after a b ≡ Refused r → after a (after b rest) ≡ Refused r
-      go (Refused x) b q = q
-      go Passed (Refused x) q = q
-      go Passed Passed q = absurd (let z : ◌≡◌ {A = ℕ} 0 1 = cc in omega arith)
+      go : (a b : Judged) → after a b ≡ Err r → after a (after b rest) ≡ Err r
+      go (Err x) b q = q
+      go (Ok _) (Err x) q = q
+      go (Ok _) (Ok _) q = absurd (let z : ◌≡◌ {A = ℕ} 0 1 = cc in omega arith)
 
-  pub input_good : judge_input order s ≡ Passed → judged_short s ≡ Passed
+  pub input_good : judge_input order s ≡ passed → judged_short s ≡ passed
   unfolding judge_input
   input_good e = (both_pass (judge_order order) (judged_short s) e).1
 
-  judged_same : judged_short s ≡ Passed → (size : ℕ)
+  judged_same : judged_short s ≡ passed → (size : ℕ)
       → judge_pack order (short_kinds s) (short_operands s) (short_base s) size ≡ judge_pack_short order s size
   unfolding judge_pack_short judge_pack
   judged_same e size = rw (e, arrays_passed s e) refl
 
-  packed_same : judged_short s ≡ Passed → (out : List ℕ)
+  packed_same : judged_short s ≡ passed → (out : List ℕ)
       → pack_of order (short_kinds s) (short_operands s) (short_base s) out ≡ pack_short_of order s out
   unfolding pack_of pack_short_of
   packed_same e out = rw (judged_same e (length out)) refl
 
-  pub pack_refused : (out : List ℕ) (r : Refusal) → judge_input order s ≡ Refused r → packed_to out (packed.Refused r) ≡ pack_short_of order s out
+  pub pack_refused : (out : List ℕ) (r : Refusal) → judge_input order s ≡ Err r → packed_to out (Err r) ≡ pack_short_of order s out
   unfolding pack_short_of
   pack_refused out r e = rw (input_refused r e (length out))
 
   -- the parts of the file that are handed on
-  module _ (p : judged_short s ≡ Passed) (n base : ℕ) (operands : List ℕ) (e : n ≡ short_count s) (b : base ≡ short_base s)
+  module _ (p : judged_short s ≡ passed) (n base : ℕ) (operands : List ℕ) (e : n ≡ short_count s) (b : base ≡ short_base s)
       (o : take (short_count s) operands ≡ short_operands s) where
     pub parts_judged : (size : ℕ) (j : Judged) → j ≡ judge_pack order (take (12 + n - 12) (drop 12 s)) (take (n - 0) operands) base size
         → j ≡ judge_pack_short order s size

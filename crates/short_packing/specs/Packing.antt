@@ -1,8 +1,7 @@
 -- What refuses the packing of a short listing file, and what it leaves and answers. Document 02, (l): the packer gets the listing that the file
 -- carries, so all but the input list is as for document 01's file.
 use Rattle.std.specs.Prelude.{List, ℕ, length}
-use Rattle.cell.specs.Refusals.{after}
-use Rattle.cell.specs.declared.Judged.{Judged}
+use Rattle.cell.specs.Refusals.{after, Judged}
 use Rattle.pack_refusals.specs.Judgement.{judge_order, judge_all}
 use Rattle.packer.specs.Pack.{PackResult, pack_if}
 use Rattle.short_judging.specs.ShortFile.{short_base, short_listing}

@@ -5,23 +5,21 @@ ghost use Rattle.short_judging.specs.ShortFile.{short_count, short_kind, short_o
 ghost use Rattle.packer.specs.Pack as answers;
 ghost use Rattle.short_packing.specs.Packing as packing;
 
-use cell::{Address, Judged};
+use cell::{Address, CellCount, Refusal};
 use pack_judging::file::cell_at;
 use pack_judging::kinds::class_of;
 use pack_layout::MOST_ITEMS;
 use pack_refusals::judgement::{judge_order, judge_pack};
-use packer::Packed;
 use packer::pack::pack;
 use short_judging::operands::{operand_at, operands_of};
 use short_judging::short::judge_short;
 
-fn judge_input(order: u8, file: &[u8]) -> Judged
+#[tactic(auto, unfolding(crate::specs::Packing::judge_input))]
+fn judge_input(order: u8, file: &[u8]) -> Result<(), Refusal>
     ensures { result ≡ packing.judge_input order file.now }
 {
-    match judge_order(order) {
-        Judged::Refused(r) => Judged::Refused(r),
-        Judged::Passed => judge_short(file),
-    }
+    judge_order(order)?;
+    judge_short(file)
 }
 
 // The operand of each item, in front of an array of as many as a file may have.
@@ -32,43 +30,35 @@ fn operands_in(file: &[u8]) -> [u32; MOST_ITEMS]
     let n = cell_at(file, 0) as usize;
     let mut operands = [0u32; MOST_ITEMS];
     let mut at = 12 + n;
-    let mut i: usize = 0;
-    while i < n {
+    for i in 0..n {
         let c = class_of(file[12 + i]);
         operands[i] = operand_at(file, c, at);
         at += 4 * operands_of(c) as usize;
-        i += 1;
     }
     operands
 }
 
-pub fn pack_short(order: u8, file: &[u8], output: &mut [u8]) -> Packed
+#[tactic(auto, using(short_judging::proofs::Passing::short_good, crate::proofs::Packing::input_good, crate::proofs::Packing::pack_refused))]
+pub fn pack_short(order: u8, file: &[u8], output: &mut [u8]) -> Result<CellCount, Refusal>
     ensures { answers.packed_to output.new result ≡ packing.pack_short_of order file.now output.old }
 {
-    match judge_input(order, file) {
-        Judged::Refused(r) => Packed::Refused(r),
-        Judged::Passed => {
-            let n = cell_at(file, 0) as usize;
-            let base = Address(cell_at(file, 8));
-            let end = 12 + n;
-            let operands = operands_in(file);
-            pack(order, &file[12..end], &operands[0..n], base, output)
-        }
-    }
+    judge_input(order, file)?;
+    let n = cell_at(file, 0) as usize;
+    let base = Address(cell_at(file, 8));
+    let end = 12 + n;
+    let operands = operands_in(file);
+    pack(order, &file[12..end], &operands[0..n], base, output)
 }
 
 // A packing of a short file into an output of some size.
-pub fn judge_pack_short(order: u8, file: &[u8], size: usize) -> Judged
+#[tactic(auto, using(short_judging::proofs::Passing::short_good, crate::proofs::Packing::input_good))]
+pub fn judge_pack_short(order: u8, file: &[u8], size: usize) -> Result<(), Refusal>
     ensures { result ≡ packing.judge_pack_short order file.now size }
 {
-    match judge_input(order, file) {
-        Judged::Refused(r) => Judged::Refused(r),
-        Judged::Passed => {
-            let n = cell_at(file, 0) as usize;
-            let base = Address(cell_at(file, 8));
-            let end = 12 + n;
-            let operands = operands_in(file);
-            judge_pack(order, &file[12..end], &operands[0..n], base, size)
-        }
-    }
+    judge_input(order, file)?;
+    let n = cell_at(file, 0) as usize;
+    let base = Address(cell_at(file, 8));
+    let end = 12 + n;
+    let operands = operands_in(file);
+    judge_pack(order, &file[12..end], &operands[0..n], base, size)
 }

@@ -9,12 +9,10 @@ ghost use Rattle.short_judging.specs.Judging.{kept_count};
 ghost use Rattle.short_files.specs.Files.{kind_byte, kept_bytes};
 ghost use Rattle.short_files.specs.Converted as answers;
 
-use cell::{Judged, Refusal};
+use cell::Refusal;
 use pack_judging::file::cell_at;
 use pack_judging::kinds::class_of;
-use short_files::Converted;
 use short_files::writing::{put, put_kept};
-use short_judging::Counted;
 use short_judging::file::count_operands;
 use short_judging::operands::operands_of;
 
@@ -25,14 +23,12 @@ fn write_items(file: &[u8], n: usize, output: &mut [u8])
     ensures { output.new ≡ sets (sets output.old 12 (in_turn (kind_byte (filed file.now)) n)) (12 + n) (in_turn (kept_bytes (filed file.now)) n) }
 {
     let mut at = 12 + n;
-    let mut i: usize = 0;
-    while i < n {
+    for i in 0..n {
         let kind = file[8 + i];
         output[12 + i] = kind;
         let c = class_of(kind);
         put_kept(output, c, at, cell_at(file, 8 + n + 4 * i));
         at += 4 * operands_of(c) as usize;
-        i += 1;
     }
 }
 
@@ -56,33 +52,25 @@ fn short_length(n: u32, m: u32) -> usize
     12 + n as usize + 4 * (m as usize)
 }
 
-pub fn shorten(file: &[u8], output: &mut [u8]) -> Converted
+pub fn shorten(file: &[u8], output: &mut [u8]) -> Result<u32, Refusal>
     ensures { answers.converted_to output.new result ≡ answers.shorten_of file.now output.old }
 {
-    match count_operands(file) {
-        Counted::Refused(r) => Converted::Refused(r),
-        Counted::Operands(m) => {
-            let size = short_length(cell_at(file, 0), m);
-            if output.len() < size {
-                return Converted::Refused(Refusal::ShortOutput);
-            }
-            write_short(file, m, output);
-            Converted::Bytes(size as u32)
-        }
+    let m = count_operands(file)?;
+    let size = short_length(cell_at(file, 0), m);
+    if output.len() < size {
+        return Err(Refusal::ShortOutput);
     }
+    write_short(file, m, output);
+    Ok(size as u32)
 }
 
 // A shortening into an output of some size.
-pub fn judge_shorten(file: &[u8], size: usize) -> Judged
+pub fn judge_shorten(file: &[u8], size: usize) -> Result<(), Refusal>
     ensures { result ≡ answers.judge_shorten file.now size }
 {
-    match count_operands(file) {
-        Counted::Refused(r) => Judged::Refused(r),
-        Counted::Operands(m) => {
-            if size < short_length(cell_at(file, 0), m) {
-                return Judged::Refused(Refusal::ShortOutput);
-            }
-            Judged::Passed
-        }
+    let m = count_operands(file)?;
+    if size < short_length(cell_at(file, 0), m) {
+        return Err(Refusal::ShortOutput);
     }
+    Ok(())
 }

@@ -1,5 +1,5 @@
 // The instructions that put items of the data stack into another order.
-#![tactic(auto)]
+#![tactic(auto, unfolding(instruction::specs::Plain::plain_of))]
 
 ghost use Rattle.std.specs.Prelude.{◌≡◌, length};
 ghost use Rattle.machine.specs.Places as places;
@@ -7,26 +7,19 @@ ghost use Rattle.machine.specs.Effects as effects;
 ghost use Rattle.instruction.specs.Plain as plain;
 
 use cell::number::{add, subtract};
-use cell::{Address, Fetched};
+use cell::{Address, Fault};
 use instruction::Instruction;
-use instruction::shape::{fail_three, fail_two};
 use machine::places::fetch_data;
 use machine::{Machine, Registers, Then, ThreeStores, TwoStores, Write};
 
 // 03h SWAP ( x1 x2 -- x2 x1 )
-pub fn swap(machine: Machine, memory: &[u8], r: Registers) -> TwoStores
+pub fn swap(machine: Machine, memory: &[u8], r: Registers) -> Result<TwoStores, Fault>
     requires { places.Fits machine (length memory.now) }
-    ensures { effects.two_stores result ≡ plain.plain_at machine Instruction.Swap memory.now r }
+    ensures { effects.asked effects.two_stores result ≡ plain.plain_at machine Instruction.Swap memory.now r }
 {
-    let got = fetch_data(machine, memory, Address(r.sp));
-    let Fetched::Cell(top) = got else {
-        return fail_two(got);
-    };
-    let got2 = fetch_data(machine, memory, Address(add(r.sp, 4)));
-    let Fetched::Cell(below) = got2 else {
-        return fail_two(got2);
-    };
-    TwoStores {
+    let top = fetch_data(machine, memory, Address(r.sp))?;
+    let below = fetch_data(machine, memory, Address(add(r.sp, 4)))?;
+    Ok(TwoStores {
         sp: r.sp,
         rp: r.rp,
         first: Write {
@@ -38,27 +31,18 @@ pub fn swap(machine: Machine, memory: &[u8], r: Registers) -> TwoStores
             value: below,
         },
         then: Then::GoOn,
-    }
+    })
 }
 
 // 05h ROT ( x1 x2 x3 -- x2 x3 x1 )
-pub fn rot(machine: Machine, memory: &[u8], r: Registers) -> ThreeStores
+pub fn rot(machine: Machine, memory: &[u8], r: Registers) -> Result<ThreeStores, Fault>
     requires { places.Fits machine (length memory.now) }
-    ensures { effects.three_stores result ≡ plain.plain_at machine Instruction.Rot memory.now r }
+    ensures { effects.asked effects.three_stores result ≡ plain.plain_at machine Instruction.Rot memory.now r }
 {
-    let got = fetch_data(machine, memory, Address(r.sp));
-    let Fetched::Cell(x3) = got else {
-        return fail_three(got);
-    };
-    let second = fetch_data(machine, memory, Address(add(r.sp, 4)));
-    let Fetched::Cell(x2) = second else {
-        return fail_three(second);
-    };
-    let third = fetch_data(machine, memory, Address(add(r.sp, 8)));
-    let Fetched::Cell(x1) = third else {
-        return fail_three(third);
-    };
-    ThreeStores {
+    let x3 = fetch_data(machine, memory, Address(r.sp))?;
+    let x2 = fetch_data(machine, memory, Address(add(r.sp, 4)))?;
+    let x1 = fetch_data(machine, memory, Address(add(r.sp, 8)))?;
+    Ok(ThreeStores {
         sp: r.sp,
         rp: r.rp,
         first: Write {
@@ -74,59 +58,44 @@ pub fn rot(machine: Machine, memory: &[u8], r: Registers) -> ThreeStores
             value: x1,
         },
         then: Then::GoOn,
-    }
+    })
 }
 
 // 06h -ROT ( x1 x2 x3 -- x3 x1 x2 )
-pub fn minus_rot(machine: Machine, memory: &[u8], r: Registers) -> ThreeStores
+pub fn minus_rot(machine: Machine, memory: &[u8], r: Registers) -> Result<ThreeStores, Fault>
     requires { places.Fits machine (length memory.now) }
-    ensures { effects.three_stores result ≡ plain.plain_at machine Instruction.MinusRot memory.now r }
+    ensures { effects.asked effects.three_stores result ≡ plain.plain_at machine Instruction.MinusRot memory.now r }
 {
-    let got = fetch_data(machine, memory, Address(r.sp));
-    let Fetched::Cell(x3) = got else {
-        return fail_three(got);
-    };
-    let got2 = fetch_data(machine, memory, Address(add(r.sp, 4)));
-    let Fetched::Cell(x2) = got2 else {
-        return fail_three(got2);
-    };
-    let got3 = fetch_data(machine, memory, Address(add(r.sp, 8)));
-    let Fetched::Cell(x1) = got3 else {
-        return fail_three(got3);
-    };
-    ThreeStores {
+    let top = fetch_data(machine, memory, Address(r.sp))?;
+    let middle = fetch_data(machine, memory, Address(add(r.sp, 4)))?;
+    let lowest = fetch_data(machine, memory, Address(add(r.sp, 8)))?;
+    Ok(ThreeStores {
         sp: r.sp,
         rp: r.rp,
         first: Write {
             at: Address(add(r.sp, 8)),
-            value: x3,
+            value: top,
         },
         second: Write {
             at: Address(add(r.sp, 4)),
-            value: x1,
+            value: lowest,
         },
         third: Write {
             at: Address(r.sp),
-            value: x2,
+            value: middle,
         },
         then: Then::GoOn,
-    }
+    })
 }
 
 // 07h TUCK ( x1 x2 -- x2 x1 x2 )
-pub fn tuck(machine: Machine, memory: &[u8], r: Registers) -> ThreeStores
+pub fn tuck(machine: Machine, memory: &[u8], r: Registers) -> Result<ThreeStores, Fault>
     requires { places.Fits machine (length memory.now) }
-    ensures { effects.three_stores result ≡ plain.plain_at machine Instruction.Tuck memory.now r }
+    ensures { effects.asked effects.three_stores result ≡ plain.plain_at machine Instruction.Tuck memory.now r }
 {
-    let got = fetch_data(machine, memory, Address(r.sp));
-    let Fetched::Cell(x2) = got else {
-        return fail_three(got);
-    };
-    let got2 = fetch_data(machine, memory, Address(add(r.sp, 4)));
-    let Fetched::Cell(x1) = got2 else {
-        return fail_three(got2);
-    };
-    ThreeStores {
+    let x2 = fetch_data(machine, memory, Address(r.sp))?;
+    let x1 = fetch_data(machine, memory, Address(add(r.sp, 4)))?;
+    Ok(ThreeStores {
         sp: subtract(r.sp, 4),
         rp: r.rp,
         first: Write {
@@ -142,5 +111,5 @@ pub fn tuck(machine: Machine, memory: &[u8], r: Registers) -> ThreeStores
             value: x2,
         },
         then: Then::GoOn,
-    }
+    })
 }

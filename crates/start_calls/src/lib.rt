@@ -1,12 +1,11 @@
 // The call from C that starts the processor. It judges first, and writes nothing that was lent where it refuses.
-#![tactic(auto)]
+#![tactic(auto, using(processor_calls::proofs::CallLaws::call_roomy), unfolding(processor_calls::specs::Machines::start_call))]
 
 ghost use Rattle.std.specs.Prelude.{◌≡◌};
 ghost use Rattle.processor_calls.specs.Machines as machines;
 
 use areas::Areas;
-use cell::judgement::refusal_number;
-use cell::{Address, Judged};
+use cell::Address;
 use machine::Table;
 use processor_calls::machines::{judge_call, tell_started};
 use processor_start::entry::start;
@@ -23,7 +22,7 @@ pub fn call_start(
 ) -> u32
     ensures { machines.called memory.new registers.new out.new result ≡ machines.start_call order areas table memory.old ep handler registers.old out.old }
 {
-    match judge_call(
+    let judged = judge_call(
         memory.len(),
         order,
         areas,
@@ -31,11 +30,12 @@ pub fn call_start(
         registers.len(),
         out.len(),
         1,
-    ) {
-        Judged::Refused(n) => refusal_number(n),
-        Judged::Passed => {
+    );
+    match judged {
+        Err(n) => u32::from(n),
+        Ok(()) => {
             let answer = start(order, memory, Address(ep), Address(handler), areas, table);
             tell_started(answer, registers, out)
-        },
+        }
     }
 }

@@ -1,50 +1,45 @@
 // The stack pointers.
+#![tactic(auto, unfolding(instruction::specs::Plain::plain_of))]
+
 ghost use Rattle.std.specs.Prelude.{◌≡◌, length};
 ghost use Rattle.machine.specs.Places as places;
 ghost use Rattle.machine.specs.Effects as effects;
 ghost use Rattle.instruction.specs.Plain as plain;
 
 use cell::number::add;
-use cell::{Address, Fault, Fetched};
+use cell::{Address, Fault};
 use instruction::Instruction;
-use instruction::shape::fail_none;
 use machine::places::fetch_data;
 use machine::{Machine, NoStore, Registers, Then};
 
 // 3Fh SP! ( a-addr -- )
-pub fn sp_store(machine: Machine, memory: &[u8], r: Registers) -> NoStore
+pub fn sp_store(machine: Machine, memory: &[u8], r: Registers) -> Result<NoStore, Fault>
     requires { places.Fits machine (length memory.now) }
-    ensures { effects.no_store result ≡ plain.plain_at machine Instruction.SpStore memory.now r }
+    ensures { effects.asked effects.no_store result ≡ plain.plain_at machine Instruction.SpStore memory.now r }
 {
-    let got = fetch_data(machine, memory, Address(r.sp));
-    let Fetched::Cell(x) = got else {
-        return fail_none(got);
-    };
+    let x = fetch_data(machine, memory, Address(r.sp))?;
     if x % 4 == 0 {
-        return NoStore {
+        return Ok(NoStore {
             sp: x,
             rp: r.rp,
             then: Then::GoOn,
-        };
+        });
     }
-    fail_none(Fetched::Failed(Fault::Alignment(Address(x))))
+    Err(Fault::Alignment(Address(x)))
 }
 
 // 41h RP! ( a-addr -- )
-pub fn rp_store(machine: Machine, memory: &[u8], r: Registers) -> NoStore
+pub fn rp_store(machine: Machine, memory: &[u8], r: Registers) -> Result<NoStore, Fault>
     requires { places.Fits machine (length memory.now) }
-    ensures { effects.no_store result ≡ plain.plain_at machine Instruction.RpStore memory.now r }
+    ensures { effects.asked effects.no_store result ≡ plain.plain_at machine Instruction.RpStore memory.now r }
 {
-    let got = fetch_data(machine, memory, Address(r.sp));
-    let Fetched::Cell(x) = got else {
-        return fail_none(got);
-    };
+    let x = fetch_data(machine, memory, Address(r.sp))?;
     if x % 4 == 0 {
-        return NoStore {
+        return Ok(NoStore {
             sp: add(r.sp, 4),
             rp: x,
             then: Then::GoOn,
-        };
+        });
     }
-    fail_none(Fetched::Failed(Fault::Alignment(Address(x))))
+    Err(Fault::Alignment(Address(x)))
 }

@@ -1,4 +1,6 @@
 -- What `start`, `cycle` and `run` answer keeps the table.
+use Rattle.std.specs.Prelude.{Ok, Err}
+use Rattle.cell.specs.Refusals.{Judged}
 use mathlib.Core.Path.{◌≡◌, refl}
 use mathlib.Core.List.{List}
 use mathlib.Core.Logic.{inl}
@@ -6,8 +8,6 @@ use Prim.Native.Nat.{ℕ, ◌+◌, ◌≤◌}
 use native.Mathlib.Omega.{arith}
 use lib.ListN.{length}
 use Rattle.cell.specs.Memory.{Alike, store_cell}
-use Rattle.cell.specs.declared.Judged.{Judged}
-use Rattle.cell.specs.declared.Judged.TheVariants as judged
 use Rattle.cell.proofs.MemoryLaws.{cell_frame, alike_trans}
 use Rattle.exceptions.specs.Fixed.{handler_cell, memory_cell, bad_cell, address_cell}
 use Rattle.machine.specs.declared.Machine.{Machine}
@@ -46,8 +46,8 @@ unfolding start_answer
 start_keeps order areas table m ep handler = go (judge_bounded (length m) order areas table) refl
   where
     go : (j : Judged) → judge_bounded (length m) order areas table ≡ j → Keeps table m (start_if j order areas table m ep handler).memory
-    go (judged.Refused n) e = λ a lo hi. refl
-    go judged.Passed e =
+    go (Err n) e = λ a lo hi. refl
+    go (Ok _) e =
         let machine = machine_of order areas table (length m) in
         keeps (length m) order areas table m _ e
         (λ k. start_misses machine k m ep handler (first_sp (length m) areas) (first_rp (length m) areas))
@@ -57,8 +57,8 @@ unfolding cycle_answer
 cycle_keeps order table m r = go (judge_bounded (length m) order r.areas table) refl
   where
     go : (j : Judged) → judge_bounded (length m) order r.areas table ≡ j → Keeps table m (cycle_if j order table m r).memory
-    go (judged.Refused n) e = λ a lo hi. refl
-    go judged.Passed e =
+    go (Err n) e = λ a lo hi. refl
+    go (Ok _) e =
         let machine = machine_of order r.areas table (length m) in
         keeps (length m) order r.areas table m (cycle_of machine m r.registers).memory e
         (λ k.
@@ -69,7 +69,7 @@ unfolding run_answer
 run_keeps g = go (judge_run g) refl
   where
     go : (j : Judged) → judge_run g ≡ j → Keeps g.setting.table g.memory (run_if j g).memory
-    go (judged.Refused n) e = λ a lo hi. refl
-    go judged.Passed e =
+    go (Err n) e = λ a lo hi. refl
+    go (Ok _) e =
         let s = begun g.memory g.registers.registers in
         cycles_keep g.setting.order g.registers.areas g.setting.table (done_of (machine_in g) g.budget s) s e

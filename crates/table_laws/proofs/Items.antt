@@ -1,4 +1,7 @@
 -- Items of the list machine keep the table, and so do its calls.
+use Rattle.std.specs.Prelude.{Ok, Err, Some, None}
+use Rattle.cell.specs.Refusals.{Judged, passed}
+use Rattle.cell.specs.Place.{Checked}
 use mathlib.Core.Path.{◌≡◌, refl}
 use mathlib.Core.Bool.{Bool, true, false, not}
 use mathlib.Core.List.{List}
@@ -9,11 +12,6 @@ use lib.ListN.{length}
 use Rattle.cell.specs.Choice.{if}
 use Rattle.cell.specs.Memory.{Alike}
 use Rattle.cell.specs.Number.{difference}
-use Rattle.cell.specs.declared.Checked.{Checked}
-use Rattle.cell.specs.declared.Checked.TheVariants.{Good, Bad}
-use Rattle.cell.specs.declared.Judged.{Judged}
-use Rattle.cell.specs.declared.Judged.TheVariants as judged
-use Rattle.cell.specs.declared.Fetched.TheVariants.{Cell}
 use Rattle.cell.proofs.JudgementLaws.{both_pass}
 use Rattle.cell.proofs.MemoryLaws.{alike_refl, alike_trans}
 use Rattle.machine.specs.Places.{one_cell, place_of}
@@ -30,9 +28,7 @@ use Rattle.bounds.specs.Bounds.{judge_bounded, machine_of}
 use Rattle.instruction.specs.Dispatch.{decode_of, OperandClass, next, plain, taking, operand_class}
 use Rattle.pack_layout.specs.Listing.{Listing, listed, judged_arrays}
 use Rattle.pack_layout.specs.Layout.{form_at}
-use Rattle.pack_layout.specs.Packing.{layout, image_cells, ep_value, behind, entry_at}
-use Rattle.pack_layout.specs.declared.Entry.{Entry}
-use Rattle.pack_layout.specs.declared.Entry.TheVariants.{Item, Nothing}
+use Rattle.pack_layout.specs.Packing.{layout, image_cells, ep_value, behind, entry_at, Entry}
 use Rattle.list_machine.specs.declared.Outside.{Outside}
 use Rattle.list_machine.specs.declared.Outside.TheVariants.{WritesImage, NoEntry, NoHandler, PastEnd}
 use Rattle.list_machine.specs.ListMachine.{Position, Carried, on, stopped, outside, is_immediate, push_of, thrown_to, acted_to, moved_to, entered_at, operand_at, effect_as, effect_at, writes_image, registers_at, handler_at, handled_by, handled, thrown, followed, acted, carried_by, carry_out}
@@ -58,8 +54,8 @@ module _ (lo hi : ℕ) (m : List ℕ) where
   if_leaves false why c h = h
 
   entered_leaves : (why : Outside) (e : Entry) (q : Position) → Alike lo hi m q.memory → Leaves lo hi m (entered_at why e q)
-  entered_leaves why (Item i) q h = h
-  entered_leaves why Nothing q h = tt
+  entered_leaves why (Some i) q h = h
+  entered_leaves why None q h = tt
 
   ran_leaves : (b : Bool) (i : ℕ) (ran : Bool) (q : Position) → Alike lo hi m q.memory → Leaves lo hi m (if b (on (moved_to i ran q)) (outside PastEnd))
   ran_leaves true i ran q h = h
@@ -100,8 +96,8 @@ module _ (machine : Machine) (k : Starts machine.table) (base : ℕ) (l : Listin
 
   acted_leaves : (p : Position) (x : Action) (c : Checked) → places_of machine (length p.memory) x.stores ≡ c
       → Spare machine lo hi (length p.memory) x.stores → Leaves lo hi p.memory (acted machine base l p x c)
-  acted_leaves p x (Bad f) e h = thrown_leaves p (exception_of machine f)
-  acted_leaves p x Good e h =
+  acted_leaves p x (Err f) e h = thrown_leaves p (exception_of machine f)
+  acted_leaves p x (Ok _) e h =
       if_leaves lo hi p.memory (writes_image machine base l x.stores) WritesImage (followed machine base l x.control (acted_to machine p x))
       (followed_leaves p.memory x.control (acted_to machine p x)
       (actions_leave machine lo hi k.above (push_misses machine k) p.memory x e h))
@@ -115,7 +111,7 @@ module _ (machine : Machine) (k : Starts machine.table) (base : ℕ) (l : Listin
   item_writes next p = raises
   item_writes plain p = plain_writes machine p.memory (ep_value base l p.item) p.sp p.rp (decode_of (l.kind p.item))
   item_writes (taking form t) p =
-      taking_writes machine p.memory 0 p.sp p.rp (Cell (operand_at machine base l p.item t)) (behind base l p.item) t
+      taking_writes machine p.memory 0 p.sp p.rp (Ok (operand_at machine base l p.item t)) (behind base l p.item) t
 
   carry_leaves : (p : Position) → Leaves lo hi p.memory (carry_out machine base l p)
   unfolding carry_out
@@ -153,15 +149,15 @@ list_keeps room order areas table kinds operands base m start items = go (judge_
   where
     go : (j : Judged) → judge_follow (length m) order areas table kinds operands base room ≡ j
         → Keeps table m (follow_if j (machine_of order areas table (length m)) base (listed kinds operands) m start items).memory
-    go (judged.Refused n) e = λ a lo hi. refl
-    go judged.Passed e =
+    go (Err n) e = λ a lo hi. refl
+    go (Ok _) e =
         let begin = judge_begin (length m) order areas table kinds operands in
-        let b : begin ≡ judged.Passed = (both_pass begin (judge_image base (image_cells (listed kinds operands)) room) e).0 in
+        let b : begin ≡ passed = (both_pass begin (judge_image base (image_cells (listed kinds operands)) room) e).0 in
         let p = (both_pass (judge_bounded (length m) order areas table) (judged_arrays kinds operands) b).0 in
         items_keep order areas table base (listed kinds operands) items (resuming (listed kinds operands) (position_of m start)) p
 
 pub resume_keeps : ResumeKeeps
-resume_keeps order areas table kinds operands base m start items = list_keeps judged.Passed order areas table kinds operands base m start items
+resume_keeps order areas table kinds operands base m start items = list_keeps passed order areas table kinds operands base m start items
 
 pub follow_keeps : FollowKeeps
 follow_keeps order areas table kinds operands base m sp rp items =

@@ -1,4 +1,6 @@
 -- Every store that an instruction asks for is a write.
+use Rattle.std.specs.Prelude.{Ok, Err}
+use Rattle.cell.specs.Place.{Fetched}
 use mathlib.Core.Path.{◌≡◌, refl}
 use mathlib.Core.Bool.{Bool, true, false}
 use mathlib.Core.List.{List, [], ◌∷◌}
@@ -8,8 +10,6 @@ use lib.Dec.{eqb}
 use Rattle.cell.specs.Choice.{if}
 use Rattle.cell.specs.Number.{sum, byte_address}
 use Rattle.cell.specs.declared.Fault.{Fault}
-use Rattle.cell.specs.declared.Fetched.{Fetched}
-use Rattle.cell.specs.declared.Fetched.TheVariants.{Cell, Failed}
 use Rattle.machine.specs.Places.{fetch_of, fetch_byte_of}
 use Rattle.machine.specs.Effects.{Store, Control, Action, Effect, act, raise, fetched, roll_stores, rolled}
 use Rattle.machine.specs.declared.Machine.{Machine}
@@ -35,16 +35,16 @@ acting : {sp rp : ℕ} {ss : List Store} {c : Control} → AllWrite ss → Writi
 acting h = writes h
 
 fetching : (g : Fetched) {k : ℕ → Effect} → ((x : ℕ) → Writing (k x)) → Writing (fetched g k)
-fetching (Cell x) f = f x
-fetching (Failed e) f = raises
+fetching (Ok x) f = f x
+fetching (Err e) f = raises
 
 either : (t : Bool) {e f : Effect} → Writing e → Writing f → Writing (if t e f)
 either true p q = p
 either false p q = q
 
 halting : (sp rp : ℕ) (g : Fetched) → Writing (halted sp rp g)
-halting sp rp (Cell x) = acting tt
-halting sp rp (Failed f) = acting tt
+halting sp rp (Ok x) = acting tt
+halting sp rp (Err f) = acting tt
 
 rolls : (order : ℕ) (m : List ℕ) (top last u : ℕ) → AllWrite (roll_stores order m top last u)
 unfolding roll_stores

@@ -1,4 +1,6 @@
 -- A good write does not meet the table, nor does a throw's push: so cycles leave its bytes.
+use Rattle.cell.specs.Refusals.{passed}
+use Rattle.cell.specs.Place.{good}
 use mathlib.Core.Path.{◌≡◌, refl, sym, ◌∙◌}
 use mathlib.Core.Bool.{Bool, true, false, not, ◌&&◌, true≢false}
 use mathlib.Core.List.{List, [], ◌∷◌}
@@ -10,8 +12,6 @@ use lib.Dec.{ltb, eqb}
 use lib.ListN.{length}
 use borrow.Author.Tests.{ltb-true, ltb-false, eqb-true, le-leb}
 use Rattle.cell.specs.Memory.{Alike}
-use Rattle.cell.specs.declared.Checked.TheVariants.{Good}
-use Rattle.cell.specs.declared.Judged.TheVariants.{Passed}
 use Rattle.cell.proofs.BooleanLaws.{both_true}
 use Rattle.machine.specs.Places.{Width, one_byte, one_cell, guarded_of, in_table, table_allows, aligned_as, place_of}
 use Rattle.machine.specs.Effects.{Store, Effect, act, raise}
@@ -82,7 +82,7 @@ module _ (machine : Machine) (k : Starts machine.table) where
           rw (le-leb first a (begins w a e (ltb-true first (a + width_of w) q)), p) in
           absurd (true≢false (sym inside ∙ n))
 
-  place_misses : (w : Width) (access : Access) (long a : ℕ) → is_write access ≡ true → place_of machine w access long a ≡ Good
+  place_misses : (w : Width) (access : Access) (long a : ℕ) → is_write access ≡ true → place_of machine w access long a ≡ good
       → (ltb a end && ltb first (a + width_of w)) ≡ false
   place_misses w access long a h e =
       let p = good_placed machine w access long a e in miss w a p.aligned (spared machine access a h p.spares)
@@ -92,7 +92,7 @@ module _ (machine : Machine) (k : Starts machine.table) where
   stores_miss long [] h p = refl
   stores_miss long (s ∷ ss) h p =
       let c = place_of machine s.width s.access long s.at in
-      let q : c ≡ Good = both_good c (places_of machine long ss) p in
+      let q : c ≡ good = both_good c (places_of machine long ss) p in
       rw (place_misses s.width s.access long s.at h.0 q) (stores_miss long ss h.1 (rw q at p))
 
   pub effect_misses : (long : ℕ) (e : Effect) → Writing e → Spare machine first end long (stores_of e)
@@ -128,7 +128,7 @@ apart_of first end a n e = go (ltb a (first + (end - first))) (ltb first (a + n)
     go true true p q e = absurd (true≢false e)
 
 -- a table that was taken: where one is given, it starts so; else it has no byte
-taken : (len order : ℕ) (areas : Areas) (table : Table) → judge_bounded len order areas table ≡ Passed → (Starts (guarded_of table)) ⊎ (table.end.0 ≡ 0)
+taken : (len order : ℕ) (areas : Areas) (table : Table) → judge_bounded len order areas table ≡ passed → (Starts (guarded_of table)) ⊎ (table.end.0 ≡ 0)
 taken len order areas table e = go (none_given table) refl
   where
     go : (b : Bool) → none_given table ≡ b → (Starts (guarded_of table)) ⊎ (table.end.0 ≡ 0)
@@ -146,7 +146,7 @@ places_spare len order areas table e width access a w p =
     (taken len order areas table e)
 
 -- what leaves the bytes of a table that starts so keeps every table that was taken
-pub keeps : (len order : ℕ) (areas : Areas) (table : Table) (m m2 : List ℕ) → judge_bounded len order areas table ≡ Passed
+pub keeps : (len order : ℕ) (areas : Areas) (table : Table) (m m2 : List ℕ) → judge_bounded len order areas table ≡ passed
     → (Starts (guarded_of table) → Alike table.first.0 (table.first.0 + (table.end.0 - table.first.0)) m m2)
     → Keeps table m m2
 unfolding Alike

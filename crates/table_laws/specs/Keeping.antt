@@ -1,9 +1,8 @@
 -- Rules cannot write the table. Document 02, (b): whatever an instruction does, thrown or not, every byte of the table is what it was; so after any number of cycles or
 -- items, and after each call, refused or not.
+use Rattle.cell.specs.Refusals.{Judged, passed}
+use Rattle.cell.specs.Place.{good}
 use Rattle.std.specs.Prelude.{◌≡◌, Bool, true, false, List, ◌⊎◌, ℕ, ◌+◌, ◌≤◌, ◌<◌, length, get_or}
-use Rattle.cell.specs.declared.Checked.TheVariants.{Good}
-use Rattle.cell.specs.declared.Judged.{Judged}
-use Rattle.cell.specs.declared.Judged.TheVariants.{Passed}
 use Rattle.machine.specs.Places.{Width, place_of}
 use Rattle.machine.specs.Commits.{width_of}
 use Rattle.throws.specs.Throws.{CycleState}
@@ -35,10 +34,10 @@ is_write Push = true
 -- a place that is found good for a write lies before the table or behind it
 abbrev pub PlacesSpare : Type 0
 PlacesSpare =
-    (len order : ℕ) (areas : Areas) (table : Table) → judge_bounded len order areas table ≡ Passed
+    (len order : ℕ) (areas : Areas) (table : Table) → judge_bounded len order areas table ≡ passed
     → (width : Width) (access : Access) (a : ℕ)
     → is_write access ≡ true
-    → place_of (machine_of order areas table len) width access len a ≡ Good
+    → place_of (machine_of order areas table len) width access len a ≡ good
     → (a + width_of width ≤ table.first.0) ⊎ (table.end.0 ≤ a)
 
 -- every byte of the table is in m2 as it was in m
@@ -49,7 +48,7 @@ Keeps table m m2 = (a : ℕ) → table.first.0 ≤ a → a < table.end.0 → get
 abbrev pub CyclesKeep : Type 0
 CyclesKeep =
     (order : ℕ) (areas : Areas) (table : Table) (n : ℕ) (s : CycleState)
-    → judge_bounded (length s.memory) order areas table ≡ Passed
+    → judge_bounded (length s.memory) order areas table ≡ passed
     → Keeps table s.memory (cycles_of (machine_of order areas table (length s.memory)) n s).memory
 
 -- what each call of the processor leaves
@@ -67,7 +66,7 @@ RunKeeps = (g : Given RegisterFile) → Keeps g.setting.table g.memory (run_answ
 abbrev pub ItemsKeep : Type 0
 ItemsKeep =
     (order : ℕ) (areas : Areas) (table : Table) (base : ℕ) (l : Listing) (n : ℕ) (s : Run)
-    → judge_bounded (length s.position.memory) order areas table ≡ Passed
+    → judge_bounded (length s.position.memory) order areas table ≡ passed
     → Keeps table s.position.memory (run_of (machine_of order areas table (length s.position.memory)) base l n s).position.memory
 
 -- what each call of the list machine leaves, and with room to be judged too

@@ -1,13 +1,10 @@
 -- NEXT, the throw and the stops. Document 01, The processor, on throws: the address goes to -ADDRESS where the fault has one, the code to the data
 -- stack, EP to 'BAD; then the machine goes on at the address in 'THROW, by a NEXT there. Where one of these cannot be done, it stops.
-use Rattle.std.specs.Prelude.{List, ℕ, ◌%◌, eqb, length}
+use Rattle.cell.specs.Place.{Checked, Fetched}
+use Rattle.std.specs.Prelude.{List, ℕ, ◌%◌, eqb, length, Ok, Err}
 use Rattle.cell.specs.Choice.{if}
 use Rattle.cell.specs.Memory.{store_cell, cell_at}
 use Rattle.cell.specs.Number.{sum, difference}
-use Rattle.cell.specs.declared.Checked.{Checked}
-use Rattle.cell.specs.declared.Checked.TheVariants.{Good, Bad}
-use Rattle.cell.specs.declared.Fetched.{Fetched}
-use Rattle.cell.specs.declared.Fetched.TheVariants.{Cell, Failed}
 use Rattle.machine.specs.Places.{one_cell, place_of, fetch_of}
 use Rattle.machine.specs.Commits.{Stepped}
 use Rattle.exceptions.specs.Exceptions.{exception_of, exception_code}
@@ -34,6 +31,9 @@ cycle_state m r e = record { memory = m; result = record { registers = r; ended 
 abbrev pub with_result : List ℕ → CycleResult → CycleState
 with_result m t = record { memory = m; result = t }
 
+abbrev pub stopped : Registers → ℕ → CycleResult
+stopped r reason = record { registers = r; ended = Stopped reason }
+
 -- A is the cell at h, EP the address after it
 abbrev pub entered : ℕ → ℕ → Registers → Registers
 entered h x r = record { ep = sum h 4; a = x; sp = r.sp; rp = r.rp }
@@ -41,8 +41,8 @@ entered h x r = record { ep = sum h 4; a = x; sp = r.sp; rp = r.rp }
 -- 'BAD has taken EP; EP takes 'THROW and NEXT follows. A 'THROW at which no cell can be read stops the machine with -259, in the
 -- registers that it had
 abbrev pub handed : List ℕ → Registers → Ended → ℕ → Fetched → CycleState
-handed m r e h (Cell x) = cycle_state m (entered h x r) e
-handed m r e h (Failed f) = cycle_state m r (Stopped bad_handler)
+handed m r e h (Ok x) = cycle_state m (entered h x r) e
+handed m r e h (Err f) = cycle_state m r (Stopped bad_handler)
 
 abbrev pub to_handler : Machine → List ℕ → Registers → Ended → ℕ → CycleState
 to_handler machine m r e h = handed m r e h (fetch_of machine Stream m h)
@@ -68,8 +68,8 @@ noted machine m Library = m
 
 -- the code at a place that was judged, then the rest of the throw. Where the place is bad, -ADDRESS stays too, and -258 stops the machine
 abbrev pub pushed : Machine → List ℕ → Registers → Exception → ℕ → Checked → CycleState
-pushed machine m r e sp (Bad f) = cycle_state m r (Stopped bad_stack)
-pushed machine m r e sp Good =
+pushed machine m r e sp (Err f) = cycle_state m r (Stopped bad_stack)
+pushed machine m r e sp (Ok _) =
     handler_of machine (store_cell machine.order (noted machine m e) sp (exception_code e))
     (record { ep = r.ep; a = r.a; sp = sp; rp = r.rp })
     (Threw e)
@@ -84,8 +84,8 @@ throwing_of machine m r = if (eqb (r.sp % 4) 0) (handler_of machine m r Went) (c
 
 -- NEXT moves the cell at EP into A, and EP behind it
 abbrev pub nexted : Machine → List ℕ → Registers → Fetched → CycleState
-nexted machine m r (Cell x) = cycle_state m (entered r.ep x r) Went
-nexted machine m r (Failed f) = throw_of machine m r (exception_of machine f)
+nexted machine m r (Ok x) = cycle_state m (entered r.ep x r) Went
+nexted machine m r (Err f) = throw_of machine m r (exception_of machine f)
 
 unfoldable pub next_of : Machine → List ℕ → Registers → CycleState
 next_of machine m r = nexted machine m r (fetch_of machine Stream m r.ep)

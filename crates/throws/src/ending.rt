@@ -1,14 +1,15 @@
 // NEXT, the throw, the stops.
+#![tactic(auto, using(machine::proofs::CommitLaws::room_place), unfolding(crate::specs::Throws::handler_of, crate::specs::Throws::throw_of, crate::specs::Throws::throwing_of, crate::specs::Throws::next_of, crate::specs::Throws::finish_of))]
+
 ghost use Rattle.std.specs.Prelude.{◌≡◌, ◌≤◌, length};
 ghost use Rattle.machine.specs.Places as places;
 ghost use Rattle.machine.specs.Commits as commits;
 ghost use Rattle.exceptions.specs.Exceptions as exceptions;
 ghost use Rattle.throws.specs.Throws as throws;
 
+use cell::Address;
 use cell::memory::{load, store};
 use cell::number::{add, subtract};
-use cell::place::fault_in;
-use cell::{Address, Checked, Fetched};
 use exceptions::fixed::{ADDRESS_CELL, BAD_CELL, BAD_HANDLER, BAD_STACK, HANDLER_CELL};
 use exceptions::{code_of, tell};
 use machine::places::{check_push, fetch};
@@ -26,6 +27,16 @@ fn enter(h: Address, x: u32, r: Registers) -> Registers
     }
 }
 
+// The machine stops with a reason, in the registers that it has.
+fn stop(r: Registers, reason: u32) -> CycleResult
+    ensures { result ≡ throws.stopped r reason }
+{
+    CycleResult {
+        registers: r,
+        ended: Ended::Stopped(reason),
+    }
+}
+
 // EP takes 'THROW and NEXT follows, or the machine stops with -259.
 fn to_handler(
     machine: Machine,
@@ -37,30 +48,12 @@ fn to_handler(
     requires { places.Fits machine (length memory.now) }
     ensures { throws.with_result memory.now result ≡ throws.to_handler machine memory.now r ended h.0 }
 {
-    let got = fetch(machine, memory, h);
-    let Fetched::Cell(x) = got else {
-        return CycleResult {
-            registers: Registers {
-                ep: r.ep,
-                a: r.a,
-                sp: r.sp,
-                rp: r.rp,
-            },
-            ended: Ended::Stopped(BAD_HANDLER),
-        };
-    };
-    CycleResult {
-        registers: enter(
-            h,
-            x,
-            Registers {
-                ep: r.ep,
-                a: r.a,
-                sp: r.sp,
-                rp: r.rp,
-            },
-        ),
-        ended: ended,
+    match fetch(machine, memory, h) {
+        Ok(x) => CycleResult {
+            registers: enter(h, x, r),
+            ended,
+        },
+        Err(_) => stop(r, BAD_HANDLER),
     }
 }
 
@@ -72,18 +65,7 @@ pub fn handle(machine: Machine, memory: &mut [u8], r: Registers, ended: Ended) -
 {
     store(machine.order, memory, BAD_CELL, r.ep);
     let h = load(machine.order, memory, HANDLER_CELL);
-    to_handler(
-        machine,
-        memory,
-        Registers {
-            ep: r.ep,
-            a: r.a,
-            sp: r.sp,
-            rp: r.rp,
-        },
-        ended,
-        Address(h),
-    )
+    to_handler(machine, memory, r, ended, Address(h))
 }
 
 // -ADDRESS is set by -9 and -23 alone.
@@ -92,16 +74,10 @@ fn note(machine: Machine, memory: &mut [u8], e: Exception)
     ensures { memory.new ≡ throws.noted machine memory.old e }
 {
     match e {
-        Exception::Range(a) => store(machine.order, memory, ADDRESS_CELL, a.0),
-        Exception::Alignment(a) => store(machine.order, memory, ADDRESS_CELL, a.0),
-        Exception::DataOverflow => (),
-        Exception::DataUnderflow => (),
-        Exception::ReturnOverflow => (),
-        Exception::ReturnUnderflow => (),
-        Exception::ReadOnly => (),
-        Exception::Divisor => (),
-        Exception::Illegal => (),
-        Exception::Library => (),
+        Exception::Range(a) | Exception::Alignment(a) => {
+            store(machine.order, memory, ADDRESS_CELL, a.0)
+        }
+        _ => {}
     }
 }
 
@@ -119,31 +95,12 @@ pub fn throw(
     ensures { throws.with_result memory.new result ≡ throws.throw_of machine memory.old r e }
 {
     let sp = subtract(r.sp, 4);
-    let place = check_push(machine, memory.len(), Address(sp));
-    let Checked::Good = place else {
-        return CycleResult {
-            registers: Registers {
-                ep: r.ep,
-                a: r.a,
-                sp: r.sp,
-                rp: r.rp,
-            },
-            ended: Ended::Stopped(BAD_STACK),
-        };
+    let Ok(()) = check_push(machine, memory.len(), Address(sp)) else {
+        return stop(r, BAD_STACK);
     };
     note(machine, memory, e);
     store(machine.order, memory, Address(sp), code);
-    handle(
-        machine,
-        memory,
-        Registers {
-            ep: r.ep,
-            a: r.a,
-            sp: sp,
-            rp: r.rp,
-        },
-        Ended::Threw(e),
-    )
+    handle(machine, memory, Registers { sp, ..r }, Ended::Threw(e))
 }
 
 // THROW, 54h.
@@ -153,27 +110,9 @@ fn throw_given(machine: Machine, memory: &mut [u8], r: Registers) -> CycleResult
     ensures { throws.with_result memory.new result ≡ throws.throwing_of machine memory.old r }
 {
     if r.sp % 4 == 0 {
-        return handle(
-            machine,
-            memory,
-            Registers {
-                ep: r.ep,
-                a: r.a,
-                sp: r.sp,
-                rp: r.rp,
-            },
-            Ended::Went,
-        );
+        return handle(machine, memory, r, Ended::Went);
     }
-    CycleResult {
-        registers: Registers {
-            ep: r.ep,
-            a: r.a,
-            sp: r.sp,
-            rp: r.rp,
-        },
-        ended: Ended::Stopped(BAD_STACK),
-    }
+    stop(r, BAD_STACK)
 }
 
 pub fn next(machine: Machine, memory: &mut [u8], r: Registers) -> CycleResult
@@ -181,34 +120,15 @@ pub fn next(machine: Machine, memory: &mut [u8], r: Registers) -> CycleResult
     requires in_bounds { 16 ≤ length memory.old }
     ensures { throws.with_result memory.new result ≡ throws.next_of machine memory.old r }
 {
-    let got = fetch(machine, memory, Address(r.ep));
-    let Fetched::Cell(x) = got else {
-        let e = tell(machine, fault_in(got));
-        return throw(
-            machine,
-            memory,
-            Registers {
-                ep: r.ep,
-                a: r.a,
-                sp: r.sp,
-                rp: r.rp,
-            },
-            e,
-            code_of(e),
-        );
-    };
-    CycleResult {
-        registers: enter(
-            Address(r.ep),
-            x,
-            Registers {
-                ep: r.ep,
-                a: r.a,
-                sp: r.sp,
-                rp: r.rp,
-            },
-        ),
-        ended: Ended::Went,
+    match fetch(machine, memory, Address(r.ep)) {
+        Ok(x) => CycleResult {
+            registers: enter(Address(r.ep), x, r),
+            ended: Ended::Went,
+        },
+        Err(f) => {
+            let e = tell(machine, f);
+            throw(machine, memory, r, e, code_of(e))
+        }
     }
 }
 
@@ -218,63 +138,20 @@ pub fn finish(machine: Machine, memory: &mut [u8], s: Step) -> CycleResult
     requires in_bounds { 16 ≤ length memory.old }
     ensures { throws.with_result memory.new result ≡ throws.finish_of machine (commits.stepped memory.old s) }
 {
-    let outcome = s.outcome;
     let r = s.registers;
-    match outcome {
+    match s.outcome {
         // never reached: the loop of a run takes these registers itself
         Outcome::Went => CycleResult {
-            registers: Registers {
-                ep: r.ep,
-                a: r.a,
-                sp: r.sp,
-                rp: r.rp,
-            },
+            registers: r,
             ended: Ended::Went,
         },
         // never reached: a run's cycle has made NEXT's fetch before
-        Outcome::Next => next(
-            machine,
-            memory,
-            Registers {
-                ep: r.ep,
-                a: r.a,
-                sp: r.sp,
-                rp: r.rp,
-            },
-        ),
+        Outcome::Next => next(machine, memory, r),
         Outcome::Raise(f) => {
             let e = tell(machine, f);
-            throw(
-                machine,
-                memory,
-                Registers {
-                    ep: r.ep,
-                    a: r.a,
-                    sp: r.sp,
-                    rp: r.rp,
-                },
-                e,
-                code_of(e),
-            )
+            throw(machine, memory, r, e, code_of(e))
         }
-        Outcome::Halt(x) => CycleResult {
-            registers: Registers {
-                ep: r.ep,
-                a: r.a,
-                sp: r.sp,
-                rp: r.rp,
-            },
-            ended: Ended::Stopped(x),
-        },
-        Outcome::Throw => throw_given(
-            machine,
-            memory,
-            Registers {
-                ep: r.ep,
-                a: r.a,
-                sp: r.sp,
-                rp: r.rp,
-            },
-        ),
+        Outcome::Halt(x) => stop(r, x),
+        Outcome::Throw => throw_given(machine, memory, r),
     }
 }

@@ -1,11 +1,11 @@
 -- Bytes among numbers, and cells among bytes.
 -- Assumes nothing.
-use mathlib.Core.Path.{◌≡◌, refl, sym, ap, ◌∙◌}
+use mathlib.Core.Path.{◌≡◌, refl, ap, ◌∙◌}
 use mathlib.Core.Bool.{Bool, true, false, ◌||◌}
 use mathlib.Core.Logic.{inl, inr}
 use mathlib.Core.List.{List, [], ◌∷◌}
-use Prim.Native.Nat.{ℕ, ◌+◌, ◌*◌, ◌/◌, ◌%◌, ◌^◌, ◌≤◌, ◌<◌}
-use native.Mathlib.Nat.{zero-add, add-mod-mod, mod-add-mod}
+use Prim.Native.Nat.{ℕ, ◌+◌, ◌*◌, ◌/◌, ◌≤◌, ◌<◌}
+use native.Mathlib.Nat.{zero-add}
 use native.Mathlib.Omega.{arith}
 use borrow.Author.Tests.{eq-eqb}
 use lib.Dec.{eqb}
@@ -37,9 +37,3 @@ cell_inside order s j h =
 
 pub cell_behind : (order : ℕ) (s : List ℕ) (j : ℕ) → length s < 4 * j + 4 → get_or (cells_of order s) j 0 ≡ 0
 cell_behind order s j h = get_or-eq_default (cells_of order s) 0 (omega (arith, cells_size order s))
-
--- an address so many cells on, modulo 2^32
-pub cells_on : (base next v m e n : ℕ) → m ≡ 4 * next % 2 ^ 32 → e ≡ (base + m) % 2 ^ 32 → n ≡ 4 * v % 2 ^ 32
-    → (e + n) % 2 ^ 32 ≡ (base + 4 * next + 4 * v) % 2 ^ 32
-cells_on base next v m e n p q r =
-    rw (r, q, p, add-mod-mod base (4 * next) (2 ^ 32), add-mod-mod ((base + 4 * next) % 2 ^ 32) (4 * v) (2 ^ 32)) (mod-add-mod (base + 4 * next) (2 ^ 32) (4 * v))

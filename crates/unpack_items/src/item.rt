@@ -1,4 +1,6 @@
 // One item of an image.
+#![tactic(auto, using(crate::proofs::Cells::cell_behind, crate::proofs::Cells::cell_inside), unfolding(cell::specs::Number::sum, cell::specs::Number::product))]
+
 ghost use Rattle.std.specs.Prelude.{◌≡◌, ◌+◌, ◌≤◌, ◌<◌, get_or};
 ghost use Rattle.cell.specs.Memory.{cell_count};
 ghost use Rattle.cell.specs.Place.{address};

@@ -9,10 +9,7 @@ use pack_layout::{Class, ItemForm};
 fn is_immediate(b: u8) -> bool
     ensures { result ≡ among b immediates }
 {
-    match b {
-        0x43 | 0x45 | 0x49 | 0x4D | 0x4F | 0x53 => true,
-        _ => false,
-    }
+    matches!(b, 0x43 | 0x45 | 0x49 | 0x4D | 0x4F | 0x53)
 }
 
 // How the item of an opcode is written.

@@ -1,9 +1,8 @@
 -- What refuses an unpacking by its numbers alone. Document 02, (h), and document 01, Turned back for the state: -4102, -4104 and -4110 first, the room of
 -- outputs last. The image's bytes are counted as they are.
 use Rattle.std.specs.Prelude.{◌||◌, [], ◌∷◌, ℕ, ◌+◌, ltb}
-use Rattle.cell.specs.Refusals.{Ground, judge, after, unaligned}
+use Rattle.cell.specs.Refusals.{Ground, judge, after, unaligned, Judged}
 use Rattle.cell.specs.declared.Refusal.TheVariants.{Base, ShortOutput}
-use Rattle.cell.specs.declared.Judged.{Judged}
 use Rattle.pack_refusals.specs.Judgement.{judge_order}
 
 -- -4110: an image of size bytes begins among the first four cells, or ends past 16,777,216

@@ -3,33 +3,30 @@
 use mathlib.Core.Path.{◌≡◌, refl, sym, ap, ap₂, ◌∙◌}
 use mathlib.Core.Bool.{Bool, true, false}
 use mathlib.Core.List.{List, [], ◌∷◌, ◌++◌}
-use Prim.Native.Nat.{ℕ, ◌*◌, ◌/◌, ◌≤◌, ◌<◌}
+use Prim.Native.Nat.{ℕ, ◌*◌, ◌/◌, ◌≤◌}
 use native.Mathlib.Omega.{arith}
 use borrow.Author.Tests.{le-ltb}
-use lib.ListN.{length, get_or, take, drop}
+use lib.ListN.{length, take, drop}
 use lib.Seq.{take_at}
+use Rattle.std.specs.Prelude.{Err, Ok}
 use Rattle.cell.specs.Memory.{Bytewise, cell_count}
-use Rattle.cell.specs.Refusals.{judge, unaligned}
-use Rattle.cell.specs.declared.Judged.{Judged}
-use Rattle.cell.specs.declared.Judged.TheVariants as judged
+use Rattle.cell.specs.Refusals.{judge, unaligned, Judged, passed}
 use Rattle.cell.specs.declared.Refusal.TheVariants as refusal
 use Rattle.cell.proofs.JudgementLaws.{both_pass, refusal_some}
 use Rattle.pack_layout.specs.Listing.{Listing, listed, judged_arrays}
 use Rattle.pack_layout.specs.Packing.{image, image_cells, judged_place, Legal}
-use Rattle.pack_layout.specs.Output.{bytes_of, written}
+use Rattle.pack_layout.specs.Output.{bytes_of}
 use Rattle.pack_layout.specs.Reading.{cells_of, items_read, kinds_read, operands_read, listing_read}
 use Rattle.pack_layout.specs.Unpacking.{taken}
 use Rattle.pack_layout.proofs.Output.{bytes_length}
 use Rattle.pack_layout.proofs.Unpacking.{Packs, packs_is, kinds_again, operands_again, taken_again}
 use Rattle.pack_prepare.proofs.Checking.{arrays_checked}
 use Rattle.pack_refusals.specs.Judgement.{judge_order, judge_pack}
-use Rattle.packer.specs.declared.Packed.TheVariants as packed
 use Rattle.packer.specs.Pack.{PackResult, packed_to, pack_if, pack_of}
-use Rattle.unpacker.specs.declared.Unpacked.TheVariants as unpacked
 use Rattle.unpack_judging.specs.Judgement.{bytes_out_of_place, judge_place, judge_arrays}
 use Rattle.unpack_writing.specs.Writing.{over}
 use Rattle.unpacker.specs.Judgement.{judge_read, judge_unpack}
-use Rattle.unpacker.specs.Unpack.{UnpackResult, unpacked_to, unpack_if, unpack_of}
+use Rattle.unpacker.specs.Unpack.{unpacked_to, unpack_if, unpack_of}
 use Rattle.unpack_comparing.proofs.Comparing.{cells_of_lem, packs_size, pack_passes}
 use Rattle.unpacker.proofs.Recovering.{passed_taken, passed_items, kinds_length, operands_length}
 use Rattle.unpack_laws.specs.Claims.{Words, image_of, ReadsBack, PacksAgain, OneListing, Packed, by_pack, TakenExactly}
@@ -37,7 +34,7 @@ use Rattle.unpack_laws.proofs.Cells.{words_read}
 
 -- a packing that answered 0: a legal listing, and the bytes of its image
 record Made (order : ℕ) (kinds operands : List ℕ) (base : ℕ) (p : PackResult) : Type 0 where
-  known : judge_order order ≡ judged.Passed
+  known : judge_order order ≡ passed
   equal : length operands ≡ length kinds
   legal : Legal base (listed kinds operands)
   bytes : image_of p ≡ bytes_of order (image base (listed kinds operands))
@@ -49,8 +46,8 @@ module _ (order : ℕ) (kinds operands : List ℕ) (base : ℕ) (out : List ℕ)
   made_of : (j : Judged) → j ≡ judge_pack order kinds operands base (length out) → (pack_if j order base l out).number ≡ 0
       → Made order kinds operands base (pack_if j order base l out)
   unfolding judge_pack
-  made_of (judged.Refused r) e q = absurd (refusal_some r q)
-  made_of judged.Passed e q =
+  made_of (Err r) e q = absurd (refusal_some r q)
+  made_of (Ok _) e q =
       let s = both_pass (judge_order order) _ (sym e) in
       let t = both_pass (judged_arrays kinds operands) _ s.1 in
       let u = both_pass (judged_place base (image_cells l)) _ t.1 in
@@ -69,7 +66,7 @@ module _ (order : ℕ) (kinds operands : List ℕ) (base : ℕ) (out : List ℕ)
   made q = made_of (judge_pack order kinds operands base (length out)) refl q
 
 -- the bytes of a legal listing's image are not refused
-module _ (order base : ℕ) (kinds operands : List ℕ) (known : judge_order order ≡ judged.Passed) (equal : length operands ≡ length kinds)
+module _ (order base : ℕ) (kinds operands : List ℕ) (known : judge_order order ≡ passed) (equal : length operands ≡ length kinds)
     (ok : Legal base (listed kinds operands)) where
   abbrev stored : List ℕ
   stored = bytes_of order (image base (listed kinds operands))
@@ -77,10 +74,10 @@ module _ (order base : ℕ) (kinds operands : List ℕ) (known : judge_order ord
   size : length stored ≡ 4 * image_cells (listed kinds operands)
   size = bytes_length order (image base (listed kinds operands)) ∙ ap (λ (n : ℕ). 4 * n) (cells_of_lem base (listed kinds operands))
 
-  read_passes : judge_read order base stored ≡ judged.Passed
+  read_passes : judge_read order base stored ≡ passed
   unfolding judge_read judge_place
   read_passes =
-      let q : judge (unaligned base ∷ bytes_out_of_place base (length stored) ∷ []) ≡ judged.Passed =
+      let q : judge (unaligned base ∷ bytes_out_of_place base (length stored) ∷ []) ≡ passed =
       ap (λ (n : ℕ). judge (unaligned base ∷ bytes_out_of_place base n ∷ [])) size ∙ ok.state
       in
       rw (known, q, taken_again order base kinds operands equal ok)
@@ -89,7 +86,7 @@ module _ (order base : ℕ) (kinds operands : List ℕ) (known : judge_order ord
   items_are = sym (kinds_length (cells_of order stored)) ∙ ap length (kinds_again order base kinds operands equal ok)
 
   unpacks : (ks xs : List ℕ) → length kinds ≤ length ks → length operands ≤ length xs
-      → unpack_of order stored base ks xs ≡ unpacked_to (over kinds ks) (over operands xs) (unpacked.Items (length kinds))
+      → unpack_of order stored base ks xs ≡ unpacked_to (over kinds ks) (over operands xs) (Ok (length kinds))
   unfolding unpack_of judge_unpack judge_arrays
   unpacks ks xs h b =
       rw (
@@ -118,7 +115,7 @@ one_listing order base kinds operands out kinds2 operands2 out2 words words2 e e
     )
 
 -- an image that is not refused, packed from what is read
-module _ (order base : ℕ) (s : List ℕ) (pass : judge_read order base s ≡ judged.Passed) where
+module _ (order base : ℕ) (s : List ℕ) (pass : judge_read order base s ≡ passed) where
   abbrev img : List ℕ
   img = cells_of order s
 
@@ -126,7 +123,7 @@ module _ (order base : ℕ) (s : List ℕ) (pass : judge_read order base s ≡ j
   packs = packs_is order base (listing_read img base) s (passed_taken order base s pass)
 
   packs_there : (out : List ℕ) → length s ≤ length out
-      → pack_of order (kinds_read img) (operands_read img base) base out ≡ packed_to (s ++ drop (length s) out) (packed.Cells (cell_count (length s / 4)))
+      → pack_of order (kinds_read img) (operands_read img base) base out ≡ packed_to (s ++ drop (length s) out) (Ok (cell_count (length s / 4)))
   unfolding pack_of judge_read
   packs_there out h =
       let p = both_pass (judge_place order base (length s)) _ pass in
@@ -134,14 +131,14 @@ module _ (order base : ℕ) (s : List ℕ) (pass : judge_read order base s ≡ j
       let k : 4 * length (image base (listing_read img base)) ≡ length s = ap (λ (m : ℕ). 4 * m) (cells_of_lem base (listing_read img base)) ∙ sym n in
       let c : image_cells (listing_read img base) ≡ length s / 4 = omega arith in
       rw (pack_passes order base (kinds_read img) (operands_read img base) s (operands_length img base ∙ sym (kinds_length img)) p.0 packs (length out) h)
-      (ap₂ (λ (t : List ℕ) (m : ℕ). packed_to t (packed.Cells (cell_count m)))
+      (ap₂ (λ (t : List ℕ) (m : ℕ). packed_to t (Ok (cell_count m)))
       (ap₂ (λ (t : List ℕ) (m : ℕ). t ++ drop m out) packs.bytes k) c)
 
 -- an unpacking that answered 0
 unpacked_of : (order : ℕ) (s : List ℕ) (base : ℕ) (ks xs : List ℕ) (j : Judged) → (unpack_if j (kinds_read (cells_of order s)) (operands_read (cells_of order s) base) ks xs).number ≡ 0
-    → (j ≡ judged.Passed)
-unpacked_of order s base ks xs judged.Passed e = refl
-unpacked_of order s base ks xs (judged.Refused r) e = absurd (refusal_some r e)
+    → (j ≡ passed)
+unpacked_of order s base ks xs (Ok _) e = refl
+unpacked_of order s base ks xs (Err r) e = absurd (refusal_some r e)
 
 pub packs_again : PacksAgain
 unfolding unpack_of judge_unpack
@@ -168,12 +165,12 @@ words_again order s base ks xs low e =
     (words_read order base s low (omega (arith, passed_items order base s p)))
 
 -- bytes that were packed are not refused, and bytes that are not refused were packed
-packed_passes : (order base : ℕ) (s : List ℕ) → Packed order base s → judge_read order base s ≡ judged.Passed
+packed_passes : (order base : ℕ) (s : List ℕ) → Packed order base s → judge_read order base s ≡ passed
 packed_passes order base _ (by_pack kinds operands out words e) =
     let m = made order kinds operands base out words e in
     ap (judge_read order base) m.bytes ∙ read_passes order base kinds operands m.known m.equal m.legal
 
-passes_packed : (order base : ℕ) (s : List ℕ) → Bytewise s → judge_read order base s ≡ judged.Passed → Packed order base s
+passes_packed : (order base : ℕ) (s : List ℕ) → Bytewise s → judge_read order base s ≡ passed → Packed order base s
 passes_packed order base s low pass =
     let img = cells_of order s in
     let e = packs_there order base s pass s (omega arith) in
@@ -196,7 +193,7 @@ taken_exactly =
       others = λ order base s low place h. none order base s place (λ t. h (passes_packed order base s low t)) (taken order base s) refl;
     }
   where
-    none : (order base : ℕ) (s : List ℕ) → judge_place order base (length s) ≡ judged.Passed → (judge_read order base s ≡ judged.Passed → ⊥)
-        → (b : Bool) → taken order base s ≡ b → judge_read order base s ≡ judged.Refused refusal.NoListing
+    none : (order base : ℕ) (s : List ℕ) → judge_place order base (length s) ≡ passed → (judge_read order base s ≡ passed → ⊥)
+        → (b : Bool) → taken order base s ≡ b → judge_read order base s ≡ Err refusal.NoListing
     none order base s place h true e = absurd (h (rw (place, e)))
     none order base s place h false e = rw (place, e)

@@ -1,16 +1,14 @@
 -- What is proved of images and listings. Document 02, (h): an image that the packer writes is read back to its listing, what is read packs to its image, no
 -- other image is taken, and no two listings that are taken share one. The proofs stand in proofs/Theorems.antt.
-use Rattle.std.specs.Prelude.{◌≡◌, List, ◌++◌, ℕ, ◌*◌, ◌/◌, ◌^◌, ◌≤◌, ◌<◌, length, get_or, take, drop}
+use Rattle.std.specs.Prelude.{◌≡◌, List, ◌++◌, ℕ, ◌*◌, ◌/◌, ◌^◌, ◌≤◌, ◌<◌, length, get_or, take, drop, Err, Ok}
+use Rattle.cell.specs.Refusals.{passed}
 use Rattle.cell.specs.Memory.{Bytewise, cell_count}
 use Rattle.cell.specs.declared.Refusal.TheVariants.{NoListing}
-use Rattle.cell.specs.declared.Judged.TheVariants.{Passed, Refused}
-use Rattle.packer.specs.declared.Packed.TheVariants as packed
 use Rattle.packer.specs.Pack.{PackResult, packed_to, pack_of}
-use Rattle.unpacker.specs.declared.Unpacked.TheVariants as unpacked
 use Rattle.unpack_judging.specs.Judgement.{judge_place}
 use Rattle.unpack_writing.specs.Writing.{over}
 use Rattle.unpacker.specs.Judgement.{judge_read}
-use Rattle.unpacker.specs.Unpack.{UnpackResult, unpacked_to, unpack_of}
+use Rattle.unpacker.specs.Unpack.{unpacked_to, unpack_of}
 
 -- operands as they are lent: cells
 abbrev pub Words : List ℕ → Type 0
@@ -25,7 +23,7 @@ abbrev pub ReadsBack : Type 0
 ReadsBack =
     (order : ℕ) (kinds operands : List ℕ) (base : ℕ) (out ks xs : List ℕ) → Words operands → (pack_of order kinds operands base out).number ≡ 0
     → length kinds ≤ length ks → length operands ≤ length xs
-    → unpack_of order (image_of (pack_of order kinds operands base out)) base ks xs ≡ unpacked_to (over kinds ks) (over operands xs) (unpacked.Items (length kinds))
+    → unpack_of order (image_of (pack_of order kinds operands base out)) base ks xs ≡ unpacked_to (over kinds ks) (over operands xs) (Ok (length kinds))
 
 -- unpack, then pack what it wrote with room for the image: its bytes, and no others
 abbrev pub PacksAgain : Type 0
@@ -33,7 +31,7 @@ PacksAgain =
     (order : ℕ) (s : List ℕ) (base : ℕ) (ks xs out : List ℕ) → (unpack_of order s base ks xs).number ≡ 0 → length s ≤ length out
     → let r = unpack_of order s base ks xs in
     pack_of order (take r.count r.kinds) (take r.count r.operands) base out
-    ≡ packed_to (s ++ drop (length s) out) (packed.Cells (cell_count (length s / 4)))
+    ≡ packed_to (s ++ drop (length s) out) (Ok (cell_count (length s / 4)))
 
 -- listings that differ have images that differ, where both are packed for one base and in one byte order
 abbrev pub OneListing : Type 0
@@ -50,7 +48,7 @@ pub data Packed (order base : ℕ) : List ℕ → Type 0 where
 
 -- exactly those are taken; any others, at a base that is not refused, are turned away by -4116
 pub record TakenExactly : Type 0 where
-  pub taken : (order base : ℕ) (s : List ℕ) → Packed order base s → judge_read order base s ≡ Passed
-  pub only : (order base : ℕ) (s : List ℕ) → Bytewise s → judge_read order base s ≡ Passed → Packed order base s
-  pub others : (order base : ℕ) (s : List ℕ) → Bytewise s → judge_place order base (length s) ≡ Passed → (Packed order base s → ⊥)
-      → judge_read order base s ≡ Refused NoListing
+  pub taken : (order base : ℕ) (s : List ℕ) → Packed order base s → judge_read order base s ≡ passed
+  pub only : (order base : ℕ) (s : List ℕ) → Bytewise s → judge_read order base s ≡ passed → Packed order base s
+  pub others : (order base : ℕ) (s : List ℕ) → Bytewise s → judge_place order base (length s) ≡ passed → (Packed order base s → ⊥)
+      → judge_read order base s ≡ Err NoListing

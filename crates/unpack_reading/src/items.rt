@@ -36,18 +36,18 @@ pub fn read_items(
 {
     let size = firsts.len();
     let mut r = at_cell(order, image, CellCount(0));
-    let mut i: usize = 0;
-    while (r.at.0 as usize) < size {
-        if i == MOST_ITEMS {
-            return MOST_ITEMS + 1;
+    for i in 0..MOST_ITEMS {
+        if size <= r.at.0 as usize {
+            return i;
         }
         let item = read_item(order, image, base, r);
         kinds[i] = item.kind;
         held[i] = item.held;
         note_first(firsts, r, i);
-        let g = item.form;
-        r = behind_item(order, image, g, r);
-        i += 1;
+        r = behind_item(order, image, item.form, r);
     }
-    i
+    if (r.at.0 as usize) < size {
+        return MOST_ITEMS + 1;
+    }
+    MOST_ITEMS
 }

@@ -1,39 +1,37 @@
 -- What was read into working arrays is the listing of the image, and the answer says whether it packs to it.
 -- Assumes nothing.
 use mathlib.Core.Path.{◌≡◌, refl, sym, ap, ap₂, ◌∙◌}
-use mathlib.Core.Bool.{Bool, true, false, not, true≢false}
+use mathlib.Core.Bool.{Bool, true, false, not}
 use mathlib.Core.List.{List, [], ◌∷◌, ◌++◌}
-use Prim.Native.Nat.{ℕ, zero, suc, ◌+◌, ◌-◌, ◌*◌, ◌/◌, ◌^◌, ◌≤◌, ◌<◌}
+use Prim.Native.Nat.{ℕ, zero, suc, ◌+◌, ◌-◌, ◌/◌, ◌^◌, ◌≤◌, ◌<◌}
 use native.Mathlib.Decide.{dec_lt}
 use native.Mathlib.Omega.{arith}
 use borrow.Author.Tests.{leb-false, ltb-false, not-false}
 use lib.Dec.{leb, ltb}
 use lib.ListN.{length, get_or, take, replicate, length-replicate, get_or-replicate}
 use lib.Seq.{length-take-le, get_or-take, take_at}
+use Rattle.std.specs.Prelude.{Err, Ok}
 use Rattle.cell.specs.Choice.{if}
-use Rattle.cell.specs.Refusals.{judge, unaligned}
+use Rattle.cell.specs.Refusals.{judge, unaligned, passed}
 use Rattle.cell.specs.declared.Refusal.{Refusal}
 use Rattle.cell.specs.declared.Refusal.TheVariants as refusal
-use Rattle.cell.specs.declared.Judged.{Judged}
-use Rattle.cell.specs.declared.Judged.TheVariants as judged
 use Rattle.cell.proofs.BooleanLaws.{neither}
 use Rattle.cell.proofs.JudgementLaws.{both_pass, one_clear}
 use Rattle.pack_layout.specs.declared.Class.{Class}
 use Rattle.pack_layout.specs.declared.Class.TheVariants.{Plain as plain, Literal as literal, Branch as branch, NoKind as no_kind}
 use Rattle.pack_layout.specs.Kinds.{class_of}
 use Rattle.pack_layout.specs.Listing.{listed}
-use Rattle.pack_layout.specs.Reading.{each, cells_of, reader, items_from, items_read, first_at, kind_read_at, held_at, operand_of, operand_read_at, kinds_read, operands_read, listing_read}
+use Rattle.pack_layout.specs.Reading.{each, cells_of, reader, items_from, items_read, first_at, kind_read_at, operand_of, operand_read_at, kinds_read, operands_read, listing_read}
 use Rattle.pack_layout.specs.Unpacking.{packs_to, taken}
 use Rattle.pack_layout.proofs.Listing.{some_item}
 use Rattle.pack_layout.proofs.Reading.{each_length, each_is}
-use Rattle.pack_layout.proofs.Unpacking.{Packs, packs_is}
+use Rattle.pack_layout.proofs.Unpacking.{packs_is}
 use Rattle.pack_prepare.proofs.Checking.{cells_most}
 use Rattle.pack_refusals.specs.Judgement.{judge_order}
 use Rattle.unpack_judging.specs.Judgement.{bytes_out_of_place, judge_place}
 use Rattle.unpack_comparing.proofs.Comparing.{packs_size}
 use Rattle.unpack_reading.specs.Arrays.{item_in, operand_in, Filled}
 use Rattle.unpack_reading.proofs.Finding.{item_is}
-use Rattle.unpacker.specs.declared.Unpacked.TheVariants as unpacked
 use Rattle.unpacker.specs.Judgement.{judge_read}
 use Rattle.unpacker.specs.Unpack.{read_if, Recovered}
 
@@ -98,13 +96,13 @@ module _ (order base : ℕ) (s : List ℕ) where
       omega (arith, packs_size order base (listing_read img base) s p, q)
 
   -- what is not refused is taken
-  pub passed_taken : judge_read order base s ≡ judged.Passed → taken order base s ≡ true
+  pub passed_taken : judge_read order base s ≡ passed → taken order base s ≡ true
   unfolding judge_read
   passed_taken e =
       let p = both_pass (judge_place order base (length s)) _ e in
-      not-false (taken order base s) (one_clear (not (taken order base s)) refusal.NoListing judged.Passed p.1).0
+      not-false (taken order base s) (one_clear (not (taken order base s)) refusal.NoListing passed p.1).0
 
-  pub passed_items : judge_read order base s ≡ judged.Passed → items_read img ≤ 4096
+  pub passed_items : judge_read order base s ≡ passed → items_read img ≤ 4096
   passed_items e = taken_items (passed_taken e)
 
   not_taken : (b : Bool) → taken order base s ≡ b → (taken order base s ≡ true → ⊥) → b ≡ false
@@ -112,11 +110,11 @@ module _ (order base : ℕ) (s : List ℕ) where
   not_taken false e h = refl
 
   -- order or place refused
-  pub turned_back : (r : Refusal) (n : ℕ) (kinds operands : List ℕ) → judge_place order base (length s) ≡ judged.Refused r
-      → (unpacked.Refused r ≡ read_if (judge_read order base s) n) × Recovered order base s kinds operands
+  pub turned_back : (r : Refusal) (n : ℕ) (kinds operands : List ℕ) → judge_place order base (length s) ≡ Err r
+      → (Err r ≡ read_if (judge_read order base s) n) × Recovered order base s kinds operands
   unfolding judge_read
   turned_back r n kinds operands e =
-      let q : judge_read order base s ≡ judged.Refused r = rw e in (
+      let q : judge_read order base s ≡ Err r = rw e in (
         rw q,
         record {
           kinds_front = λ p. absurd (let z : ◌≡◌ {A = ℕ} 0 1 = cc in omega arith);
@@ -124,13 +122,13 @@ module _ (order base : ℕ) (s : List ℕ) where
         },
       )
 
-  module _ (place : judge_place order base (length s) ≡ judged.Passed) where
+  module _ (place : judge_place order base (length s) ≡ passed) where
     -- refused, and no promise on the arrays
     pub none : taken order base s ≡ false → (n : ℕ) (kinds operands : List ℕ)
-        → (unpacked.Refused refusal.NoListing ≡ read_if (judge_read order base s) n) × Recovered order base s kinds operands
+        → (Err refusal.NoListing ≡ read_if (judge_read order base s) n) × Recovered order base s kinds operands
     unfolding judge_read
     none e n kinds operands =
-        let q : judge_read order base s ≡ judged.Refused refusal.NoListing = rw (place, e) in (
+        let q : judge_read order base s ≡ Err refusal.NoListing = rw (place, e) in (
           rw q,
           record {
             kinds_front = λ p. absurd (let z : ◌≡◌ {A = ℕ} 0 1 = cc in omega arith);
@@ -139,12 +137,12 @@ module _ (order base : ℕ) (s : List ℕ) where
         )
 
     pub too_many : (n : ℕ) (kinds operands : List ℕ) → n ≡ items_read img → 4096 < n
-        → (unpacked.Refused refusal.NoListing ≡ read_if (judge_read order base s) (items_read img)) × Recovered order base s kinds operands
+        → (Err refusal.NoListing ≡ read_if (judge_read order base s) (items_read img)) × Recovered order base s kinds operands
     too_many n kinds operands e h =
         none (not_taken (taken order base s) refl (λ t. omega (arith, taken_items t))) (items_read img) kinds operands
 
     pub too_long : (kinds operands : List ℕ) → 32768 < length s
-        → (unpacked.Refused refusal.NoListing ≡ read_if (judge_read order base s) (items_read img)) × Recovered order base s kinds operands
+        → (Err refusal.NoListing ≡ read_if (judge_read order base s) (items_read img)) × Recovered order base s kinds operands
     too_long kinds operands h =
         none (not_taken (taken order base s) refl (λ t. omega (arith, taken_bytes t))) (items_read img) kinds operands
 
@@ -153,7 +151,7 @@ module _ (order base : ℕ) (s : List ℕ) where
     below =
         let p = both_pass (judge_order order) (judge (unaligned base ∷ bytes_out_of_place base (length s) ∷ [])) place in
         let q = one_clear (unaligned base).applies refusal.Unaligned _ p.1 in
-        let t = one_clear (bytes_out_of_place base (length s)).applies refusal.Base judged.Passed q.1 in
+        let t = one_clear (bytes_out_of_place base (length s)).applies refusal.Base passed q.1 in
         ltb-false 16777216 (base + length s) (neither (ltb base 0x10) (ltb 16777216 (base + length s)) t.0).1
 
     -- arrays as the reading filled them: the first n kinds, and the operands once the targets are found
@@ -194,14 +192,14 @@ module _ (order base : ℕ) (s : List ℕ) where
       judged_so b e = ap₂ (λ (k x : List ℕ). packs_to order base (listed k x) s) (sym kinds_are) (sym operands_are) ∙ sym e
 
       pub differs : false ≡ packs_to order base (listed (take n kinds) operands) s → (kinds2 operands2 : List ℕ)
-          → (unpacked.Refused refusal.NoListing ≡ read_if (judge_read order base s) (items_read img)) × Recovered order base s kinds2 operands2
+          → (Err refusal.NoListing ≡ read_if (judge_read order base s) (items_read img)) × Recovered order base s kinds2 operands2
       differs e kinds2 operands2 = none (judged_so false e) (items_read img) kinds2 operands2
 
       pub agrees : true ≡ packs_to order base (listed (take n kinds) operands) s → (rest : List ℕ)
-          → (unpacked.Items n ≡ read_if (judge_read order base s) (items_read img)) × Recovered order base s kinds (operands ++ rest)
+          → (Ok n ≡ read_if (judge_read order base s) (items_read img)) × Recovered order base s kinds (operands ++ rest)
       unfolding judge_read
       agrees e rest =
-          let q : judge_read order base s ≡ judged.Passed = rw (place, judged_so true e) in (
+          let q : judge_read order base s ≡ passed = rw (place, judged_so true e) in (
             rw (q, count),
             record {
               kinds_front = λ p. ap (λ (k : ℕ). take k kinds) (sym count) ∙ kinds_are;

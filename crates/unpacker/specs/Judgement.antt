@@ -1,8 +1,7 @@
 -- What refuses an unpacking. Document 02, (h), and document 01, Turned back for the state: -4102, -4104, -4110, -4116, and the room of outputs last.
 use Rattle.std.specs.Prelude.{not, List, [], ◌∷◌, ℕ, length}
-use Rattle.cell.specs.Refusals.{Ground, judge, after}
+use Rattle.cell.specs.Refusals.{Ground, judge, after, Judged}
 use Rattle.cell.specs.declared.Refusal.TheVariants.{NoListing}
-use Rattle.cell.specs.declared.Judged.{Judged}
 use Rattle.pack_layout.specs.Reading.{cells_of, items_read}
 use Rattle.pack_layout.specs.Unpacking.{taken}
 use Rattle.unpack_judging.specs.Judgement.{judge_place, judge_arrays}

@@ -1,6 +1,6 @@
 // The listing of an image, in working arrays.
 ghost use Rattle.std.specs.Prelude.{◌≡◌, ℕ, ◌/◌, ◌<◌, length, get_or};
-ghost use Rattle.cell.specs.declared.Judged.TheVariants.{Passed};
+ghost use Rattle.cell.specs.Refusals.{passed};
 ghost use Rattle.pack_layout.specs.Kinds.{class_of};
 ghost use Rattle.pack_layout.specs.Listing.{listed};
 ghost use Rattle.pack_layout.specs.Reading.{cells_of, items_read};
@@ -10,8 +10,8 @@ ghost use Rattle.unpack_judging.specs.Judgement as place;
 ghost use Rattle.unpacker.specs.Judgement as judgement;
 ghost use Rattle.unpacker.specs.Unpack as answers;
 
-use crate::{MOST_BYTES, MOST_CELLS, Unpacked};
-use cell::{Address, Judged, Refusal};
+use crate::{MOST_BYTES, MOST_CELLS};
+use cell::{Address, Refusal};
 use pack_layout::MOST_ITEMS;
 use unpack_comparing::compare::packs_to;
 use unpack_judging::judgement::judge_place;
@@ -30,7 +30,7 @@ fn packs_again(
     copy: &mut [u8],
 ) -> bool
     requires operands_len { (length operands.old ≡ length kinds.now) × (length copy.old ≡ length image.now) }
-    requires image_value { place.judge_place order base.0 (length image.now) ≡ Passed }
+    requires image_value { place.judge_place order base.0 (length image.now) ≡ passed }
     ensures value { result ≡ packs_to order base.0 (listed kinds.now operands.new) image.now }
     ensures by_index { (j : ℕ) → j < length operands.old → get_or operands.new j 0 ≡ operand_in (class_of (get_or kinds.now j 0)) base.0 firsts.now (get_or operands.old j 0) }
 {
@@ -47,16 +47,16 @@ fn recover_in(
     operands: &mut [u32],
     firsts: &mut [u16],
     copy: &mut [u8],
-) -> Unpacked
+) -> Result<u32, Refusal>
     requires kinds_len { (length kinds.old ≡ 4096) × (length operands.old ≡ 4096) × (length firsts.old ≡ length image.now / 4) × (length copy.old ≡ length image.now) }
     requires by_index { (c : ℕ) → c < length firsts.old → get_or firsts.old c 0 ≡ 4096 }
-    requires image_value { place.judge_place order base.0 (length image.now) ≡ Passed }
+    requires image_value { place.judge_place order base.0 (length image.now) ≡ passed }
     ensures value { result ≡ answers.read_if (judgement.judge_read order base.0 image.now) (items_read (cells_of order image.now)) }
     ensures recovered { answers.Recovered order base.0 image.now kinds.new operands.new }
 {
     let n = read_items(order, image, base, kinds, operands, firsts);
     if MOST_ITEMS < n {
-        return Unpacked::Refused(Refusal::NoListing);
+        return Err(Refusal::NoListing);
     }
     if packs_again(
         order,
@@ -67,9 +67,9 @@ fn recover_in(
         image,
         copy,
     ) {
-        return Unpacked::Items(n as u32);
+        return Ok(n as u32);
     }
-    Unpacked::Refused(Refusal::NoListing)
+    Err(Refusal::NoListing)
 }
 
 // The same for any image.
@@ -79,29 +79,25 @@ pub fn recover(
     base: Address,
     kinds: &mut [u8],
     operands: &mut [u32],
-) -> Unpacked
+) -> Result<u32, Refusal>
     requires { (length kinds.old ≡ 4096) × (length operands.old ≡ 4096) }
     ensures value { result ≡ answers.read_if (judgement.judge_read order base.0 image.now) (items_read (cells_of order image.now)) }
     ensures recovered { answers.Recovered order base.0 image.now kinds.new operands.new }
 {
-    match judge_place(order, base, image.len()) {
-        Judged::Refused(r) => Unpacked::Refused(r),
-        Judged::Passed => {
-            let n = image.len();
-            if MOST_BYTES < n {
-                return Unpacked::Refused(Refusal::NoListing);
-            }
-            let mut firsts = [NO_ITEM; MOST_CELLS];
-            let mut copy = [0u8; MOST_BYTES];
-            recover_in(
-                order,
-                image,
-                base,
-                kinds,
-                operands,
-                &mut firsts[0..n / 4],
-                &mut copy[0..n],
-            )
-        }
+    judge_place(order, base, image.len())?;
+    let n = image.len();
+    if MOST_BYTES < n {
+        return Err(Refusal::NoListing);
     }
+    let mut firsts = [NO_ITEM; MOST_CELLS];
+    let mut copy = [0u8; MOST_BYTES];
+    recover_in(
+        order,
+        image,
+        base,
+        kinds,
+        operands,
+        &mut firsts[0..n / 4],
+        &mut copy[0..n],
+    )
 }

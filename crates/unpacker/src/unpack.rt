@@ -3,23 +3,26 @@ ghost use Rattle.std.specs.Prelude.{◌≡◌, length};
 ghost use Rattle.unpacker.specs.Judgement as judgement;
 ghost use Rattle.unpacker.specs.Unpack as answers;
 
-use crate::Unpacked;
 use crate::recover::recover;
-use cell::{Address, Judged};
+use cell::{Address, Refusal};
 use pack_layout::MOST_ITEMS;
 use unpack_judging::judgement::judge_arrays;
 use unpack_writing::arrays::write_listing;
 
 // An unpacking into arrays of some lengths.
-pub fn judge_unpack(order: u8, image: &[u8], base: Address, kinds: usize, operands: usize) -> Judged
+pub fn judge_unpack(
+    order: u8,
+    image: &[u8],
+    base: Address,
+    kinds: usize,
+    operands: usize,
+) -> Result<(), Refusal>
     ensures { result ≡ judgement.judge_unpack order base.0 image.now kinds operands }
 {
     let mut ks = [0u8; MOST_ITEMS];
     let mut xs = [0u32; MOST_ITEMS];
-    match recover(order, image, base, &mut ks, &mut xs) {
-        Unpacked::Refused(r) => Judged::Refused(r),
-        Unpacked::Items(n) => judge_arrays(n, kinds, operands),
-    }
+    let n = recover(order, image, base, &mut ks, &mut xs)?;
+    judge_arrays(n, kinds, operands)
 }
 
 // An unpacking with working arrays lent: ks for the kinds and xs for the operands.
@@ -31,20 +34,14 @@ fn unpack_in(
     xs: &mut [u32],
     kinds: &mut [u8],
     operands: &mut [u32],
-) -> Unpacked
+) -> Result<u32, Refusal>
     requires { (length ks.old ≡ 4096) × (length xs.old ≡ 4096) }
     ensures { answers.unpacked_to kinds.new operands.new result ≡ answers.unpack_of order image.now base.0 kinds.old operands.old }
 {
-    match recover(order, image, base, ks, xs) {
-        Unpacked::Refused(r) => Unpacked::Refused(r),
-        Unpacked::Items(n) => {
-            let m = n as usize;
-            match write_listing(&ks[0..m], &xs[0..m], kinds, operands) {
-                Judged::Refused(r) => Unpacked::Refused(r),
-                Judged::Passed => Unpacked::Items(n),
-            }
-        }
-    }
+    let n = recover(order, image, base, ks, xs)?;
+    let m = n as usize;
+    write_listing(&ks[0..m], &xs[0..m], kinds, operands)?;
+    Ok(n)
 }
 
 pub fn unpack(
@@ -53,7 +50,7 @@ pub fn unpack(
     base: Address,
     kinds: &mut [u8],
     operands: &mut [u32],
-) -> Unpacked
+) -> Result<u32, Refusal>
     ensures { answers.unpacked_to kinds.new operands.new result ≡ answers.unpack_of order image.now base.0 kinds.old operands.old }
 {
     let mut ks = [0u8; MOST_ITEMS];

@@ -1,9 +1,8 @@
 -- The rows on tables (document 02, (b)), for a byte order: one cycle with the areas of specs/Cycling.antt and a table.
-use Rattle.std.specs.Prelude.{List, [], ◌∷◌, ◌++◌, map, ℕ, ◌+◌, ◌-◌, ◌^◌, set}
+use Rattle.cell.specs.Place.{Checked, good}
+use Rattle.std.specs.Prelude.{List, [], ◌∷◌, ◌++◌, map, ℕ, ◌+◌, ◌-◌, ◌^◌, set, Ok, Err}
 use Rattle.cell.specs.Memory.{store_cell}
 use Rattle.cell.specs.Number.{byte_address}
-use Rattle.cell.specs.declared.Checked.{Checked}
-use Rattle.cell.specs.declared.Checked.TheVariants.{Good, Bad}
 use Rattle.machine.specs.Places.{Width, one_byte, one_cell, table_of, no_table, place_of}
 use Rattle.exceptions.specs.Exceptions.{exception_of, exception_code}
 use Rattle.machine.specs.declared.Table.{Table}
@@ -146,8 +145,8 @@ throw_rows order =
 
 -- the code of a place: 0 for a good one
 abbrev pub code_of : Machine → Checked → ℕ
-code_of machine Good = 0
-code_of machine (Bad f) = exception_code (exception_of machine f)
+code_of machine (Ok _) = 0
+code_of machine (Err f) = exception_code (exception_of machine f)
 
 -- with a table from 10h to MEMORY, which has every place
 abbrev pub told : ℕ → Width → Access → ℕ → ℕ → Claim

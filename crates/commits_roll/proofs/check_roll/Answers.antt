@@ -1,37 +1,23 @@
--- `check_roll` meets its contract. The invariant is `Judging`; the measure is what is left to judge.
-use Rattle.machine.specs.Commits as commits
-use Rattle.commits_roll.proofs.RollLaws.{judge_begins, judge_bad, judge_again, judge_done}
+-- `check_roll` meets its contract. The invariant is `Judging`.
+use Rattle.std.proofs.lemmas.Result.{err_from_is_err_and}
+use Prim.Native.Nat.{◌+◌, ◌-◌}
 use native.Mathlib.Omega.{arith}
+use mathlib.Core.Path.{◌≡◌, sym, ◌∙◌}
+use Rattle.commits_roll.proofs.RollLaws.{judge_bad, judge_again, judge_done}
 use Rattle.commits_roll.proofs.check_roll.Goals as goal
 
-pub returns-then-depth-eq0 : goal.returns-then-depth-eq0
-unfolding commits.places_of
-returns-then-depth-eq0 c = rw c.if-depth-eq0.true
-
-pub loop-k-init : goal.loop-k-init
-loop-k-init c = judge_begins _ _ _ _ c.if-depth-eq0.false
-
-pub address_at-at-requires : goal.address_at-at-requires
-address_at-at-requires c = omega (arith, c.loop-k.invariant.within, c.requires)
-
-pub returns-in_default : goal.returns-in_default
-returns-in_default c = judge_bad c.args.machine c.args.memory.now c.args.top.0
-    c.args.depth.0 c.loop-k.k _ _ c.loop-k-test.true (rw
-    c.address_at-at.ensures at c.check_data_write-place.ensures) c.in_default.is
-    c.loop-k.invariant
-
-pub overflow_sub-k : goal.overflow_sub-k
-overflow_sub-k c = omega (arith, c.loop-k-test.true)
-
-pub loop-k-smaller : goal.loop-k-smaller
-loop-k-smaller c = omega (arith, c.loop-k-test.true)
-
 pub loop-k-preserved : goal.loop-k-preserved
-loop-k-preserved c = judge_again c.args.machine c.args.memory.now c.args.top.0
-    c.args.depth.0 c.loop-k.k _ c.loop-k-test.true (rw
-    c.address_at-at.ensures at c.check_data_write-place.ensures) c.in-Good.is
-    c.loop-k.invariant
+loop-k-preserved c = let n : c.loop-k.k - 1 + 1 ≡ c.loop-k.k = omega (arith, c.loop-k-test.true) in
+    judge_again c.args.machine c.args.memory.now c.args.top.0 c.args.depth.0 c.loop-k.k _ c.loop-k-test.true
+    (rw (c.address_at.ensures, n) at c.check_data_write.ensures) c.in_ok-check_data_write.was c.loop-k.invariant
+
+pub returns-in_err-check_data_write : goal.returns-in_err-check_data_write
+returns-in_err-check_data_write c = let n : c.loop-k.k - 1 + 1 ≡ c.loop-k.k = omega (arith, c.loop-k-test.true) in
+    let p = err_from_is_err_and c.from_residual.result c.from_residual.ensures.1 in
+    rw (p.1, p.2) (sym c.in_err-check_data_write.was
+    ∙ judge_bad c.args.machine c.args.memory.now c.args.top.0 c.args.depth.0 c.loop-k.k _ _ c.loop-k-test.true
+    (rw (c.address_at.ensures, n) at c.check_data_write.ensures) c.in_err-check_data_write.was c.loop-k.invariant)
 
 pub returns : goal.returns
-returns c = judge_done c.args.machine c.args.memory.now c.args.top.0 c.args.depth.0
-    c.loop-k.k _ c.loop-k-test.false c.check_data_write.ensures c.loop-k.invariant
+returns c = judge_done c.args.machine c.args.memory.now c.args.top.0 c.args.depth.0 c.loop-k.k _ c.loop-k-test.false
+    c.check_data_write-2.ensures c.loop-k.invariant

@@ -3,6 +3,3 @@ use Rattle.commits_roll.proofs.check_roll.Given as goal
 
 abbrev pub invariant-loop-k : goal.invariant-loop-k
 invariant-loop-k l = Judging l.machine l.memory l.top.0 l.initial.k l.k
-
-abbrev pub decreases-loop-k : goal.decreases-loop-k
-decreases-loop-k l = l.k

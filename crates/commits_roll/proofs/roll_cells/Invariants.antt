@@ -3,6 +3,3 @@ use Rattle.commits_roll.proofs.roll_cells.Given as goal
 
 abbrev pub invariant-loop-k : goal.invariant-loop-k
 invariant-loop-k l = Rolling l.machine l.initial.memory l.top.0 l.initial.k l.last l.memory l.k
-
-abbrev pub decreases-loop-k : goal.decreases-loop-k
-decreases-loop-k l = l.k

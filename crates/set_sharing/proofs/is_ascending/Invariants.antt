@@ -1,4 +1,3 @@
-use Prim.Native.Nat.{◌-◌}
 use mathlib.Core.Path.{◌≡◌}
 use lib.ListN.{drop}
 use Rattle.set_judging.specs.Members.{members_of}
@@ -7,6 +6,3 @@ use Rattle.set_sharing.proofs.is_ascending.Given as goal
 
 abbrev pub invariant-loop-k : goal.invariant-loop-k
 invariant-loop-k l = ascending_from end_by_size l.end (drop l.k (members_of l.numbers)) ≡ ascending_from end_by_size 0 (members_of l.numbers)
-
-abbrev pub decreases-loop-k : goal.decreases-loop-k
-decreases-loop-k l = l.n - l.k

@@ -1,4 +1,4 @@
-use Rattle.cycles.proofs.RunLaws.{Looping}
+use Rattle.cycles.specs.Running.{Looping}
 use Rattle.cycles.proofs.running.run_cycles.Given as goal
 
 abbrev pub invariant-loop-left : goal.invariant-loop-left

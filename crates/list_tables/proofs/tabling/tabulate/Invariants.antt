@@ -1,12 +1,9 @@
 use mathlib.Core.Path.{◌≡◌}
-use Prim.Native.Nat.{◌-◌, ◌*◌, ◌≤◌}
+use Prim.Native.Nat.{◌*◌}
 use lib.ListN.{length}
 use Rattle.pack_layout.specs.Listing.{listed}
 use Rattle.list_tables.specs.Tables.{Rows}
 use Rattle.list_tables.proofs.tabling.tabulate.Given as goal
 
 abbrev pub invariant-loop-i : goal.invariant-loop-i
-invariant-loop-i l = (l.i ≤ length l.kinds) × (length l.table ≡ 4 * length l.kinds) × Rows (listed l.kinds l.operands) l.table l.i
-
-abbrev pub decreases-loop-i : goal.decreases-loop-i
-decreases-loop-i l = length l.kinds - l.i
+invariant-loop-i l = (length l.table ≡ 4 * length l.kinds) × Rows (listed l.kinds l.operands) l.table l.i

@@ -16,37 +16,6 @@ pub loop-i-init : goal.loop-i-init
 loop-i-init c = let l = listed c.args.kinds.now c.args.operands.now in
     write_start c.args.order c.args.base.0 l c.args.out.now c.requires.base_bound.1
 
-pub offset_bounds-lefts-i : goal.offset_bounds-lefts-i
-offset_bounds-lefts-i c = let l = listed c.args.kinds.now c.args.operands.now in
-    omega (arith, c.loop-i.invariant.inside, c.loop-i-test.true, (some_item l c.requires.checked.input).1)
-
-pub bounds-lefts-i : goal.bounds-lefts-i
-bounds-lefts-i c = let l = listed c.args.kinds.now c.args.operands.now in
-    omega (arith, c.loop-i.invariant.inside, c.loop-i-test.true, c.requires.marks_len.3)
-
-pub offset_bounds-nexts-i : goal.offset_bounds-nexts-i
-offset_bounds-nexts-i c = let l = listed c.args.kinds.now c.args.operands.now in
-    omega (arith, c.loop-i.invariant.inside, c.loop-i-test.true, (some_item l c.requires.checked.input).1)
-
-pub bounds-nexts-i : goal.bounds-nexts-i
-bounds-nexts-i c = let l = listed c.args.kinds.now c.args.operands.now in
-    omega (arith, c.loop-i.invariant.inside, c.loop-i-test.true, c.requires.marks_len.0)
-
-pub bounds-kinds-i : goal.bounds-kinds-i
-bounds-kinds-i c = let l = listed c.args.kinds.now c.args.operands.now in
-    omega (arith, c.loop-i.invariant.inside, c.loop-i-test.true)
-
-pub bounds-marks-i : goal.bounds-marks-i
-bounds-marks-i c = let l = listed c.args.kinds.now c.args.operands.now in
-    omega (arith, c.loop-i.invariant.inside, c.loop-i-test.true, c.requires.checked.equal)
-
-pub offset_bounds-operands-i : goal.offset_bounds-operands-i
-offset_bounds-operands-i c = let l = listed c.args.kinds.now c.args.operands.now in
-    omega (arith, c.loop-i.invariant.inside, c.loop-i-test.true, (some_item l c.requires.checked.input).1)
-
-pub bounds-operands-i : goal.bounds-operands-i
-bounds-operands-i c = omega (arith, c.loop-i.invariant.inside, c.loop-i-test.true, c.requires.marks_len.2)
-
 pub pack_item-p-requires : goal.pack_item-p-requires
 pack_item-p-requires c = let l = listed c.args.kinds.now c.args.operands.now in
     let h : c.loop-i.i - 1 < length c.args.kinds.now = omega (arith, c.loop-i.invariant.inside, c.loop-i-test.true) in
@@ -73,13 +42,6 @@ word_of-w-requires c = let l = listed c.args.kinds.now c.args.operands.now in
     let next = step_down c.args.order c.args.base.0 l c.args.out.now c.loop-i.out c.loop-i.rest c.loop-i.i (omega (arith, c.loop-i-test.true)) c.loop-i.invariant in
     omega (arith, kind_below l c.requires.checked.input (c.loop-i.i - 1) h)
 
-pub offset_bounds-ats-i : goal.offset_bounds-ats-i
-offset_bounds-ats-i c = let l = listed c.args.kinds.now c.args.operands.now in
-    omega (arith, c.loop-i.invariant.inside, c.loop-i-test.true, (some_item l c.requires.checked.input).1)
-
-pub bounds-ats-i : goal.bounds-ats-i
-bounds-ats-i c = omega (arith, c.loop-i.invariant.inside, c.loop-i-test.true, c.requires.marks_len.1)
-
 pub put_opened-rest-requires : goal.put_opened-rest-requires
 put_opened-rest-requires c = let l = listed c.args.kinds.now c.args.operands.now in
     let h : c.loop-i.i - 1 < length c.args.kinds.now = omega (arith, c.loop-i.invariant.inside, c.loop-i-test.true) in
@@ -99,9 +61,6 @@ loop-i-preserved c = let l = listed c.args.kinds.now c.args.operands.now in
     (c.requires.laid.left (c.loop-i.i - 1) h) (c.requires.laid.at (c.loop-i.i - 1) h) (c.requires.laid.next (c.loop-i.i - 1) h) c.word_of-w.ensures
     c.put_opened-rest.ensures.0 c.put_operand.ensures c.put_opened-rest.ensures.1
     (c.put_opened-rest.auto.out ∙ c.put_operand.auto.out)
-
-pub shape_of-out : goal.shape_of-out
-shape_of-out c = c.loop-i.invariant.size
 
 pub returns : goal.returns
 returns c = let l = listed c.args.kinds.now c.args.operands.now in

@@ -1,6 +1,5 @@
 -- `pack_judging::entries::find_entries` meets its contract.
 -- Assumes nothing.
-use mathlib.Core.Path.{◌∙◌}
 use Rattle.pack_layout.specs.Listing.{listed}
 use Rattle.pack_layout.proofs.Listing.{some_item}
 use Rattle.pack_judging.proofs.entries.find_entries.Goals as goal

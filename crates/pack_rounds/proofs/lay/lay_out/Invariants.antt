@@ -1,5 +1,4 @@
 use Rattle.pack_layout.specs.Packing.{plan}
-use Rattle.std.proofs.Common.{◌-◌}
 use Rattle.pack_layout.specs.Layout.{spot_of}
 use Rattle.pack_rounds.proofs.Laying.{LayStep}
 use Rattle.pack_layout.specs.Flags.{flagged}
@@ -8,6 +7,3 @@ use Rattle.pack_rounds.proofs.lay.lay_out.Given as goal
 
 abbrev pub invariant-loop-i : goal.invariant-loop-i
 invariant-loop-i l = LayStep (plan (listed l.kinds l.operands) (flagged l.marks)) l.n l.ats l.nexts l.lefts (spot_of l.c) l.i
-
-abbrev pub decreases-loop-i : goal.decreases-loop-i
-decreases-loop-i l = l.n - l.i

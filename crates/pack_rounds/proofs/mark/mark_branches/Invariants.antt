@@ -1,10 +1,6 @@
-use Rattle.std.proofs.Common.{◌-◌}
 use Rattle.pack_layout.specs.Listing.{listed}
 use Rattle.pack_rounds.proofs.Marking.{MarkStep}
 use Rattle.pack_rounds.proofs.mark.mark_branches.Given as goal
 
 abbrev pub invariant-loop-i : goal.invariant-loop-i
 invariant-loop-i l = MarkStep (listed l.kinds l.operands) l.initial.marks l.n l.marks l.added l.i
-
-abbrev pub decreases-loop-i : goal.decreases-loop-i
-decreases-loop-i l = l.n - l.i

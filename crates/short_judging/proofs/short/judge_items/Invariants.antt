@@ -7,7 +7,4 @@ use Rattle.short_judging.specs.Operands.{operands_before}
 use Rattle.short_judging.proofs.short.judge_items.Given as goal
 
 abbrev pub invariant-loop-i : goal.invariant-loop-i
-invariant-loop-i l = (l.i ≤ l.n) × (l.k ≡ operands_before (short_kind l.file) l.i) × (l.k ≤ l.m) × (after l.first (judged_from (short_listing l.file) (l.n - l.i) l.i) ≡ judged_from (short_listing l.file) l.n 0)
-
-abbrev pub decreases-loop-i : goal.decreases-loop-i
-decreases-loop-i l = l.n - l.i
+invariant-loop-i l = (l.k ≡ operands_before (short_kind l.file) l.i) × (l.k ≤ l.m) × (after l.first (judged_from (short_listing l.file) (l.n - l.i) l.i) ≡ judged_from (short_listing l.file) l.n 0)

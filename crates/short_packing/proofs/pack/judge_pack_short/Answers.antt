@@ -1,30 +1,14 @@
 -- `short_packing::pack::judge_pack_short` meets its contract.
 -- Assumes nothing.
-use mathlib.Core.Path.{sym, ◌∙◌}
-use native.Mathlib.Omega.{arith}
-use Rattle.short_judging.proofs.Passing.{short_good}
+use mathlib.Core.Path.{sym}
+use Rattle.std.proofs.lemmas.Result.{err_from_is_err_and}
 use Rattle.short_packing.proofs.Packing.{input_good, input_refused, parts_judged}
 use Rattle.short_packing.proofs.pack.judge_pack_short.Goals as goal
 
-pub cell_at-n-requires : goal.cell_at-n-requires
-cell_at-n-requires c = omega (arith, (short_good c.args.file.now (input_good c.args.order c.args.file.now (sym c.judge_input.ensures ∙ c.in-Passed.is))).whole)
-
-pub cell_at-requires : goal.cell_at-requires
-cell_at-requires c = omega (arith, (short_good c.args.file.now (input_good c.args.order c.args.file.now (sym c.judge_input.ensures ∙ c.in-Passed.is))).whole)
-
-pub operands_in-operands-requires : goal.operands_in-operands-requires
-operands_in-operands-requires c = let g = short_good c.args.file.now (input_good c.args.order c.args.file.now (sym c.judge_input.ensures ∙ c.in-Passed.is)) in
-    (g.most, omega (arith, g.whole, g.operands))
-
-pub slice_bounds-judge_pack-end : goal.slice_bounds-judge_pack-end
-slice_bounds-judge_pack-end c = let g = short_good c.args.file.now (input_good c.args.order c.args.file.now (sym c.judge_input.ensures ∙ c.in-Passed.is)) in omega (arith, g.whole, c.cell_at-n.ensures)
-
-pub slice_bounds-judge_pack-end-in-Passed : goal.slice_bounds-judge_pack-end-in-Passed
-slice_bounds-judge_pack-end-in-Passed c = let g = short_good c.args.file.now (input_good c.args.order c.args.file.now (sym c.judge_input.ensures ∙ c.in-Passed.is)) in omega (arith, g.most, c.cell_at-n.ensures, c.operands_in-operands.ensures.0)
-
-pub returns-in-Refused : goal.returns-in-Refused
-returns-in-Refused c = sym (input_refused c.args.order c.args.file.now _ (sym c.judge_input.ensures ∙ c.in-Refused.is) c.args.size)
-
-pub returns-in-Passed : goal.returns-in-Passed
-returns-in-Passed c = parts_judged c.args.order c.args.file.now (input_good c.args.order c.args.file.now (sym c.judge_input.ensures ∙ c.in-Passed.is))
+pub returns : goal.returns
+returns c = parts_judged c.args.order c.args.file.now (input_good c.args.order c.args.file.now (sym c.in_ok-judge_input.ensures))
     c.cell_at-n.result c.cell_at.result c.operands_in-operands.result c.cell_at-n.ensures c.cell_at.ensures c.operands_in-operands.ensures.1 c.args.size _ c.judge_pack.ensures
+
+pub returns-in_err-judge_input : goal.returns-in_err-judge_input
+returns-in_err-judge_input c = let p = err_from_is_err_and c.from_residual.result c.from_residual.ensures.1 in
+    rw (p.1, p.2) (sym (input_refused c.args.order c.args.file.now _ (sym c.in_err-judge_input.ensures) c.args.size))

@@ -1,15 +1,17 @@
 -- `unpack_comparing::compare::packs_to` meets its contract.
--- Assumes nothing.
-use mathlib.Core.Path.{sym, ap, ◌∙◌}
-use Rattle.packer.specs.Pack.{packed_to}
+use mathlib.Core.Path.{◌∙◌}
+use borrow.Author.Tests.{ne_eqb}
 use Rattle.unpack_comparing.proofs.Comparing.{packed_refused, packed_other, packed_same}
+use Rattle.unpack_comparing.proofs.Sameness.{same_is}
 use Rattle.unpack_comparing.proofs.compare.packs_to.Goals as goal
 
-pub returns-then-c-image : goal.returns-then-c-image
-returns-then-c-image c = packed_other c.args.order c.args.base.0 c.args.kinds.now c.args.operands.now c.args.image.now c.requires.operands_len.0 c.requires.image_value c.args.copy.now c.requires.operands_len.1 _ c.in-Cells.c (sym (ap (packed_to _) c.in-Cells.is) ∙ c.pack.ensures) c.if-c-image.true
+pub returns-in_default : goal.returns-in_default
+returns-in_default c = packed_refused c.args.order c.args.base.0 c.args.kinds.now c.args.operands.now c.args.image.now c.requires.operands_len.0 c.requires.image_value c.args.copy.now c.requires.operands_len.1 _ _ c.in_default.ensures
 
-pub returns-in-Refused : goal.returns-in-Refused
-returns-in-Refused c = packed_refused c.args.order c.args.base.0 c.args.kinds.now c.args.operands.now c.args.image.now c.requires.operands_len.0 c.requires.image_value c.args.copy.now c.requires.operands_len.1 _ _ (sym (ap (packed_to _) c.in-Refused.is) ∙ c.pack.ensures)
+pub returns-then-cells-image : goal.returns-then-cells-image
+returns-then-cells-image c = c.eq.ensures ∙ same_is _ _
+    ∙ packed_same c.args.order c.args.base.0 c.args.kinds.now c.args.operands.now c.args.image.now c.requires.operands_len.0 c.requires.image_value c.args.copy.now c.requires.operands_len.1 _ c.in-Ok.cells c.in-Ok.ensures c.if-cells-image.true
 
-pub returns-else-c-image : goal.returns-else-c-image
-returns-else-c-image c = c.same_bytes.ensures ∙ packed_same c.args.order c.args.base.0 c.args.kinds.now c.args.operands.now c.args.image.now c.requires.operands_len.0 c.requires.image_value c.args.copy.now c.requires.operands_len.1 _ c.in-Cells.c (sym (ap (packed_to _) c.in-Cells.is) ∙ c.pack.ensures) c.if-c-image.false
+pub returns-else-cells-image : goal.returns-else-cells-image
+returns-else-cells-image c = rw (ne_eqb _ _ c.if-cells-image.false)
+    (packed_other c.args.order c.args.base.0 c.args.kinds.now c.args.operands.now c.args.image.now c.requires.operands_len.0 c.requires.image_value c.args.copy.now c.requires.operands_len.1 _ c.in-Ok.cells c.in-Ok.ensures c.if-cells-image.false)

@@ -1,19 +1,21 @@
 -- `unpack_writing::arrays::write_listing` meets its contract.
--- Assumes nothing.
-use mathlib.Core.Path.{sym, ◌∙◌}
-use native.Mathlib.Omega.{arith}
-use lib.ListN.{length}
+use Rattle.std.proofs.Common.{length, sym, arith}
+use lib.ListN.{length-take}
 use Rattle.unpack_writing.proofs.Room.{arrays_room}
 use Rattle.unpack_writing.proofs.arrays.write_listing.Goals as goal
 
-pub copy_kinds-requires : goal.copy_kinds-requires
-copy_kinds-requires c = (arrays_room _ _ _ (sym c.judge_arrays-j.ensures ∙ c.in-Passed.is)).0
+pub slice_bounds-copy_from_slice-end-2 : goal.slice_bounds-copy_from_slice-end-2
+slice_bounds-copy_from_slice-end-2 c = let r = arrays_room (length c.args.ks.now) (length c.args.kinds.now) (length c.args.operands.now) (sym c.in_ok-judge_arrays.ensures) in
+    omega (arith, r.0, length-take (length c.args.ks.now) c.args.kinds.now)
 
-pub copy_operands-requires : goal.copy_operands-requires
-copy_operands-requires c = omega (arith, c.requires.0, (arrays_room (length c.args.ks.now) (length c.args.kinds.now) (length c.args.operands.now) (sym c.judge_arrays-j.ensures ∙ c.in-Passed.is)).1)
+pub copy_from_slice-requires : goal.copy_from_slice-requires
+copy_from_slice-requires c = let r = arrays_room (length c.args.ks.now) (length c.args.kinds.now) (length c.args.operands.now) (sym c.in_ok-judge_arrays.ensures) in
+    omega (arith, r.0, length-take (length c.args.ks.now) c.args.kinds.now)
 
-pub returns : goal.returns
-returns c = rw c.in-Passed.is (record {
-  value = sym c.in-Passed.is ∙ c.judge_arrays-j.ensures;
-  kinds_after = (c.copy_kinds.ensures, c.copy_operands.ensures);
-})
+pub slice_bounds-copy_from_slice-end-4 : goal.slice_bounds-copy_from_slice-end-4
+slice_bounds-copy_from_slice-end-4 c = let r = arrays_room (length c.args.ks.now) (length c.args.kinds.now) (length c.args.operands.now) (sym c.in_ok-judge_arrays.ensures) in
+    omega (arith, r.1, c.requires.0, length-take (length c.args.xs.now) c.args.operands.now)
+
+pub copy_from_slice-requires-2 : goal.copy_from_slice-requires-2
+copy_from_slice-requires-2 c = let r = arrays_room (length c.args.ks.now) (length c.args.kinds.now) (length c.args.operands.now) (sym c.in_ok-judge_arrays.ensures) in
+    omega (arith, r.1, c.requires.0, length-take (length c.args.xs.now) c.args.operands.now)

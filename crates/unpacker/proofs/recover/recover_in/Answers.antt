@@ -17,14 +17,6 @@ returns-then-n-gt-MOST_ITEMS c = let both = too_many c.args.order c.args.base.0 
   recovered = both.1;
 }
 
-pub packs_again-requires : goal.packs_again-requires
-packs_again-requires c = let h : c.read_items-n.result ≤ 4096 = omega (arith, c.if-n-gt-MOST_ITEMS.false) in
-    let k : length c.read_items-n.new.kinds ≡ 4096 = c.read_items-n.auto.kinds ∙ c.requires.kinds_len.0 in
-    let x : length c.read_items-n.new.held ≡ 4096 = c.read_items-n.auto.held ∙ c.requires.kinds_len.1 in record {
-      operands_len = (rw (part c.read_items-n.result) (length-take-le c.read_items-n.result c.read_items-n.new.held (omega arith) ∙ sym (length-take-le c.read_items-n.result c.read_items-n.new.kinds (omega arith))), c.requires.kinds_len.3);
-      image_value = c.requires.image_value;
-    }
-
 pub returns-then-packs_again : goal.returns-then-packs_again
 returns-then-packs_again c = let h : c.read_items-n.result ≤ 4096 = omega (arith, c.if-n-gt-MOST_ITEMS.false) in
     let k : length c.read_items-n.new.kinds ≡ 4096 = c.read_items-n.auto.kinds ∙ c.requires.kinds_len.0 in

@@ -1,2 +1,0 @@
--- Laws of reading in two parts.
-mod Reading

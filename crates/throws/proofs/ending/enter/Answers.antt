@@ -1,4 +1,0 @@
-use Rattle.throws.proofs.ending.enter.Goals as goal
-
-pub returns : goal.returns
-returns c = rw c.add.ensures
