@@ -7,14 +7,15 @@ ghost use Rattle.list_counting.specs.Outcomes as outcomes;
 use crate::{Carried, Ending, ItemRun};
 use list_machine::Outside;
 use list_proposing::Stand;
-use list_tables::tables::opens_cell;
+use list_tables::ItemRow;
+use list_tables::tables::row_of;
 
 // The cycles that an item counts.
-pub fn cycles_at(table: &[u32], s: Stand) -> u64
-    requires { (s.item.0 < tables.rows table.now) × (tables.rows table.now ≤ 4096) }
+pub fn cycles_at(table: &[ItemRow], s: Stand) -> u64
+    requires { s.item.0 < tables.rows table.now }
     ensures { result ≡ if (s.ran && tables.opens_in table.now s.item.0) 2 1 }
 {
-    if s.ran && opens_cell(table, s.item) {
+    if s.ran && row_of(table, s.item).opens {
         return 2;
     }
     1

@@ -1,7 +1,7 @@
 -- What a run of the list machine rests on once it passed, and what it answers.
 use mathlib.Core.Path.{◌≡◌, refl, ap, ◌∙◌}
 use mathlib.Core.List.{List}
-use Prim.Native.Nat.{ℕ, ◌*◌}
+use Prim.Native.Nat.{ℕ}
 use lib.ListN.{length}
 use Rattle.cell.specs.Memory.{cell_count}
 use Rattle.cell.specs.Refusals.{Lent, Judged, passed}
@@ -19,6 +19,7 @@ use Rattle.pack_prepare.proofs.Checking.{arrays_checked}
 use Rattle.list_machine.specs.Runs.{Course, goes_on, stopped_by, stood_outside, Run}
 use Rattle.list_tables.specs.Tables.{Rows, Settled}
 use Rattle.list_tables.specs.declared.Image.{Image}
+use Rattle.list_tables.specs.declared.ItemRow.{ItemRow}
 use Rattle.list_counting.specs.Outcomes.{course_of, run_as}
 use Rattle.list_counting.specs.declared.Ending.{Ending}
 use Rattle.list_counting.specs.declared.Ending.TheVariants as ending
@@ -46,8 +47,8 @@ module _ (len order : ℕ) (areas : Areas) (table : Table) (kinds operands : Lis
   begin_checked = arrays_checked kinds operands (both_pass (judge_bounded len order areas table) (judged_arrays kinds operands) e).1
 
 -- the table of a listing whose image passed
-pub image_settled : (kinds operands table : List ℕ) (base : ℕ) (cells : CellCount) (room : Judged) (image : Image) → Checked kinds operands
-    → length table ≡ 4 * length kinds → Rows (listed kinds operands) table (length kinds) → cells ≡ cell_count (image_cells (listed kinds operands))
+pub image_settled : (kinds operands : List ℕ) (table : List ItemRow) (base : ℕ) (cells : CellCount) (room : Judged) (image : Image) → Checked kinds operands
+    → length table ≡ length kinds → Rows (listed kinds operands) table (length kinds) → cells ≡ cell_count (image_cells (listed kinds operands))
     → image.base.0 ≡ base → image.cells ≡ cells → judge_image base cells.0 room ≡ passed → Settled kinds operands table image
 unfolding judge_image
 image_settled kinds operands table base cells room image ok whole rs e b c j =

@@ -17,14 +17,14 @@ use list_machine::Outside;
 use list_proposing::Stand;
 use list_shapes::Shape;
 use list_shapes::judging::{check_shape, then_of, writes};
-use list_tables::Image;
+use list_tables::{Image, ItemRow};
 use machine::{Machine, Then};
 
 // What follows the writes of an item in front of which the machine stands.
 fn intent_then(
     machine: Machine,
     memory: &[u8],
-    table: &[u32],
+    table: &[ItemRow],
     base: Address,
     s: Stand,
     shape: Shape,
@@ -62,7 +62,7 @@ fn judge_asked(machine: Machine, memory: &[u8], asked: Result<Shape, Fault>) -> 
 pub fn intent_of(
     machine: Machine,
     memory: &[u8],
-    table: &[u32],
+    table: &[ItemRow],
     image: Image,
     s: Stand,
     asked: Result<Shape, Fault>,

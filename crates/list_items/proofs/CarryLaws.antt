@@ -17,7 +17,8 @@ use Rattle.list_shapes.specs.Shapes.{shape_effect, Asked}
 use Rattle.list_effects.proofs.Alone.{Alone, raises, plain_alone, taking_alone}
 use Rattle.list_tables.specs.Tables.{immediate_in, rows, entry_below, Settled}
 use Rattle.list_tables.specs.declared.Image.{Image}
-use Rattle.list_tables.proofs.TableLaws.{rows_is, immediate_is, finds}
+use Rattle.list_tables.specs.declared.ItemRow.{ItemRow}
+use Rattle.list_tables.proofs.TableLaws.{rows_is, finds}
 use Rattle.list_proposing.specs.Stands.{position_of}
 use Rattle.list_judging.specs.Ways.{intent_of, performed}
 use Rattle.list_proposing.specs.declared.Stand.{Stand}
@@ -33,7 +34,7 @@ effect_alone machine base l p plain =
 effect_alone machine base l p (taking f t) =
     taking_alone machine p.memory (ep_value base l p.item) p.sp p.rp (Ok (operand_at machine base l p.item t)) (behind base l p.item) t
 
-module _ (kinds operands table : List ℕ) (image : Image) (s : Settled kinds operands table image) (machine : Machine) (m : List ℕ)
+module _ (kinds operands : List ℕ) (table : List ItemRow) (image : Image) (s : Settled kinds operands table image) (machine : Machine) (m : List ℕ)
     (st : Stand) (h : st.item.0 < length kinds) (n : Lent (length m)) (a : Asked)
     (means : asked (shape_effect machine m) a ≡ effect_at machine image.base.0 (listed kinds operands) (position_of m st)) where
   alone : Alone st.sp st.rp (asked (shape_effect machine m) a)
@@ -51,7 +52,7 @@ module _ (kinds operands table : List ℕ) (image : Image) (s : Settled kinds op
         e,
         s.size,
         rows_is kinds operands table image s,
-        immediate_is (listed kinds operands) table st.item.0 (s.rows st.item.0 h),
+        (s.rows st.item.0 h).immediate,
         regs_is kinds operands table image s machine m st h,
       )
       (intent_is machine image.base.0 (listed kinds operands) (entry_below table image.base.0 (length kinds))

@@ -16,7 +16,7 @@ use Rattle.list_machine.specs.Runs.{Course, goes_on, stood_outside, is_over as o
 use Rattle.list_machine.proofs.Cutting.{run_cut, run_over, run_inside, resuming_inside}
 use Rattle.list_tables.specs.Tables.{opens_in, Settled}
 use Rattle.list_tables.specs.declared.Image.{Image}
-use Rattle.list_tables.proofs.TableLaws.{open_is}
+use Rattle.list_tables.specs.declared.ItemRow.{ItemRow}
 use Rattle.list_proposing.specs.Stands.{position_of}
 use Rattle.list_proposing.specs.declared.Stand.{Stand}
 use Rattle.list_counting.specs.Outcomes.{carried_as, Left, left, leaves, memory_after, course_of, run_as, begun, counted, is_over}
@@ -125,11 +125,11 @@ module _ (machine : Machine) (base : ℕ) (l : Listing) (m0 : List ℕ) (start :
           })
 
 -- the cycles of an item, read from the table
-pub cycles_is : (kinds operands table : List ℕ) (image : Image) → Settled kinds operands table image → (machine : Machine) (m : List ℕ) (s : Stand)
+pub cycles_is : (kinds operands : List ℕ) (table : List ItemRow) (image : Image) → Settled kinds operands table image → (machine : Machine) (m : List ℕ) (s : Stand)
     → s.item.0 < length kinds → (k : ℕ) → k ≡ if (s.ran && opens_in table s.item.0) 2 1
     → k ≡ cycles_at machine image.base.0 (listed kinds operands) (position_of m s)
 cycles_is kinds operands table image t machine m s h k e =
-    e ∙ ap (λ (b : Bool). if (s.ran && b) 2 1) (open_is (listed kinds operands) table s.item.0 (t.rows s.item.0 h))
+    e ∙ ap (λ (b : Bool). if (s.ran && b) 2 1) (t.rows s.item.0 h).opens
 
 pub few_cycles : (b : Bool) (k : ℕ) → k ≡ if b 2 1 → k ≤ 2
 few_cycles true k e = omega arith

@@ -23,7 +23,7 @@ use list_proposing::Stand;
 use list_proposing::proposing::{registers_at, shape_of};
 use list_shapes::Shape;
 use list_shapes::carrying::commit_shape;
-use list_tables::Image;
+use list_tables::{Image, ItemRow};
 use machine::{CycleResult, Ended, Machine, Registers};
 use pack_layout::ItemNumber;
 use throws::ending::{handle, throw};
@@ -145,7 +145,7 @@ pub fn carry_out(
     memory: &mut [u8],
     kinds: &[u8],
     operands: &[u32],
-    table: &[u32],
+    table: &[ItemRow],
     image: Image,
     s: Stand,
 ) -> Carried

@@ -14,7 +14,7 @@ use crate::carrying::carry_out;
 use list_counting::ItemRun;
 use list_counting::tallying::{begin_run, count_item, cycles_at, is_over};
 use list_proposing::Stand;
-use list_tables::Image;
+use list_tables::{Image, ItemRow};
 use machine::Machine;
 
 // Items from where the machine stands, until it stops or as many as are asked for are done.
@@ -23,7 +23,7 @@ pub fn run_items(
     memory: &mut [u8],
     kinds: &[u8],
     operands: &[u32],
-    table: &[u32],
+    table: &[ItemRow],
     image: Image,
     start: Stand,
     items: u32,

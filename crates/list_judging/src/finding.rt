@@ -9,23 +9,25 @@ use crate::Way;
 use cell::Address;
 use cell::place::address_at;
 use list_machine::Outside;
-use list_tables::tables::{is_entry, place_of};
+use list_tables::ItemRow;
+use list_tables::tables::row_of;
 use pack_layout::ItemNumber;
 
 // An item is an entry whose cell is at this address.
-fn is_placed(table: &[u32], base: Address, item: ItemNumber, a: Address) -> bool
+fn is_placed(table: &[ItemRow], base: Address, item: ItemNumber, a: Address) -> bool
     requires near { tables.Near table.now base.0 }
     requires item_bound { item.0 < tables.rows table.now }
     ensures { result ≡ (tables.entry_in table.now item.0 && eqb (base.0 + 4 * tables.place_in table.now item.0) a.0) }
 {
-    is_entry(table, item) && address_at(base, place_of(table, item)).0 == a.0
+    let row = row_of(table, item);
+    row.entry && address_at(base, row.at).0 == a.0
 }
 
-pub fn entry_at(table: &[u32], base: Address, a: Address) -> Option<ItemNumber>
+pub fn entry_at(table: &[ItemRow], base: Address, a: Address) -> Option<ItemNumber>
     requires { tables.Near table.now base.0 }
     ensures { result ≡ tables.entry_below table.now base.0 (tables.rows table.now) a.0 }
 {
-    for i in (0..table.len() / 4).rev() {
+    for i in (0..table.len()).rev() {
         let item = ItemNumber(i as u32);
         if is_placed(table, base, item, a) {
             return Some(item);

@@ -14,14 +14,14 @@ use exceptions::code_of;
 use exceptions::fixed::{BAD_HANDLER, BAD_STACK, HANDLER_CELL};
 use list_machine::Outside;
 use list_shapes::judging::meets;
-use list_tables::Image;
-use list_tables::tables::is_immediate;
+use list_tables::tables::row_of;
+use list_tables::{Image, ItemRow};
 use machine::places::{check_named, check_push};
 use machine::{Exception, Machine};
 use pack_layout::ItemNumber;
 
 // 'THROW is h: an entry, -259, or outside.
-fn handler_way(machine: Machine, memory: &[u8], table: &[u32], base: Address, h: Address) -> Way
+fn handler_way(machine: Machine, memory: &[u8], table: &[ItemRow], base: Address, h: Address) -> Way
     requires { tables.Near table.now base.0 }
     ensures { result ≡ ways.handler_way machine memory.now (tables.entry_below table.now base.0 (tables.rows table.now)) h.0 }
 {
@@ -35,7 +35,7 @@ fn handler_way(machine: Machine, memory: &[u8], table: &[u32], base: Address, h:
 pub fn throw_way(
     machine: Machine,
     memory: &[u8],
-    table: &[u32],
+    table: &[ItemRow],
     image: Image,
     sp: u32,
     e: Exception,
@@ -60,7 +60,7 @@ pub fn throw_way(
 }
 
 // THROW, which pushes nothing.
-pub fn given_way(machine: Machine, memory: &[u8], table: &[u32], base: Address, sp: u32) -> Way
+pub fn given_way(machine: Machine, memory: &[u8], table: &[ItemRow], base: Address, sp: u32) -> Way
     requires in_bounds { 4 ≤ length memory.now }
     requires near { tables.Near table.now base.0 }
     ensures { result ≡ ways.given_way machine memory.now (tables.entry_below table.now base.0 (tables.rows table.now)) sp }
@@ -73,13 +73,13 @@ pub fn given_way(machine: Machine, memory: &[u8], table: &[u32], base: Address, 
 }
 
 // The item after this one.
-pub fn next_way(table: &[u32], item: ItemNumber) -> Way
+pub fn next_way(table: &[ItemRow], item: ItemNumber) -> Way
     requires { (item.0 < tables.rows table.now) × (tables.rows table.now ≤ 4096) }
     ensures { result ≡ ways.next_way (tables.rows table.now) item.0 (tables.immediate_in table.now item.0) }
 {
     let next = item.0 + 1;
-    if (next as usize) < table.len() / 4 {
-        return Way::To(ItemNumber(next), !is_immediate(table, item));
+    if (next as usize) < table.len() {
+        return Way::To(ItemNumber(next), !row_of(table, item).immediate);
     }
     Way::Outside(Outside::PastEnd)
 }

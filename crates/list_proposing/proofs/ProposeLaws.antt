@@ -22,12 +22,13 @@ use Rattle.list_machine.specs.ListMachine.{registers_at, effect_at}
 use Rattle.list_shapes.specs.Shapes.{taking_kind, Asked, Proposed}
 use Rattle.list_tables.specs.Tables.{place_in, next_in, behind_in, Settled}
 use Rattle.list_tables.specs.declared.Image.{Image}
+use Rattle.list_tables.specs.declared.ItemRow.{ItemRow}
 use Rattle.list_tables.proofs.TableLaws.{room, place_low, behind_room, next_is, behind_is, target_in, target_is}
 use Rattle.list_proposing.specs.Stands.{position_of, registers_for}
 use Rattle.list_proposing.specs.declared.Stand.{Stand}
 use Rattle.list_proposing.proofs.KindLaws.{lands, plain_effect, literal_effect, branch_effect}
 
-module _ (kinds operands table : List ℕ) (image : Image) (s : Settled kinds operands table image) (machine : Machine) (m : List ℕ)
+module _ (kinds operands : List ℕ) (table : List ItemRow) (image : Image) (s : Settled kinds operands table image) (machine : Machine) (m : List ℕ)
     (st : Stand) (h : st.item.0 < length kinds) where
   -- the registers of the item, as the code has them
   abbrev pub regs : Registers

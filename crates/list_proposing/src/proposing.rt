@@ -16,8 +16,8 @@ use cell::{Address, Fault};
 use list_effects::from_01::propose_from_01;
 use list_effects::taking::propose_taking;
 use list_shapes::Shape;
-use list_tables::Image;
-use list_tables::tables::{behind_of, next_of, place_of};
+use list_tables::tables::row_of;
+use list_tables::{Image, ItemRow};
 use machine::{Machine, Registers};
 use pack_judging::kinds::class_of;
 use pack_layout::{Class, ItemNumber};
@@ -36,12 +36,12 @@ fn registers_for(ep: Address, a: u32, s: Stand) -> Registers
 }
 
 // The registers at an item: its EP value, and no A.
-pub fn registers_at(table: &[u32], base: Address, s: Stand) -> Registers
-    requires item_bound { (s.item.0 < tables.rows table.now) × (tables.rows table.now ≤ 4096) }
+pub fn registers_at(table: &[ItemRow], base: Address, s: Stand) -> Registers
+    requires item_bound { s.item.0 < tables.rows table.now }
     requires item_bound_2 { base.0 + 4 * tables.next_in table.now s.item.0 < 2 ^ 32 }
     ensures { result ≡ stands.registers_for (base.0 + 4 * tables.next_in table.now s.item.0) 0 s }
 {
-    registers_for(address_at(base, next_of(table, s.item)), 0, s)
+    registers_for(address_at(base, row_of(table, s.item).next), 0, s)
 }
 
 // What an item asks for. An operand goes to the instruction in A, from which the address of a branch's target is measured. A listing that was accepted
@@ -51,7 +51,7 @@ pub fn shape_of(
     memory: &[u8],
     kinds: &[u8],
     operands: &[u32],
-    table: &[u32],
+    table: &[ItemRow],
     image: Image,
     s: Stand,
 ) -> Result<Shape, Fault>
@@ -66,7 +66,7 @@ pub fn shape_of(
     let opcode = kind as u32;
     let x = operands[i];
     let base = image.base;
-    let behind = behind_of(table, item);
+    let behind = row_of(table, item).behind;
     match class_of(kind) {
         Class::Plain => propose_from_01(machine, memory, registers_at(table, base, s), opcode),
         Class::Literal => {
@@ -74,7 +74,7 @@ pub fn shape_of(
             propose_taking(machine, memory, r, opcode)
         }
         Class::Branch => {
-            let to = distance_of(behind, place_of(table, ItemNumber(x)));
+            let to = distance_of(behind, row_of(table, ItemNumber(x)).at);
             let r = registers_for(address_at(base, behind), to, s);
             propose_taking(machine, memory, r, opcode)
         }

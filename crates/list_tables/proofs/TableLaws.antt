@@ -1,174 +1,106 @@
 -- The table of a settled layout: how a row is written, and what it says of one item.
-use mathlib.Core.Path.{◌≡◌, refl, ap, ◌∙◌}
-use mathlib.Core.Bool.{Bool, true, false}
+use mathlib.Core.Path.{◌≡◌, refl, sym, ap, ◌∙◌}
+use mathlib.Core.Bool.{Bool}
 use mathlib.Core.List.{List}
-use mathlib.Core.Logic.{◌≢◌, ⊎_elim}
-use Prim.Native.Nat.{ℕ, zero, suc, ◌+◌, ◌*◌, ◌/◌, ◌%◌, ◌^◌, ◌≤◌, ◌<◌}
+use mathlib.Core.Logic.{⊎_elim}
+use Prim.Native.Nat.{ℕ, zero, suc, ◌+◌, ◌*◌, ◌^◌, ◌≤◌, ◌<◌}
 use native.Mathlib.Nat.{eq-or-lt_of_le}
 use native.Mathlib.Omega.{arith}
 use lib.Dec.{eqb}
-use lib.ListN.{length, get_or, set, length-set}
+use lib.ListN.{length, get_or, set}
 use lib.Seq.{get_or-set_same, get_or-set_other}
 use Rattle.pack_layout.specs.Kinds as sorts
 use Rattle.pack_layout.specs.declared.Class.TheVariants as class
 use Rattle.pack_layout.specs.declared.ItemForm.{ItemForm}
-use Rattle.pack_layout.specs.Flags.{bit, Flags, flagged}
-use Rattle.pack_layout.specs.Listing.{Listing, listed, entry, Checked}
-use Rattle.pack_layout.specs.Layout.{extra, opens, mid, form_at, Laid}
+use Rattle.pack_layout.specs.declared.Class.{Class}
+use Rattle.pack_layout.specs.declared.PlacedItem.{PlacedItem}
+use Rattle.pack_layout.specs.Placed.{placed_at, marked_in}
+use Rattle.pack_layout.specs.Listing.{Listing, listed, Checked}
+use Rattle.pack_layout.specs.Layout.{extra, mid, form_at}
 use Rattle.pack_layout.specs.Packing as packing
 use Rattle.pack_layout.specs.Packing.{marks as marks_of, form_of, layout, image_cells, address_of, ep_value, behind, entry_at}
 use Rattle.pack_layout.proofs.Packing.{Placed, base_of}
 use Rattle.pack_layout.proofs.Placing.{left_le, at_most, at_before, reach, opens_is}
 use Rattle.pack_layout.proofs.Listing.{target_below, some_item}
+use Rattle.cell.specs.Memory.{cell_count}
+use Rattle.cell.specs.declared.CellCount.{CellCount}
+use Rattle.pack_prepare.specs.Prepared.{Prepared}
 use Rattle.list_machine.specs.ListMachine.{is_immediate}
-use Rattle.list_tables.specs.Tables.{place_in, next_in, behind_in, flags_in, flags_of, entry_in, opens_in, immediate_in, rows, with_row, entry_below, Near, Row, Rows, Settled}
+use Rattle.list_tables.specs.Tables.{no_row, place_in, next_in, behind_in, rows, entry_below, Near, Row, Rows, Settled}
+use Rattle.list_tables.specs.declared.ItemRow.{ItemRow}
 use Rattle.list_tables.specs.declared.Image.{Image}
 
--- the three flags, taken out of their number again
-entered_out : (a b c : Bool) → eqb (flags_of a b c % 2) 1 ≡ a
-entered_out true true true = refl
-entered_out true true false = refl
-entered_out true false true = refl
-entered_out true false false = refl
-entered_out false true true = refl
-entered_out false true false = refl
-entered_out false false true = refl
-entered_out false false false = refl
-
-open-out : (a b c : Bool) → eqb (flags_of a b c / 2 % 2) 1 ≡ b
-open-out true true true = refl
-open-out true true false = refl
-open-out true false true = refl
-open-out true false false = refl
-open-out false true true = refl
-open-out false true false = refl
-open-out false false true = refl
-open-out false false false = refl
-
-immediate_out : (a b c : Bool) → eqb (flags_of a b c / 4 % 2) 1 ≡ c
-immediate_out true true true = refl
-immediate_out true true false = refl
-immediate_out true false true = refl
-immediate_out true false false = refl
-immediate_out false true true = refl
-immediate_out false true false = refl
-immediate_out false false true = refl
-immediate_out false false false = refl
-
--- what a row says of its item
-module _ (l : Listing) (table : List ℕ) (i : ℕ) (row : Row l table i) where
-  pub entered_is : entry_in table i ≡ entry l i
-  entered_is = ap (λ (x : ℕ). eqb (x % 2) 1) row.flags ∙ entered_out (entry l i) (opens (layout l) i) (is_immediate (form_at (layout l) i))
-
-  pub open_is : opens_in table i ≡ opens (layout l) i
-  open_is = ap (λ (x : ℕ). eqb (x / 2 % 2) 1) row.flags ∙ open-out (entry l i) (opens (layout l) i) (is_immediate (form_at (layout l) i))
-
-  pub immediate_is : immediate_in table i ≡ is_immediate (form_at (layout l) i)
-  immediate_is =
-      ap (λ (x : ℕ). eqb (x / 4 % 2) 1) row.flags ∙ immediate_out (entry l i) (opens (layout l) i) (is_immediate (form_at (layout l) i))
-
 -- a row that is written: it stands there, and those before it stay
-module _ (table : List ℕ) (i at next behind flags : ℕ) (fits : 4 * i + 4 ≤ length table) where
-  abbrev new : List ℕ
-  new = with_row table i at next behind flags
+module _ (l : Listing) (table : List ItemRow) (i : ℕ) (v : ItemRow) (fits : i < length table) where
+  here : Row l (set table i v) i → (j : ℕ) → j ≡ i → Row l (set table i v) j
+  here r j e = rw e r
 
-  written : (place_in new i ≡ at) × (next_in new i ≡ next) × (behind_in new i ≡ behind) × (flags_in new i ≡ flags)
-  written =
-      let n1 : 4 * i ≢ 4 * i + 1 = omega arith in
-      let n2 : 4 * i ≢ 4 * i + 2 = omega arith in
-      let n3 : 4 * i ≢ 4 * i + 3 = omega arith in
-      let n4 : 4 * i + 1 ≢ 4 * i + 2 = omega arith in
-      let n5 : 4 * i + 1 ≢ 4 * i + 3 = omega arith in
-      let n6 : 4 * i + 2 ≢ 4 * i + 3 = omega arith in
-      let h0 : 4 * i < length table = omega arith in
-      let h1 : 4 * i + 1 < length (set table (4 * i) at) = simp length-set (omega arith) in
-      let h2 : 4 * i + 2 < length (set (set table (4 * i) at) (4 * i + 1) next) = simp length-set (omega arith) in
-      let h3 : 4 * i + 3 < length (set (set (set table (4 * i) at) (4 * i + 1) next) (4 * i + 2) behind) = simp length-set (omega arith) in
-      (simp (get_or-set_other, get_or-set_same), simp (get_or-set_other, get_or-set_same), simp (get_or-set_other, get_or-set_same), simp get_or-set_same)
+  before : (j : ℕ) → j < i → Row l table j → Row l (set table i v) j
+  before j h r =
+      let e = get_or-set_other table i j v no_row (λ (z : j ≡ i). omega arith) in
+      record {
+        place = ap (λ (x : ItemRow). x.at.0) e ∙ r.place;
+        next = ap (λ (x : ItemRow). x.next.0) e ∙ r.next;
+        behind = ap (λ (x : ItemRow). x.behind.0) e ∙ r.behind;
+        entry = ap (λ (x : ItemRow). x.entry) e ∙ r.entry;
+        opens = ap (λ (x : ItemRow). x.opens) e ∙ r.opens;
+        immediate = ap (λ (x : ItemRow). x.immediate) e ∙ r.immediate;
+      }
 
-  untouched : (k : ℕ) → k < 4 * i → get_or new k 0 ≡ get_or table k 0
-  untouched k h =
-      let n0 : k ≢ 4 * i = omega arith in
-      let n1 : k ≢ 4 * i + 1 = omega arith in
-      let n2 : k ≢ 4 * i + 2 = omega arith in
-      let n3 : k ≢ 4 * i + 3 = omega arith in
-      simp get_or-set_other
+  one_more : Row l (set table i v) i → Rows l table i → Rows l (set table i v) (i + 1)
+  one_more r rs j h = ⊎_elim (here r j) (λ (e : j < i). before j e (rs j e)) (eq-or-lt_of_le (let t : j ≤ i = omega arith in t))
 
-  -- the rows so far, and the next
-  module _ (l : Listing) (e0 : at ≡ (mid (layout l) i).at) (e1 : next ≡ (mid (layout l) i).next)
-      (e2 : behind ≡ (mid (layout l) i).next + extra (form_at (layout l) i))
-      (e3 : flags ≡ flags_of (entry l i) (opens (layout l) i) (is_immediate (form_at (layout l) i))) where
-    here : Row l new i
-    here =
-        record {
-          place = written.0 ∙ e0;
-          next = written.1 ∙ e1;
-          behind = written.2 ∙ e2;
-          flags = written.3 ∙ e3;
-        }
+-- the array of a layout, read for the row of item i
+module _ (kinds operands : List ℕ) (placed : List PlacedItem) (checked : Checked kinds operands)
+    (prepared : Prepared kinds operands placed) (i : ℕ) (h : i < length kinds) where
+  abbrev item : PlacedItem
+  item = placed_at placed i
 
-    before : (j : ℕ) → j < i → Row l table j → Row l new j
-    before j h r =
-        record {
-          place = untouched (4 * j) (omega arith) ∙ r.place;
-          next = untouched (4 * j + 1) (omega arith) ∙ r.next;
-          behind = untouched (4 * j + 2) (omega arith) ∙ r.behind;
-          flags = untouched (4 * j + 3) (omega arith) ∙ r.flags;
-        }
+  pub left_low : item.left ≤ 3
+  left_low = omega (arith, prepared.laid.left i h, left_le (layout (listed kinds operands)) i)
 
-    pub one_more : Rows l table i → Rows l new (i + 1)
-    one_more rs j h =
-        ⊎_elim (λ (e : j ≡ i). rw e here) (λ (e : j < i). before j e (rs j e))
-        (eq-or-lt_of_le (let t : j ≤ i = omega arith in t))
-
--- the arrays of a layout, read for the row of item i
-module _ (kinds operands entries marks ats nexts lefts : List ℕ) (checked : Checked kinds operands)
-    (entered : Flags entries (entry (listed kinds operands)) (length kinds)) (marked : flagged marks ≡ marks_of (listed kinds operands))
-    (laid : Laid (layout (listed kinds operands)) ats nexts lefts (length kinds)) (i : ℕ) (h : i < length kinds) where
-  pub left_low : get_or lefts i 0 ≤ 3
-  left_low = omega (arith, laid.left i h, left_le (layout (listed kinds operands)) i)
-
-  module _ (g : ItemForm) (form : g ≡ form_of (sorts.class_of (get_or kinds i 0)) (eqb (get_or marks i 0) 1) (get_or operands i 0) (get_or lefts i 0)) where
-    pub form_is : g ≡ form_at (layout (listed kinds operands)) i
-    unfolding flagged
+  module _ (c : Class) (sort : c ≡ sorts.class_of (get_or kinds i 0)) (g : ItemForm)
+      (form : g ≡ form_of c item.marked (get_or operands i 0) item.left) where
+    form_is : g ≡ form_at (layout (listed kinds operands)) i
+    unfolding marked_in
     form_is =
         form
-        ∙ ap (λ (b : Bool). form_of (sorts.class_of (get_or kinds i 0)) b (get_or operands i 0) (get_or lefts i 0)) (ap (λ (f : ℕ → Bool). f i) marked)
-        ∙ ap (λ (x : ℕ). form_of (sorts.class_of (get_or kinds i 0)) (marks_of (listed kinds operands) i) (get_or operands i 0) x) (laid.left i h)
+        ∙ ap (λ (k : Class). form_of k item.marked (get_or operands i 0) item.left) sort
+        ∙ ap (λ (f : ℕ → Bool). form_of (sorts.class_of (get_or kinds i 0)) (f i) (get_or operands i 0) item.left) prepared.settled
+        ∙ ap (λ (x : ℕ). form_of (sorts.class_of (get_or kinds i 0)) (marks_of (listed kinds operands) i) (get_or operands i 0) x)
+        (prepared.laid.left i h)
 
-    pub behind_low : (e : ℕ) → e ≡ extra g → get_or nexts i 0 + e ≤ 8192
-    behind_low e q =
-        rw (q, form_is)
-        (omega (
-          arith,
-          laid.next i h,
-          reach (layout (listed kinds operands)) i (length kinds) h,
-          at_most (layout (listed kinds operands)) (length kinds),
-          (some_item (listed kinds operands) checked.input).1,
-        ))
+    module _ (x : CellCount) (more : x ≡ cell_count (extra g)) where
+      pub behind_low : item.next.0 + x.0 ≤ 8192
+      behind_low =
+          rw (more, form_is)
+          (omega (
+            arith,
+            prepared.laid.next i h,
+            reach (layout (listed kinds operands)) i (length kinds) h,
+            at_most (layout (listed kinds operands)) (length kinds),
+            (some_item (listed kinds operands) checked.input).1,
+          ))
 
-    flags_are : (f : ℕ) (b : Bool) → b ≡ is_immediate g → f ≡ flags_of (eqb (get_or entries i 0) 1) (eqb (get_or lefts i 0) 3) b
-        → f ≡ flags_of (entry (listed kinds operands) i) (opens (layout (listed kinds operands)) i) (is_immediate (form_at (layout (listed kinds operands)) i))
-    flags_are f b z q =
-        q
-        ∙ rw (z, form_is, laid.left i h, ← opens_is (layout (listed kinds operands)) i)
-        (ap (λ (b : Bool). flags_of b (opens (layout (listed kinds operands)) i) (is_immediate (form_at (layout (listed kinds operands)) i)))
-        (flag_is (get_or entries i 0) (entry (listed kinds operands) i) (entered i h)))
-      where
-        flag_is : (x : ℕ) (b : Bool) → x ≡ bit b → eqb x 1 ≡ b
-        flag_is x true e = rw e
-        flag_is x false e = rw e
-
-    pub next_row : (table : List ℕ) → length table ≡ 4 * length kinds → (e f : ℕ) (b : Bool) → e ≡ extra g → b ≡ is_immediate g
-        → f ≡ flags_of (eqb (get_or entries i 0) 1) (eqb (get_or lefts i 0) 3) b
-        → Rows (listed kinds operands) table i
-        → Rows (listed kinds operands) (with_row table i (get_or ats i 0) (get_or nexts i 0) (get_or nexts i 0 + e) f) (i + 1)
-    next_row table whole e f b q z w rs =
-        one_more table i (get_or ats i 0) (get_or nexts i 0) (get_or nexts i 0 + e) f (omega arith) (listed kinds operands)
-        (laid.at i h) (laid.next i h) (rw (q, form_is, laid.next i h)) (flags_are f b z w) rs
+      pub next_row : (table : List ItemRow) → length table ≡ length kinds → (v : ItemRow) → v.at.0 ≡ item.at.0 → v.next.0 ≡ item.next.0
+          → v.behind.0 ≡ item.next.0 + x.0 → v.entry ≡ item.entry → v.opens ≡ eqb item.left 3 → v.immediate ≡ is_immediate g
+          → Rows (listed kinds operands) table i → Rows (listed kinds operands) (set table i v) (i + 1)
+      next_row table whole v at next behind entered opened short rs =
+          let l = listed kinds operands in
+          let e = get_or-set_same table i v no_row (omega arith) in
+          one_more l table i v (omega arith)
+          (record {
+            place = ap (λ (x : ItemRow). x.at.0) e ∙ at ∙ prepared.laid.at i h;
+            next = ap (λ (x : ItemRow). x.next.0) e ∙ next ∙ prepared.laid.next i h;
+            behind = ap (λ (x : ItemRow). x.behind.0) e ∙ behind ∙ rw (more, form_is, prepared.laid.next i h);
+            entry = ap (λ (x : ItemRow). x.entry) e ∙ entered ∙ prepared.entered i h;
+            opens = ap (λ (x : ItemRow). x.opens) e ∙ opened ∙ ap (λ (k : ℕ). eqb k 3) (prepared.laid.left i h) ∙ sym (opens_is (layout l) i);
+            immediate = ap (λ (x : ItemRow). x.immediate) e ∙ short ∙ ap is_immediate form_is;
+          })
+          rs
 
 -- what a settled table gives for the run
-module _ (kinds operands table : List ℕ) (image : Image) (s : Settled kinds operands table image) where
+module _ (kinds operands : List ℕ) (table : List ItemRow) (image : Image) (s : Settled kinds operands table image) where
   abbrev l : Listing
   l = listed kinds operands
 
@@ -240,7 +172,7 @@ module _ (kinds operands table : List ℕ) (image : Image) (s : Settled kinds op
   unfolding entry_below packing.entry_below
   entry_in_lem zero a h = refl
   entry_in_lem (suc i) a h =
-      rw (entered_is l table i (s.rows i (omega arith)), (s.rows i (omega arith)).place, entry_in_lem i a (omega arith))
+      rw ((s.rows i (omega arith)).entry, (s.rows i (omega arith)).place, entry_in_lem i a (omega arith))
 
   pub finds : (a : ℕ) → entry_below table base (length kinds) a ≡ entry_at base l a
   unfolding entry_at

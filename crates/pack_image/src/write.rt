@@ -1,13 +1,14 @@
 // Cells of an image, and their bytes in a lent output.
 #![tactic(auto, unfolding(pack_layout::specs::Bytes::pack))]
 
-ghost use Rattle.std.specs.Prelude.{true, false, ◌≡◌, ◌+◌, ◌*◌, ◌≤◌, ◌<◌, length, get_or};
+ghost use Rattle.std.specs.Prelude.{true, false, ◌≡◌, ◌+◌, ◌*◌, ◌≤◌, ◌<◌, length};
 ghost use Rattle.std.proofs.lemmas.List.Edits.{sets};
 ghost use Rattle.cell.specs.Memory.{cell_bytes, cell_count};
 ghost use Rattle.cell.specs.Choice.{if};
 ghost use Rattle.pack_layout.specs.Kinds.{class_of, is_branch};
 ghost use Rattle.pack_layout.specs.Bytes.{pack};
-ghost use Rattle.pack_layout.specs.Flags.{bit, flagged};
+ghost use Rattle.pack_layout.specs.Flags.{bit};
+ghost use Rattle.pack_layout.specs.Placed.{placed_at, marked_in};
 ghost use Rattle.pack_layout.specs.Listing.{listed, Checked};
 ghost use Rattle.pack_layout.specs.Layout.{extra, Laid};
 ghost use Rattle.pack_layout.specs.Image.{byte_of, above};
@@ -18,12 +19,13 @@ use cell::memory::store_at;
 use cell::{Address, CellCount};
 use pack_judging::entries::is_branch;
 use pack_judging::kinds::class_of;
-use pack_layout::{ItemForm, ItemNumber};
+use pack_layout::{ItemForm, ItemNumber, PlacedItem};
 use pack_rounds::mark::place_of;
 use pack_rounds::measure::value_of;
 use pack_rounds::place::form_of;
 
 // Stores a cell at its index.
+#[tactic(auto, using(cell::proofs::StoreLaws::store_sets))]
 fn put_cell(order: u8, out: &mut [u8], index: CellCount, x: u32)
     requires { (index.0 ≤ 8192) × (4 * index.0 + 4 ≤ length out.old) }
     ensures { out.new ≡ sets out.old (4 * index.0) (cell_bytes order x) }
@@ -64,12 +66,12 @@ fn pack_of(b: u32, x: u32) -> u32
 }
 
 // The index of a branch's target.
-fn target_of(kind: u8, x: u32, ats: &[u32]) -> CellCount
-    requires { is_branch (class_of kind) ≡ true → x < length ats.now }
-    ensures { result ≡ cell_count (if (is_branch (class_of kind)) (get_or ats.now x 0) 0) }
+fn target_of(kind: u8, x: u32, placed: &[PlacedItem]) -> CellCount
+    requires { is_branch (class_of kind) ≡ true → x < length placed.now }
+    ensures { result ≡ cell_count (if (is_branch (class_of kind)) (placed_at placed.now x).at.0 0) }
 {
     if is_branch(kind) {
-        return place_of(ats, ItemNumber(x));
+        return place_of(placed, ItemNumber(x));
     }
     CellCount(0)
 }
@@ -105,23 +107,15 @@ struct PackedItem {
     value: u32,
 }
 
-// The form and the value of an item with operand x, f bytes left behind its opcode, and next the index of its EP value.
-fn pack_item(
-    kind: u8,
-    marked: bool,
-    x: u32,
-    f: u32,
-    next: CellCount,
-    ats: &[u32],
-    base: Address,
-) -> PackedItem
-    requires { (f ≤ 3) × (base.0 ≤ 16777216) × (is_branch (class_of kind) ≡ true → (x < length ats.now) × (get_or ats.now x 0 ≤ 8192)) }
-    ensures { (result.form ≡ form_of (class_of kind) marked x f) × (result.value ≡ value_of (class_of kind) result.form x next.0 (if (is_branch (class_of kind)) (get_or ats.now x 0) 0) base.0) }
+// The form and the value of an item with operand x.
+fn pack_item(kind: u8, x: u32, item: PlacedItem, placed: &[PlacedItem], base: Address) -> PackedItem
+    requires { (item.left ≤ 3) × (base.0 ≤ 16777216) × (is_branch (class_of kind) ≡ true → (x < length placed.now) × ((placed_at placed.now x).at.0 ≤ 8192)) }
+    ensures { (result.form ≡ form_of (class_of kind) item.marked x item.left) × (result.value ≡ value_of (class_of kind) result.form x item.next.0 (if (is_branch (class_of kind)) (placed_at placed.now x).at.0 0) base.0) }
 {
     let c = class_of(kind);
-    let g = form_of(c, marked, x, f);
-    let to = target_of(kind, x, ats);
-    let v = value_of(c, g, x, next, to, base);
+    let g = form_of(c, item.marked, x, item.left);
+    let to = target_of(kind, x, placed);
+    let v = value_of(c, g, x, item.next, to, base);
     PackedItem { form: g, value: v }
 }
 
@@ -135,34 +129,31 @@ fn word_of(kind: u8, g: ItemForm, v: u32, rest: u32) -> u32
 }
 
 // Writes the image of a settled layout, from the last item to the first.
+#[tactic(auto, using(crate::proofs::Writing::write_end))]
 pub fn write_image(
     order: u8,
     base: Address,
     kinds: &[u8],
     operands: &[u32],
-    marks: &[u8],
-    ats: &[u32],
-    nexts: &[u32],
-    lefts: &[u32],
+    placed: &[PlacedItem],
     out: &mut [u8],
 )
     requires checked { Checked kinds.now operands.now }
-    requires marks_len { (length marks.now ≡ length kinds.now) × (length ats.now ≡ length kinds.now) × (length nexts.now ≡ length kinds.now) × (length lefts.now ≡ length kinds.now) }
-    requires marks_value { flagged marks.now ≡ marks_of (listed kinds.now operands.now) }
-    requires laid { Laid (layout (listed kinds.now operands.now)) ats.now nexts.now lefts.now (length kinds.now) }
+    requires placed_len { length placed.now ≡ length kinds.now }
+    requires marks_value { marked_in placed.now ≡ marks_of (listed kinds.now operands.now) }
+    requires laid { Laid (layout (listed kinds.now operands.now)) placed.now (length kinds.now) }
     requires base_bound { (base.0 ≤ 16777216) × (4 * image_cells (listed kinds.now operands.now) ≤ length out.old) }
     ensures { out.new ≡ written order (image base.0 (listed kinds.now operands.now)) out.old }
 {
     let mut rest: u32 = 0;
     for i in (0..kinds.len()).rev() {
-        let f = lefts[i];
-        let next = CellCount(nexts[i]);
+        let item = placed[i];
         let kind = kinds[i];
-        let p = pack_item(kind, marks[i] == 1, operands[i], f, next, ats, base);
+        let p = pack_item(kind, operands[i], item, placed, base);
         let g = p.form;
         let v = p.value;
-        put_operand(order, out, g, next, v);
+        put_operand(order, out, g, item.next, v);
         let w = word_of(kind, g, v, rest);
-        rest = put_opened(order, out, f == 3, CellCount(ats[i]), w);
+        rest = put_opened(order, out, item.left == 3, item.at, w);
     }
 }

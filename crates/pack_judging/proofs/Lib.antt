@@ -1,4 +1,4 @@
 -- Laws that belong to no one function.
-pub mod Flags
+pub mod Passes
 pub mod Steps
 pub mod Reading

@@ -1,11 +1,11 @@
-// The entries of a listing, as flags.
+// The entries of a listing.
 ghost use Rattle.std.specs.Prelude.{◌≡◌, ◌<◌, length, get_or};
 ghost use Rattle.pack_layout.specs.Kinds.{class_of, is_branch};
-ghost use Rattle.pack_layout.specs.Flags.{Flags};
+ghost use Rattle.pack_layout.specs.Placed.{Entered};
 ghost use Rattle.pack_layout.specs.Listing.{listed, calls, after_call, entry, Checked};
 
 use crate::kinds::class_of;
-use pack_layout::{Class, ItemNumber};
+use pack_layout::{Class, ItemNumber, PlacedItem};
 
 // Whether a kind is EXECUTE, @EXECUTE or CALL.
 pub fn is_call(kind: u8) -> bool
@@ -21,39 +21,40 @@ pub fn is_branch(kind: u8) -> bool
 }
 
 // Item 0, and each item after a call.
-fn after_calls(kinds: &[u8], entries: &mut [u8])
-    requires { (0 < length kinds.now) × (length entries.old ≡ length kinds.now) }
-    ensures { Flags entries.new (after_call (λ i. get_or kinds.now i 0)) (length kinds.now) }
+fn after_calls(kinds: &[u8], placed: &mut [PlacedItem])
+    requires { (0 < length kinds.now) × (length placed.old ≡ length kinds.now) }
+    ensures { Entered placed.new (after_call (λ i. get_or kinds.now i 0)) (length kinds.now) }
 {
     let n = kinds.len();
-    entries[0] = 1;
+    placed[0].entry = true;
     for i in 1..n {
-        entries[i] = u8::from(is_call(kinds[i - 1]));
+        placed[i].entry = is_call(kinds[i - 1]);
     }
 }
 
 // Each branch's target.
-#[tactic(auto, using(crate::proofs::Flags::targets_none))]
-fn add_targets(kinds: &[u8], operands: &[u32], entries: &mut [u8])
+#[tactic(auto, using(crate::proofs::Passes::targets_none, crate::proofs::Passes::target_inside))]
+fn add_targets(kinds: &[u8], operands: &[u32], placed: &mut [PlacedItem])
     requires checked { Checked kinds.now operands.now }
-    requires entries_len { (length entries.old ≡ length kinds.now) × Flags entries.old (after_call (λ i. get_or kinds.now i 0)) (length kinds.now) }
-    ensures { Flags entries.new (entry (listed kinds.now operands.now)) (length kinds.now) }
+    requires placed_len { (length placed.old ≡ length kinds.now) × Entered placed.old (after_call (λ i. get_or kinds.now i 0)) (length kinds.now) }
+    ensures { Entered placed.new (entry (listed kinds.now operands.now)) (length kinds.now) }
 {
     let n = kinds.len();
     for j in 0..n {
         if is_branch(kinds[j]) {
             let target = ItemNumber(operands[j]);
-            entries[target.0 as usize] = 1;
+            placed[target.0 as usize].entry = true;
         }
     }
 }
 
 // Every entry.
-pub fn find_entries(kinds: &[u8], operands: &[u32], entries: &mut [u8])
+#[tactic(auto, using(pack_layout::proofs::Listing::some_item))]
+pub fn find_entries(kinds: &[u8], operands: &[u32], placed: &mut [PlacedItem])
     requires checked { Checked kinds.now operands.now }
-    requires entries_len { length entries.old ≡ length kinds.now }
-    ensures { Flags entries.new (entry (listed kinds.now operands.now)) (length kinds.now) }
+    requires placed_len { length placed.old ≡ length kinds.now }
+    ensures { Entered placed.new (entry (listed kinds.now operands.now)) (length kinds.now) }
 {
-    after_calls(kinds, entries);
-    add_targets(kinds, operands, entries);
+    after_calls(kinds, placed);
+    add_targets(kinds, operands, placed);
 }

@@ -5,6 +5,7 @@ ghost use Rattle.pack_layout.specs.Kinds.{class_of};
 use pack_layout::Class;
 
 // The class of a kind byte.
+#[tactic(auto, using(pack_layout::proofs::Classes::one_of, pack_layout::proofs::Classes::high_is_none, pack_layout::proofs::Classes::none_of, pack_layout::proofs::Classes::else_plain), unfolding(pack_layout::specs::Kinds::class_of))]
 pub fn class_of(kind: u8) -> Class
     ensures { result ≡ class_of kind }
 {

@@ -1,8 +1,10 @@
 -- Where the items of a listing go. Document 01, Listings: an entry begins a cell, and so does an item that finds no free byte; any other
 -- takes the next byte.
-use Rattle.std.specs.Prelude.{◌≡◌, Bool, true, false, List, ℕ, zero, suc, ◌+◌, ◌-◌, ◌<◌, get_or}
+use Rattle.std.specs.Prelude.{◌≡◌, Bool, true, false, List, ℕ, zero, suc, ◌+◌, ◌-◌, ◌<◌}
 use Rattle.pack_layout.specs.declared.Cursor.{Cursor}
 use Rattle.pack_layout.specs.declared.ItemForm.{ItemForm}
+use Rattle.pack_layout.specs.declared.PlacedItem.{PlacedItem}
+use Rattle.pack_layout.specs.Placed.{placed_at}
 pub use Rattle.pack_layout.specs.declared.ItemForm.TheVariants.{Alone as alone, Immediate as immediate, InCell as in_cell}
 
 -- where the layout stands: at, the index of the open cell; free, the bytes left in it, 0 if none is open or it is full; next, the index
@@ -71,8 +73,8 @@ module _ (p : Plan) where
   abbrev pub form_at : ℕ → ItemForm
   form_at i = p.form i (left i)
 
--- arrays hold, for each of the first n items, the indexes of its cell and of its EP value, and the bytes left behind its opcode
-pub record Laid (p : Plan) (ats nexts lefts : List ℕ) (n : ℕ) : Type 0 where
-  pub at : (j : ℕ) → j < n → get_or ats j 0 ≡ (mid p j).at
-  pub next : (j : ℕ) → j < n → get_or nexts j 0 ≡ (mid p j).next
-  pub left : (j : ℕ) → j < n → get_or lefts j 0 ≡ left p j
+-- the array holds, for each of the first n items, the indexes of its cell and of its EP value, and the bytes left behind its opcode
+pub record Laid (p : Plan) (placed : List PlacedItem) (n : ℕ) : Type 0 where
+  pub at : (j : ℕ) → j < n → (placed_at placed j).at.0 ≡ (mid p j).at
+  pub next : (j : ℕ) → j < n → (placed_at placed j).next.0 ≡ (mid p j).next
+  pub left : (j : ℕ) → j < n → (placed_at placed j).left ≡ left p j

@@ -3,6 +3,7 @@ pub mod Grounds
 pub mod Kinds
 pub mod Bytes
 pub mod Flags
+pub mod Placed
 pub mod Listing
 pub mod File
 pub mod Layout

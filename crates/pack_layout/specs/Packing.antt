@@ -6,7 +6,8 @@ use Rattle.pack_layout.specs.declared.Class.{Class}
 use Rattle.pack_layout.specs.declared.ItemForm.{ItemForm}
 use Rattle.pack_layout.specs.declared.ItemNumber.{ItemNumber}
 use Rattle.pack_layout.specs.Bytes.{fits}
-use Rattle.pack_layout.specs.Flags.{flagged}
+use Rattle.pack_layout.specs.declared.PlacedItem.{PlacedItem}
+use Rattle.pack_layout.specs.Placed.{placed_at, marked_in, with_mark}
 use Rattle.pack_layout.specs.Kinds.{class_of, plain, literal, branch, no_kind}
 use Rattle.pack_layout.specs.Grounds.{out_of_place}
 use Rattle.pack_layout.specs.Listing.{Listing, entry, judged_listing}
@@ -82,9 +83,10 @@ module _ (l : Listing) where
 abbrev pub judged_place : ℕ → ℕ → Judged
 judged_place base size = judge (unaligned base ∷ out_of_place base size ∷ [])
 
--- arrays of marks before and after a round, for the first n items
-abbrev pub Marked : Listing → List ℕ → List ℕ → ℕ → Type 0
-Marked l before after n = (j : ℕ) → j < n → flagged after j ≡ (flagged before j || new l (flagged before) j)
+-- the array before and after a round of marking, for the first n items: nothing but marks changes
+abbrev pub Marked : Listing → List PlacedItem → List PlacedItem → ℕ → Type 0
+Marked l before after n =
+    (j : ℕ) → j < n → placed_at after j ≡ with_mark (marked_in before j || new l (marked_in before) j) (placed_at before j)
 
 -- the entry that an address leads to, if any
 abbrev pub Entry : Type 0

@@ -33,5 +33,25 @@ pub enum Class {
     NoKind,
 }
 
+// What a packing keeps of one item: the index of its cell, the index of its EP value, the bytes left behind its opcode, and whether it is an
+// entry and is marked.
+#[derive(Clone, Copy)]
+pub struct PlacedItem {
+    pub at: CellCount,
+    pub next: CellCount,
+    pub left: u32,
+    pub entry: bool,
+    pub marked: bool,
+}
+
+// An item before it is laid out.
+pub const UNPLACED: PlacedItem = PlacedItem {
+    at: CellCount(0),
+    next: CellCount(0),
+    left: 0,
+    entry: false,
+    marked: false,
+};
+
 // The items that a listing has at most, and so the places of a working array.
 pub const MOST_ITEMS: usize = 4096;

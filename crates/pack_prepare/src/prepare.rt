@@ -5,30 +5,22 @@ ghost use Rattle.std.specs.Prelude.{◌≡◌, length};
 ghost use Rattle.cell.specs.Memory.{cell_count};
 ghost use Rattle.pack_layout.specs.Listing.{listed, Checked};
 ghost use Rattle.pack_layout.specs.Packing.{image_cells};
-ghost use Rattle.pack_prepare.specs.Prepared.{Places, Prepared};
+ghost use Rattle.pack_prepare.specs.Prepared.{Prepared};
 
 use cell::CellCount;
 use pack_judging::entries::find_entries;
-use pack_layout::MOST_ITEMS;
+use pack_layout::{MOST_ITEMS, PlacedItem, UNPLACED};
 use pack_rounds::settle::settle_marks;
 
-// Fills the working arrays. The answer is the number of cells of the image.
-pub fn prepare(
-    kinds: &[u8],
-    operands: &[u32],
-    entries: &mut [u8],
-    marks: &mut [u8],
-    ats: &mut [u32],
-    nexts: &mut [u32],
-    lefts: &mut [u32],
-) -> CellCount
+// Fills the working array. The answer is the number of cells of the image.
+pub fn prepare(kinds: &[u8], operands: &[u32], placed: &mut [PlacedItem]) -> CellCount
     requires checked { Checked kinds.now operands.now }
-    requires places { Places (length kinds.now) entries.old marks.old ats.old nexts.old lefts.old }
+    requires placed_len { length placed.old ≡ length kinds.now }
     ensures value { result ≡ cell_count (image_cells (listed kinds.now operands.now)) }
-    ensures prepared { Prepared kinds.now operands.now entries.new marks.new ats.new nexts.new lefts.new }
+    ensures prepared { Prepared kinds.now operands.now placed.new }
 {
-    find_entries(kinds, operands, entries);
-    settle_marks(kinds, operands, entries, marks, ats, nexts, lefts)
+    find_entries(kinds, operands, placed);
+    settle_marks(kinds, operands, placed)
 }
 
 // The number of cells of the image.
@@ -37,18 +29,6 @@ pub fn count_cells(kinds: &[u8], operands: &[u32]) -> CellCount
     ensures { result ≡ cell_count (image_cells (listed kinds.now operands.now)) }
 {
     let n = kinds.len();
-    let mut entries = [0u8; MOST_ITEMS];
-    let mut marks = [0u8; MOST_ITEMS];
-    let mut ats = [0u32; MOST_ITEMS];
-    let mut nexts = [0u32; MOST_ITEMS];
-    let mut lefts = [0u32; MOST_ITEMS];
-    prepare(
-        kinds,
-        operands,
-        &mut entries[0..n],
-        &mut marks[0..n],
-        &mut ats[0..n],
-        &mut nexts[0..n],
-        &mut lefts[0..n],
-    )
+    let mut placed = [UNPLACED; MOST_ITEMS];
+    prepare(kinds, operands, &mut placed[0..n])
 }

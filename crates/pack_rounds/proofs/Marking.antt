@@ -1,6 +1,6 @@
 -- One step of the mark pass.
 -- Assumes nothing.
-use Rattle.std.proofs.Common.{◌≡◌, ℕ, zero, suc, ◌+◌, ◌<◌, ◌≤◌, Bool, true, false, ◌||◌, List, length, get_or, set, sym, refl, ap, ◌∙◌, ⊎_elim, le_of_suc-le-suc, eq-or-lt_of_le, add-one, arith, length-set, get_or-set_other, get_or-set_same, ne_eqb}
+use Rattle.std.proofs.Common.{◌≡◌, ℕ, zero, suc, ◌+◌, ◌<◌, ◌≤◌, Bool, true, false, ◌||◌, List, length, set, sym, refl, ap, ◌∙◌, add-one, arith}
 use Rattle.cell.specs.Refusals.{passed}
 use mathlib.Core.Path.{fun_ext}
 use mathlib.Core.Bool.{or-true, or-false}
@@ -8,17 +8,19 @@ use native.Mathlib.Decide.{dec_lt}
 use lib.ListN.{get_or-eq_default}
 use Rattle.pack_layout.specs.declared.Class.{Class}
 use Rattle.pack_layout.specs.declared.ItemForm.{ItemForm}
+use Rattle.pack_layout.specs.declared.PlacedItem.{PlacedItem}
 use Rattle.pack_layout.specs.declared.Class.TheVariants.{Plain as plain, Literal as literal, Branch as branch, NoKind as no_kind}
-use Rattle.pack_layout.specs.Kinds.{class_of}
+use Rattle.pack_layout.specs.Kinds.{class_of, is_branch}
 use Rattle.pack_layout.specs.Bytes.{fits}
-use Rattle.pack_layout.specs.Flags.{flagged}
+use Rattle.pack_layout.specs.Placed.{unplaced, placed_at, marked_in, with_mark}
 use Rattle.pack_layout.specs.Listing.{Listing, listed, any, judged_listing}
-use Rattle.pack_layout.specs.Layout.{mid, left, Laid}
+use Rattle.pack_layout.specs.Layout.{Plan, mid, left, Laid}
 use Rattle.pack_layout.specs.Rounds.{rounds}
 use Rattle.pack_layout.specs.Packing.{form_of, distance, new_of, plan, new, Marked}
 use Rattle.pack_layout.proofs.Placing.{left_le}
-use Rattle.pack_layout.proofs.Listing.{target_below}
+use Rattle.pack_layout.proofs.Listing.{is_branch_lem, target_below}
 use Rattle.pack_layout.proofs.Rounds.{any_none}
+use Rattle.pack_judging.proofs.Passes.{Passing, pass_start, pass_here, pass_write, pass_over}
 
 new_same : (c : Class) (g : ItemForm) (a b : Bool) → (c ≡ branch → a ≡ b) → new_of c g a ≡ new_of c g b
 new_same plain g a b h = refl
@@ -26,91 +28,107 @@ new_same literal g a b h = refl
 new_same branch g a b h = ap (new_of branch g) (h refl)
 new_same no_kind g a b h = refl
 
--- what the code tests at item i, from the arrays of a layout
-module _ (l : Listing) (ok : judged_listing l ≡ passed) (m : ℕ → Bool) (ats nexts lefts : List ℕ)
-    (laid : Laid (plan l m) ats nexts lefts l.count) where
-  pub new_at : (i : ℕ) → i < l.count
-      → new_of (class_of (l.kind i)) (form_of (class_of (l.kind i)) (m i) (l.operand i) (get_or lefts i 0))
-      (fits (get_or lefts i 0) (distance (get_or nexts i 0) (get_or ats (l.operand i) 0))) ≡ new l m i
-  new_at i h =
+-- what the code tests at item i, from the array of a layout
+module _ (l : Listing) (ok : judged_listing l ≡ passed) (m : ℕ → Bool) (placed : List PlacedItem) (laid : Laid (plan l m) placed l.count)
+    (i : ℕ) (h : i < l.count) where
+  abbrev item : PlacedItem
+  item = placed_at placed i
+
+  abbrev tested : Bool → Bool
+  tested mark =
+      new_of (class_of (l.kind i)) (form_of (class_of (l.kind i)) mark (l.operand i) item.left)
+      (fits item.left (distance item.next.0 (placed_at placed (l.operand i)).at.0))
+
+  pub left_small : item.left ≤ 3
+  left_small = rw (laid.left i h) (left_le (plan l m) i)
+
+  new_at : tested (m i) ≡ new l m i
+  new_at =
       rw (laid.left i h, laid.next i h)
       (new_same (class_of (l.kind i)) _ _ _
       (λ q. ap (λ (to : ℕ). fits (left (plan l m) i) (distance (mid (plan l m) i).next to))
       (laid.at (l.operand i) (target_below l ok i h q))))
 
-pub record MarkStep (l : Listing) (before : List ℕ) (n : ℕ) (marks : List ℕ) (added : Bool) (i : ℕ) : Type 0 where
-  pub inside : i ≤ n
-  pub size : length marks ≡ n
-  pub some : added ≡ any (new l (flagged before)) i
-  pub done : Marked l before marks i
-  pub rest : (j : ℕ) → i ≤ j → get_or marks j 0 ≡ get_or before j 0
+  pub test_is : item.marked ≡ m i → (r : Bool) → r ≡ tested item.marked → r ≡ new l m i
+  test_is same r q = q ∙ ap tested same ∙ new_at
 
-module _ (l : Listing) (before : List ℕ) (n : ℕ) (marks : List ℕ) (added : Bool) (i : ℕ)
-    (t : MarkStep l before n marks added i) (h : i < n) where
-  pub as_before : flagged marks i ≡ flagged before i
-  unfolding flagged
-  as_before = rw (t.rest i (omega arith))
+-- an item that the pass has marked, or left as it was
+abbrev pub MarkedItem : Listing → (ℕ → Bool) → ℕ → PlacedItem → PlacedItem → Type 0
+MarkedItem l m j before after = after ≡ with_mark (m j || new l m j) before
 
-  any_more : (b : Bool) → new l (flagged before) i ≡ b → any (new l (flagged before)) (i + 1) ≡ (b || added)
-  unfolding any
-  any_more b q = rw (add-one i, q, t.some)
+-- what the pass keeps before item i
+pub record MarkStep (l : Listing) (before placed : List PlacedItem) (added : Bool) (i : ℕ) : Type 0 where
+  pub pass : Passing (MarkedItem l (marked_in before)) before placed l.count i
+  pub laid : Laid (plan l (marked_in before)) before l.count
+  pub ok : judged_listing l ≡ passed
+  pub some : added ≡ any (new l (marked_in before)) i
 
-  Done : List ℕ → ℕ → Type 0
-  Done s j = flagged s j ≡ (flagged before j || new l (flagged before) j)
-
-  split : (s : List ℕ) → ((j : ℕ) → j < i → Done s j) → Done s i → Marked l before s (i + 1)
-  unfolding Done
-  split s f here j k =
-      ⊎_elim (λ (e : j ≡ i). rw e here) (λ (e : j < i). f j e)
-      (eq-or-lt_of_le (le_of_suc-le-suc (let z : suc j ≤ suc i = omega arith in z)))
-
-  pub mark_step : new l (flagged before) i ≡ true → MarkStep l before n (set marks i 1) true (i + 1)
-  unfolding flagged Done
-  mark_step q =
-      record {
-        inside = omega arith;
-        size = length-set marks i 1 ∙ t.size;
-        some = sym (any_more true q);
-        done =
-            split (set marks i 1)
-            (λ j k. rw (get_or-set_other marks i j 1 0 (λ (e : j ≡ i). omega arith)) (t.done j k))
-            (rw (get_or-set_same marks i 1 0 (omega (arith, t.size)), q) (sym (or-true (flagged before i))));
-        rest = λ j k. get_or-set_other marks i j 1 0 (λ (e : j ≡ i). omega arith) ∙ t.rest j (omega arith);
-      }
-
-  pub pass_step : new l (flagged before) i ≡ false → MarkStep l before n marks added (i + 1)
-  unfolding Done
-  pass_step q =
-      record {
-        inside = omega arith;
-        size = t.size;
-        some = sym (any_more false q);
-        done = split marks t.done (rw q (as_before ∙ sym (or-false (flagged before i))));
-        rest = λ j k. t.rest j (omega arith);
-      }
-
-pub mark_start : (l : Listing) (before : List ℕ) (n : ℕ) → length before ≡ n → MarkStep l before n before false 0
+pub mark_start : (l : Listing) (before : List PlacedItem) → judged_listing l ≡ passed → length before ≡ l.count
+    → Laid (plan l (marked_in before)) before l.count → MarkStep l before before false 0
 unfolding any
-mark_start l before n e =
-    record { inside = omega arith; size = e; some = refl; done = λ j h. absurd (omega arith); rest = λ j h. refl }
+mark_start l before ok e laid =
+    record { pass = pass_start (MarkedItem l (marked_in before)) before l.count e; laid = laid; ok = ok; some = refl }
 
-module _ (l : Listing) (ok : judged_listing l ≡ passed) (before marks ats nexts lefts : List ℕ)
-    (laid : Laid (plan l (flagged before)) ats nexts lefts l.count) (i : ℕ) (h : i < l.count)
-    (same : flagged marks i ≡ flagged before i) where
-  pub test_is : (r : Bool)
-      → r ≡ new_of (class_of (l.kind i)) (form_of (class_of (l.kind i)) (flagged marks i) (l.operand i) (get_or lefts i 0))
-      (fits (get_or lefts i 0) (distance (get_or nexts i 0) (get_or ats (l.operand i) 0)))
-      → r ≡ new l (flagged before) i
-  test_is r q =
-      q
-      ∙ ap
-      (λ (m : Bool). new_of (class_of (l.kind i)) (form_of (class_of (l.kind i)) m (l.operand i) (get_or lefts i 0))
-      (fits (get_or lefts i 0) (distance (get_or nexts i 0) (get_or ats (l.operand i) 0))))
-      same
-      ∙ new_at l ok (flagged before) ats nexts lefts laid i h
+-- a mark leaves the place of an item
+pub place_kept : (p : Plan) (before placed : List PlacedItem) (n : ℕ)
+    → ((j : ℕ) → j < n → with_mark true (placed_at placed j) ≡ with_mark true (placed_at before j)) → Laid p before n → Laid p placed n
+place_kept p before placed n f laid =
+    record {
+      at = λ j h. ap (λ (x : PlacedItem). x.at.0) (f j h) ∙ laid.at j h;
+      next = λ j h. ap (λ (x : PlacedItem). x.next.0) (f j h) ∙ laid.next j h;
+      left = λ j h. ap (λ (x : PlacedItem). x.left) (f j h) ∙ laid.left j h;
+    }
 
-  pub left_small : get_or lefts i 0 ≤ 3
-  left_small = rw (laid.left i h) (left_le (plan l (flagged before)) i)
+module _ (l : Listing) (before placed : List PlacedItem) (added : Bool) (i : ℕ) (t : MarkStep l before placed added i) (h : i < l.count) where
+  abbrev m : ℕ → Bool
+  m = marked_in before
+
+  laid_still : Laid (plan l m) placed l.count
+  laid_still = place_kept (plan l m) before placed l.count (λ j k. go j (dec_lt j i)) t.laid
+    where
+      go : (j : ℕ) → Dec (j < i) → with_mark true (placed_at placed j) ≡ with_mark true (placed_at before j)
+      go j (yes k) = ap (with_mark true) (t.pass.done j k)
+      go j (no k) = ap (with_mark true) (t.pass.rest j (omega arith))
+
+  pub mark_left : (placed_at placed i).left ≤ 3
+  mark_left = left_small l t.ok m placed laid_still i h
+
+  pub mark_inside : is_branch (class_of (l.kind i)) ≡ true → l.operand i < length placed
+  mark_inside q = omega (arith, target_below l t.ok i h (is_branch_lem (class_of (l.kind i)) q), t.pass.size)
+
+  mark_as_before : (placed_at placed i).marked ≡ m i
+  unfolding marked_in
+  mark_as_before = ap (λ (x : PlacedItem). x.marked) (pass_here _ before l.count placed i t.pass h)
+
+  module _ (r : Bool) (q : r ≡ new_of (class_of (l.kind i)) (form_of (class_of (l.kind i)) (placed_at placed i).marked (l.operand i) (placed_at placed i).left)
+      (fits (placed_at placed i).left (distance (placed_at placed i).next.0 (placed_at placed (l.operand i)).at.0))) where
+    new_is : new l m i ≡ r
+    new_is = sym (test_is l t.ok m placed laid_still i h mark_as_before r q)
+
+    any_more : any (new l m) (i + 1) ≡ (r || added)
+    unfolding any
+    any_more = rw (add-one i, new_is, t.some)
+
+    pub mark_step : r ≡ true → (v : PlacedItem) → v ≡ with_mark true (placed_at placed i) → MarkStep l before (set placed i v) true (i + 1)
+    mark_step e v w =
+        record {
+          pass =
+              pass_write (MarkedItem l m) before l.count placed i t.pass h v
+              (w ∙ rw (new_is, e, or-true (m i), pass_here _ before l.count placed i t.pass h));
+          laid = t.laid;
+          ok = t.ok;
+          some = sym (any_more ∙ rw e);
+        }
+
+    pub pass_step : r ≡ false → MarkStep l before placed added (i + 1)
+    unfolding marked_in
+    pass_step e =
+        record {
+          pass = pass_over (MarkedItem l m) before l.count placed i t.pass h (rw (new_is, e, or-false (m i)));
+          laid = t.laid;
+          ok = t.ok;
+          some = sym (any_more ∙ rw e);
+        }
 
 -- past the items there is no kind, and so no mark
 pub new_out : (kinds operands : List ℕ) (m : ℕ → Bool) (j : ℕ) → length kinds ≤ j → new (listed kinds operands) m j ≡ false
@@ -128,11 +146,11 @@ rounds_out kinds operands (suc r) j h =
     both_false (rounds (length kinds) (new (listed kinds operands)) r j) _ (rounds_out kinds operands r j h)
     (new_out kinds operands (rounds (length kinds) (new (listed kinds operands)) r) j h)
 
-flagged_out : (s : List ℕ) (j : ℕ) → length s ≤ j → flagged s j ≡ false
-unfolding flagged
-flagged_out s j h = rw (get_or-eq_default s 0 h)
+mark_out : (s : List PlacedItem) (j : ℕ) → length s ≤ j → marked_in s j ≡ false
+unfolding marked_in
+mark_out s j h = ap (λ (x : PlacedItem). x.marked) (get_or-eq_default s unplaced h)
 
--- the flags are the marks after r rounds
+-- the marks of an array are those after r rounds
 module _ (kinds operands : List ℕ) where
   abbrev l : Listing
   l = listed kinds operands
@@ -140,25 +158,36 @@ module _ (kinds operands : List ℕ) where
   abbrev after : ℕ → ℕ → Bool
   after r = rounds (length kinds) (new l) r
 
-  pub no_mark : (s : List ℕ) → ((j : ℕ) → get_or s j 0 ≡ 0) → flagged s ≡ after 0
-  unfolding flagged rounds
-  no_mark s h = fun_ext (λ j. ne_eqb (get_or s j 0) 1 (λ (e : get_or s j 0 ≡ 1). omega (arith, h j)))
+  pub no_mark : (s t : List PlacedItem) → length t ≡ length s → ((j : ℕ) → j < length s → placed_at t j ≡ with_mark false (placed_at s j))
+      → marked_in t ≡ after 0
+  unfolding rounds marked_in
+  no_mark s t e f = fun_ext (λ j. go j (dec_lt j (length s)))
+    where
+      go : (j : ℕ) → Dec (j < length s) → marked_in t j ≡ false
+      go j (yes h) = ap (λ (x : PlacedItem). x.marked) (f j h)
+      go j (no h) = mark_out t j (omega arith)
 
-  pub one_round : (r : ℕ) (s t : List ℕ) → flagged s ≡ after r → length t ≡ length kinds → Marked l s t (length kinds)
-      → flagged t ≡ after (suc r)
+  -- the marks after a round
+  marks_at : (s t : List PlacedItem) → Marked l s t (length kinds) → (j : ℕ) → j < length kinds
+      → marked_in t j ≡ (marked_in s j || new l (marked_in s) j)
+  unfolding marked_in
+  marks_at s t f j h = ap (λ (x : PlacedItem). x.marked) (f j h)
+
+  pub one_round : (r : ℕ) (s t : List PlacedItem) → marked_in s ≡ after r → length t ≡ length kinds → Marked l s t (length kinds)
+      → marked_in t ≡ after (suc r)
   unfolding rounds
   one_round r s t e z f = fun_ext (λ j. go j (dec_lt j (length kinds)))
     where
-      go : (j : ℕ) → Dec (j < length kinds) → flagged t j ≡ (after r j || new l (after r) j)
-      go j (yes h) = f j h ∙ ap (λ (m : ℕ → Bool). m j || new l m j) e
-      go j (no h) = flagged_out t j (omega arith) ∙ sym (rounds_out kinds operands (suc r) j (omega arith))
+      go : (j : ℕ) → Dec (j < length kinds) → marked_in t j ≡ (after r j || new l (after r) j)
+      go j (yes h) = marks_at s t f j h ∙ ap (λ (m : ℕ → Bool). m j || new l m j) e
+      go j (no h) = mark_out t j (omega arith) ∙ sym (rounds_out kinds operands (suc r) j (omega arith))
 
-  -- a round that adds no mark leaves the flags
-  pub same_marks : (s t : List ℕ) → length t ≡ length kinds → length s ≡ length kinds → Marked l s t (length kinds)
-      → any (new l (flagged s)) (length kinds) ≡ false → flagged t ≡ flagged s
+  -- a round that adds no mark leaves the marks
+  pub same_marks : (s t : List PlacedItem) → length t ≡ length kinds → length s ≡ length kinds → Marked l s t (length kinds)
+      → any (new l (marked_in s)) (length kinds) ≡ false → marked_in t ≡ marked_in s
   same_marks s t z w f q = fun_ext (λ j. go j (dec_lt j (length kinds)))
     where
-      go : (j : ℕ) → Dec (j < length kinds) → flagged t j ≡ flagged s j
+      go : (j : ℕ) → Dec (j < length kinds) → marked_in t j ≡ marked_in s j
       go j (yes h) =
-          f j h ∙ ap (λ (b : Bool). flagged s j || b) (any_none (new l (flagged s)) (length kinds) q j h) ∙ or-false (flagged s j)
-      go j (no h) = flagged_out t j (omega arith) ∙ sym (flagged_out s j (omega arith))
+          marks_at s t f j h ∙ ap (λ (b : Bool). marked_in s j || b) (any_none (new l (marked_in s)) (length kinds) q j h) ∙ or-false (marked_in s j)
+      go j (no h) = mark_out t j (omega arith) ∙ sym (mark_out s j (omega arith))

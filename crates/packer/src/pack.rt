@@ -4,37 +4,30 @@ ghost use Rattle.pack_layout.specs.Listing.{listed, Checked};
 ghost use Rattle.pack_layout.specs.Packing.{image_cells};
 ghost use Rattle.pack_refusals.specs.Judgement as judgement;
 ghost use Rattle.packer.specs.Pack as answers;
-ghost use Rattle.pack_prepare.specs.Prepared.{Places};
 
 use cell::{Address, CellCount, Refusal};
 use pack_image::write::write_image;
-use pack_layout::MOST_ITEMS;
+use pack_layout::{MOST_ITEMS, PlacedItem, UNPLACED};
 use pack_prepare::prepare::prepare;
 use pack_refusals::judgement::{judge_image, judge_input};
 
-// A listing that the input list passed, with the working arrays lent.
+// A listing that the input list passed, with the working array lent.
 #[tactic(auto, using(pack_prepare::proofs::Checking::cells_most, crate::proofs::Answering::image_refused, crate::proofs::Answering::image_packed))]
 fn pack_checked(
     order: u8,
     kinds: &[u8],
     operands: &[u32],
     base: Address,
-    entries: &mut [u8],
-    marks: &mut [u8],
-    ats: &mut [u32],
-    nexts: &mut [u32],
-    lefts: &mut [u32],
+    placed: &mut [PlacedItem],
     output: &mut [u8],
 ) -> Result<CellCount, Refusal>
     requires checked { Checked kinds.now operands.now }
-    requires places { Places (length kinds.now) entries.old marks.old ats.old nexts.old lefts.old }
+    requires placed_len { length placed.old ≡ length kinds.now }
     ensures { answers.packed_to output.new result ≡ answers.pack_if (judgement.judge_image base.0 (image_cells (listed kinds.now operands.now)) (length output.old)) order base.0 (listed kinds.now operands.now) output.old }
 {
-    let cells = prepare(kinds, operands, entries, marks, ats, nexts, lefts);
+    let cells = prepare(kinds, operands, placed);
     judge_image(base, cells, output.len())?;
-    write_image(
-        order, base, kinds, operands, marks, ats, nexts, lefts, output,
-    );
+    write_image(order, base, kinds, operands, placed, output);
     Ok(cells)
 }
 
@@ -50,21 +43,6 @@ pub fn pack(
 {
     judge_input(order, kinds, operands)?;
     let n = kinds.len();
-    let mut entries = [0u8; MOST_ITEMS];
-    let mut marks = [0u8; MOST_ITEMS];
-    let mut ats = [0u32; MOST_ITEMS];
-    let mut nexts = [0u32; MOST_ITEMS];
-    let mut lefts = [0u32; MOST_ITEMS];
-    pack_checked(
-        order,
-        kinds,
-        operands,
-        base,
-        &mut entries[0..n],
-        &mut marks[0..n],
-        &mut ats[0..n],
-        &mut nexts[0..n],
-        &mut lefts[0..n],
-        output,
-    )
+    let mut placed = [UNPLACED; MOST_ITEMS];
+    pack_checked(order, kinds, operands, base, &mut placed[0..n], output)
 }

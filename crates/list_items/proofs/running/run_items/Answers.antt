@@ -9,8 +9,8 @@ use Rattle.list_items.proofs.running.run_items.Goals as goal
 
 pub cycles_at-cycles-requires : goal.cycles_at-cycles-requires
 cycles_at-cycles-requires c =
-    in_rows _ _ _ _ c.requires.settled _
-    (run_item c.args.machine c.args.image.base.0 (listed c.args.kinds.now c.args.operands.now) c.args.memory.now c.args.start _ _ _ c.loop.invariant (sym c.is_over.ensures ∙ c.if-is_over.false))
+    (in_rows _ _ _ _ c.requires.settled _
+    (run_item c.args.machine c.args.image.base.0 (listed c.args.kinds.now c.args.operands.now) c.args.memory.now c.args.start _ _ _ c.loop.invariant (sym c.is_over.ensures ∙ c.if-is_over.false))).0
 
 pub carry_out-c-requires-clause-item_in_bounds : goal.carry_out-c-requires-clause-item_in_bounds
 carry_out-c-requires-clause-item_in_bounds c =

@@ -1,9 +1,6 @@
-use mathlib.Core.Path.{◌≡◌}
-use Prim.Native.Nat.{◌*◌}
-use lib.ListN.{length}
 use Rattle.pack_layout.specs.Listing.{listed}
 use Rattle.list_tables.specs.Tables.{Rows}
 use Rattle.list_tables.proofs.tabling.tabulate.Given as goal
 
 abbrev pub invariant-loop-i : goal.invariant-loop-i
-invariant-loop-i l = (length l.table ≡ 4 * length l.kinds) × Rows (listed l.kinds l.operands) l.table l.i
+invariant-loop-i l = Rows (listed l.kinds l.operands) l.table l.i
