@@ -1,18 +1,14 @@
-// The commit of each shape of effect: every place is checked in the order of the writes, and only then are the writes made.
-#![tactic(auto, using(machine::proofs::CommitLaws::room_place, machine::proofs::CommitLaws::room_byte), unfolding(machine::specs::Commits::commit_of, machine::specs::Commits::places_of, machine::specs::Commits::stored_of))]
+// The commit of a request: every place is checked in the order of the stores, and only then are they made.
+#![tactic(auto, using(machine::proofs::CommitLaws::commit_raising, machine::proofs::CommitLaws::commit_bad, machine::proofs::CommitLaws::commit_good))]
 
-ghost use Rattle.std.specs.Prelude.{◌≡◌, ◌+◌, ◌≤◌, length};
-ghost use Rattle.cell.specs.Memory as mem;
+ghost use Rattle.std.specs.Prelude.{◌≡◌, length};
 ghost use Rattle.machine.specs.Places as places;
 ghost use Rattle.machine.specs.Effects as effects;
 ghost use Rattle.machine.specs.Commits as commits;
 
+use crate::stores::Stores;
 use cell::Fault;
-use cell::memory::store;
-use machine::places::{check_byte_write, check_target};
-use machine::{
-    ByteStore, Machine, MaybeStore, NoStore, OneStore, Outcome, Registers, Step, Then, Write,
-};
+use machine::{Machine, Outcome, Registers, Request, Step, Then};
 
 // How the machine is left by what follows.
 fn outcome_of(then: Then) -> Outcome
@@ -38,7 +34,7 @@ fn ep_of(then: Then, ep: u32) -> u32
 }
 
 // What follows the writes.
-pub fn settle(ep: u32, a: u32, sp: u32, rp: u32, then: Then) -> Step
+fn settle(ep: u32, a: u32, sp: u32, rp: u32, then: Then) -> Step
     ensures { result ≡ commits.settled_of ep a sp rp then }
 {
     Step {
@@ -52,70 +48,18 @@ pub fn settle(ep: u32, a: u32, sp: u32, rp: u32, then: Then) -> Step
     }
 }
 
-// One cell written.
-pub fn put(machine: Machine, memory: &mut [u8], w: Write)
-    requires { w.at.0 + 4 ≤ length memory.old }
-    ensures { memory.new ≡ mem.store_cell machine.order memory.old w.at.0 w.value }
-{
-    store(machine.order, memory, w.at, w.value)
-}
-
-pub fn commit_none(
-    machine: Machine,
-    memory: &[u8],
-    r: Registers,
-    asked: Result<NoStore, Fault>,
-) -> Result<Step, Fault>
-    ensures { commits.stepped memory.now (commits.step_of r result) ≡ commits.commit_of machine memory.now r (effects.asked effects.no_store asked) }
-{
-    let e = asked?;
-    Ok(settle(r.ep, r.a, e.sp, e.rp, e.then))
-}
-
-pub fn commit_one(
-    machine: Machine,
-    memory: &mut [u8],
-    r: Registers,
-    asked: Result<OneStore, Fault>,
-) -> Result<Step, Fault>
-    requires { places.Fits machine (length memory.old) }
-    ensures { commits.stepped memory.new (commits.step_of r result) ≡ commits.commit_of machine memory.old r (effects.asked effects.one_store asked) }
-{
-    let e = asked?;
-    check_target(machine, e.target, memory.len(), e.write.at)?;
-    put(machine, memory, e.write);
-    Ok(settle(r.ep, r.a, e.sp, e.rp, e.then))
-}
-
 #[inline]
-pub fn commit_maybe(
+pub fn commit<S: Stores>(
     machine: Machine,
     memory: &mut [u8],
     r: Registers,
-    asked: Result<MaybeStore, Fault>,
+    asked: Result<Request<S>, Fault>,
 ) -> Result<Step, Fault>
     requires { places.Fits machine (length memory.old) }
-    ensures { commits.stepped memory.new (commits.step_of r result) ≡ commits.commit_of machine memory.old r (effects.asked effects.maybe_store asked) }
+    ensures { commits.stepped memory.new (commits.step_of r result) ≡ commits.commit_of machine memory.old r (effects.asked (S.listed machine.order memory.old) asked) }
 {
-    let e = asked?;
-    if let Some(write) = e.write {
-        check_target(machine, e.target, memory.len(), write.at)?;
-        put(machine, memory, write);
-    }
-    Ok(settle(r.ep, r.a, e.sp, e.rp, e.then))
-}
-
-pub fn commit_byte(
-    machine: Machine,
-    memory: &mut [u8],
-    r: Registers,
-    asked: Result<ByteStore, Fault>,
-) -> Result<Step, Fault>
-    requires { places.Fits machine (length memory.old) }
-    ensures { commits.stepped memory.new (commits.step_of r result) ≡ commits.commit_of machine memory.old r (effects.asked effects.byte_store asked) }
-{
-    let e = asked?;
-    check_byte_write(machine, memory.len(), e.at)?;
-    memory[e.at.0 as usize] = (e.value % 256) as u8;
-    Ok(settle(r.ep, r.a, e.sp, e.rp, e.then))
+    let q = asked?;
+    q.stores.check(machine, memory)?;
+    q.stores.write(machine, memory);
+    Ok(settle(r.ep, r.a, q.sp, q.rp, q.then))
 }

@@ -1,4 +1,7 @@
-// The commit of what an instruction asks for. Its definition is in `machine`; effects that write several cells are in `commits_several`, ROLL is in `commits_roll`.
+// The commit of what an instruction asks for, and the stores that one may ask for. What both mean is in `machine`.
 #![tactic(auto)]
 
 pub mod commit;
+pub mod rolling;
+pub mod several;
+pub mod stores;

@@ -8,9 +8,7 @@ ghost use Rattle.instruction.specs.Dispatch as dispatch;
 
 use crate::from_16::execute_from_16;
 use cell::Fault;
-use commits::commit::{commit_maybe, commit_none, commit_one};
-use commits_roll::commit_roll;
-use commits_several::{commit_three, commit_two};
+use commits::commit::commit;
 use machine::{Machine, Outcome, Registers, Step};
 use operators::comparison::{equal, greater, less, not_equal, zero_equal, zero_greater, zero_less};
 use stack_order::{minus_rot, rot, swap, tuck};
@@ -34,47 +32,47 @@ pub fn execute_from_00(
             outcome: Outcome::Next,
         }),
         // DUP
-        0x01 => commit_one(machine, memory, r, dup(machine, memory, r)),
+        0x01 => commit(machine, memory, r, dup(machine, memory, r)),
         // DROP
-        0x02 => commit_none(machine, memory, r, drop(machine, memory, r)),
+        0x02 => commit(machine, memory, r, drop(machine, memory, r)),
         // SWAP
-        0x03 => commit_two(machine, memory, r, swap(machine, memory, r)),
+        0x03 => commit(machine, memory, r, swap(machine, memory, r)),
         // OVER
-        0x04 => commit_one(machine, memory, r, over(machine, memory, r)),
+        0x04 => commit(machine, memory, r, over(machine, memory, r)),
         // ROT
-        0x05 => commit_three(machine, memory, r, rot(machine, memory, r)),
+        0x05 => commit(machine, memory, r, rot(machine, memory, r)),
         // -ROT
-        0x06 => commit_three(machine, memory, r, minus_rot(machine, memory, r)),
+        0x06 => commit(machine, memory, r, minus_rot(machine, memory, r)),
         // TUCK
-        0x07 => commit_three(machine, memory, r, tuck(machine, memory, r)),
+        0x07 => commit(machine, memory, r, tuck(machine, memory, r)),
         // NIP
-        0x08 => commit_one(machine, memory, r, nip(machine, memory, r)),
+        0x08 => commit(machine, memory, r, nip(machine, memory, r)),
         // PICK
-        0x09 => commit_one(machine, memory, r, pick(machine, memory, r)),
+        0x09 => commit(machine, memory, r, pick(machine, memory, r)),
         // ROLL
-        0x0A => commit_roll(machine, memory, r, roll(machine, memory, r)),
+        0x0A => commit(machine, memory, r, roll(machine, memory, r)),
         // ?DUP
-        0x0B => commit_maybe(machine, memory, r, question_dup(machine, memory, r)),
+        0x0B => commit(machine, memory, r, question_dup(machine, memory, r)),
         // >R
-        0x0C => commit_one(machine, memory, r, to_r(machine, memory, r)),
+        0x0C => commit(machine, memory, r, to_r(machine, memory, r)),
         // R>
-        0x0D => commit_one(machine, memory, r, r_from(machine, memory, r)),
+        0x0D => commit(machine, memory, r, r_from(machine, memory, r)),
         // R@
-        0x0E => commit_one(machine, memory, r, r_fetch(machine, memory, r)),
+        0x0E => commit(machine, memory, r, r_fetch(machine, memory, r)),
         // <
-        0x0F => commit_one(machine, memory, r, less(machine, memory, r)),
+        0x0F => commit(machine, memory, r, less(machine, memory, r)),
         // >
-        0x10 => commit_one(machine, memory, r, greater(machine, memory, r)),
+        0x10 => commit(machine, memory, r, greater(machine, memory, r)),
         // =
-        0x11 => commit_one(machine, memory, r, equal(machine, memory, r)),
+        0x11 => commit(machine, memory, r, equal(machine, memory, r)),
         // <>
-        0x12 => commit_one(machine, memory, r, not_equal(machine, memory, r)),
+        0x12 => commit(machine, memory, r, not_equal(machine, memory, r)),
         // 0<
-        0x13 => commit_one(machine, memory, r, zero_less(machine, memory, r)),
+        0x13 => commit(machine, memory, r, zero_less(machine, memory, r)),
         // 0>
-        0x14 => commit_one(machine, memory, r, zero_greater(machine, memory, r)),
+        0x14 => commit(machine, memory, r, zero_greater(machine, memory, r)),
         // 0=
-        0x15 => commit_one(machine, memory, r, zero_equal(machine, memory, r)),
+        0x15 => commit(machine, memory, r, zero_equal(machine, memory, r)),
         _ => execute_from_16(machine, memory, r, opcode),
     }
 }

@@ -7,8 +7,7 @@ ghost use Rattle.machine.specs.Commits as commits;
 ghost use Rattle.instruction.specs.Dispatch as dispatch;
 
 use cell::Fault;
-use commits::commit::commit_one;
-use commits_several::commit_two;
+use commits::commit::commit;
 use dispatch_2c::from_2c::execute_from_2c;
 use instruction::shape::push;
 use machine::{Machine, Registers, Step};
@@ -30,49 +29,49 @@ pub fn execute_from_16(
 {
     match opcode {
         // 0<>
-        0x16 => commit_one(machine, memory, r, zero_not_equal(machine, memory, r)),
+        0x16 => commit(machine, memory, r, zero_not_equal(machine, memory, r)),
         // U<
-        0x17 => commit_one(machine, memory, r, u_less(machine, memory, r)),
+        0x17 => commit(machine, memory, r, u_less(machine, memory, r)),
         // U>
-        0x18 => commit_one(machine, memory, r, u_greater(machine, memory, r)),
+        0x18 => commit(machine, memory, r, u_greater(machine, memory, r)),
         // 0
-        0x19 => commit_one(machine, memory, r, Ok(push(r, 0))),
+        0x19 => commit(machine, memory, r, Ok(push(r, 0))),
         // 1
-        0x1A => commit_one(machine, memory, r, Ok(push(r, 1))),
+        0x1A => commit(machine, memory, r, Ok(push(r, 1))),
         // -1
-        0x1B => commit_one(machine, memory, r, Ok(push(r, 0xFFFFFFFF))),
+        0x1B => commit(machine, memory, r, Ok(push(r, 0xFFFFFFFF))),
         // CELL
-        0x1C => commit_one(machine, memory, r, Ok(push(r, 4))),
+        0x1C => commit(machine, memory, r, Ok(push(r, 4))),
         // -CELL
-        0x1D => commit_one(machine, memory, r, Ok(push(r, 0xFFFFFFFC))),
+        0x1D => commit(machine, memory, r, Ok(push(r, 0xFFFFFFFC))),
         // +
-        0x1E => commit_one(machine, memory, r, plus(machine, memory, r)),
+        0x1E => commit(machine, memory, r, plus(machine, memory, r)),
         // -
-        0x1F => commit_one(machine, memory, r, minus(machine, memory, r)),
+        0x1F => commit(machine, memory, r, minus(machine, memory, r)),
         // >-<
-        0x20 => commit_one(machine, memory, r, swap_minus(machine, memory, r)),
+        0x20 => commit(machine, memory, r, swap_minus(machine, memory, r)),
         // 1+
-        0x21 => commit_one(machine, memory, r, one_plus(machine, memory, r)),
+        0x21 => commit(machine, memory, r, one_plus(machine, memory, r)),
         // 1-
-        0x22 => commit_one(machine, memory, r, one_minus(machine, memory, r)),
+        0x22 => commit(machine, memory, r, one_minus(machine, memory, r)),
         // CELL+
-        0x23 => commit_one(machine, memory, r, cell_plus(machine, memory, r)),
+        0x23 => commit(machine, memory, r, cell_plus(machine, memory, r)),
         // CELL-
-        0x24 => commit_one(machine, memory, r, cell_minus(machine, memory, r)),
+        0x24 => commit(machine, memory, r, cell_minus(machine, memory, r)),
         // *
-        0x25 => commit_one(machine, memory, r, star(machine, memory, r)),
+        0x25 => commit(machine, memory, r, star(machine, memory, r)),
         // /
-        0x26 => commit_one(machine, memory, r, slash(machine, memory, r)),
+        0x26 => commit(machine, memory, r, slash(machine, memory, r)),
         // MOD
-        0x27 => commit_one(machine, memory, r, modulo(machine, memory, r)),
+        0x27 => commit(machine, memory, r, modulo(machine, memory, r)),
         // /MOD
-        0x28 => commit_two(machine, memory, r, slash_mod(machine, memory, r)),
+        0x28 => commit(machine, memory, r, slash_mod(machine, memory, r)),
         // U/MOD
-        0x29 => commit_two(machine, memory, r, u_slash_mod(machine, memory, r)),
+        0x29 => commit(machine, memory, r, u_slash_mod(machine, memory, r)),
         // S/REM
-        0x2A => commit_two(machine, memory, r, s_slash_rem(machine, memory, r)),
+        0x2A => commit(machine, memory, r, s_slash_rem(machine, memory, r)),
         // 2/
-        0x2B => commit_one(machine, memory, r, two_slash(machine, memory, r)),
+        0x2B => commit(machine, memory, r, two_slash(machine, memory, r)),
         _ => execute_from_2c(machine, memory, r, opcode),
     }
 }

@@ -8,15 +8,14 @@ ghost use Rattle.instruction.specs.Dispatch as dispatch;
 
 use crate::looping::execute_loop;
 use cell::Fault;
-use commits::commit::{commit_none, commit_one};
-use commits_several::commit_two_returns;
+use commits::commit::commit;
 use flow::control::{branch, call, execute, exit, fetch_execute, question_branch};
 use flow::halting::{halt, lib};
 use flow::literals::literal;
 use instruction::OperandForm;
 use instruction::shape::onward;
 use loops::{outer_index, start_loop, unloop};
-use machine::{Machine, NoStore, Outcome, Registers, Step, Then};
+use machine::{Machine, Outcome, Registers, Request, Step, Then};
 
 pub fn execute_from_42(
     machine: Machine,
@@ -32,7 +31,7 @@ pub fn execute_from_42(
         // BRANCH
         0x42 => Ok(onward(
             OperandForm::InCell,
-            commit_none(
+            commit(
                 machine,
                 memory,
                 r,
@@ -42,7 +41,7 @@ pub fn execute_from_42(
         // BRANCHI
         0x43 => Ok(onward(
             OperandForm::Immediate,
-            commit_none(
+            commit(
                 machine,
                 memory,
                 r,
@@ -52,7 +51,7 @@ pub fn execute_from_42(
         // ?BRANCH
         0x44 => Ok(onward(
             OperandForm::InCell,
-            commit_none(
+            commit(
                 machine,
                 memory,
                 r,
@@ -62,7 +61,7 @@ pub fn execute_from_42(
         // ?BRANCHI
         0x45 => Ok(onward(
             OperandForm::Immediate,
-            commit_none(
+            commit(
                 machine,
                 memory,
                 r,
@@ -70,13 +69,13 @@ pub fn execute_from_42(
             )?,
         )),
         // EXECUTE
-        0x46 => commit_one(machine, memory, r, execute(machine, memory, r)),
+        0x46 => commit(machine, memory, r, execute(machine, memory, r)),
         // @EXECUTE
-        0x47 => commit_one(machine, memory, r, fetch_execute(machine, memory, r)),
+        0x47 => commit(machine, memory, r, fetch_execute(machine, memory, r)),
         // CALL
         0x48 => Ok(onward(
             OperandForm::InCell,
-            commit_one(
+            commit(
                 machine,
                 memory,
                 r,
@@ -86,7 +85,7 @@ pub fn execute_from_42(
         // CALLI
         0x49 => Ok(onward(
             OperandForm::Immediate,
-            commit_one(
+            commit(
                 machine,
                 memory,
                 r,
@@ -94,19 +93,19 @@ pub fn execute_from_42(
             )?,
         )),
         // EXIT
-        0x4A => commit_none(machine, memory, r, exit(machine, memory, r)),
+        0x4A => commit(machine, memory, r, exit(machine, memory, r)),
         // (DO)
-        0x4B => commit_two_returns(machine, memory, r, start_loop(machine, memory, r)),
+        0x4B => commit(machine, memory, r, start_loop(machine, memory, r)),
         // (LOOP), (LOOP)I, (+LOOP), (+LOOP)I
         0x4C | 0x4D | 0x4E | 0x4F => execute_loop(machine, memory, r, opcode),
         // UNLOOP
-        0x50 => commit_none(machine, memory, r, unloop(machine, memory, r)),
+        0x50 => commit(machine, memory, r, unloop(machine, memory, r)),
         // J
-        0x51 => commit_one(machine, memory, r, outer_index(machine, memory, r)),
+        0x51 => commit(machine, memory, r, outer_index(machine, memory, r)),
         // (LITERAL)
         0x52 => Ok(onward(
             OperandForm::InCell,
-            commit_one(
+            commit(
                 machine,
                 memory,
                 r,
@@ -116,7 +115,7 @@ pub fn execute_from_42(
         // (LITERAL)I
         0x53 => Ok(onward(
             OperandForm::Immediate,
-            commit_one(
+            commit(
                 machine,
                 memory,
                 r,
@@ -125,17 +124,18 @@ pub fn execute_from_42(
         )),
         // THROW
         0x54 => {
-            let throwing = NoStore {
+            let throwing = Request {
                 sp: r.sp,
                 rp: r.rp,
+                stores: (),
                 then: Then::Throw,
             };
-            commit_none(machine, memory, r, Ok(throwing))
+            commit(machine, memory, r, Ok(throwing))
         }
         // HALT
-        0x55 => commit_none(machine, memory, r, halt(machine, memory, r)),
+        0x55 => commit(machine, memory, r, halt(machine, memory, r)),
         // LIB
-        0x57 => commit_none(machine, memory, r, lib(machine, memory, r)),
+        0x57 => commit(machine, memory, r, lib(machine, memory, r)),
         // NEXT at FFh, tested here so that the table of jumps ends at 57h; the other opcodes raise -256
         _ => {
             if opcode != 0xFF {

@@ -9,11 +9,11 @@ ghost use Rattle.instruction.specs.Taking as taking;
 ghost use Rattle.instruction.specs.Dispatch as dispatch;
 
 use cell::Fault;
-use commits::commit::commit_maybe;
+use commits::commit::commit;
 use instruction::OperandForm;
 use instruction::shape::onward;
 use loops::{step_loop, step_plus_loop};
-use machine::{Machine, MaybeStore, Registers, Step};
+use machine::{CellStore, Machine, Registers, Request, Step};
 
 // The immediate opcode is the odd one.
 fn form_of(opcode: u32) -> OperandForm
@@ -32,7 +32,7 @@ fn loop_effect(
     r: Registers,
     form: OperandForm,
     opcode: u32,
-) -> Result<MaybeStore, Fault>
+) -> Result<Request<Option<CellStore>>, Fault>
     requires { places.Fits machine (length memory.now) }
     ensures { effects.asked effects.maybe_store result ≡ taking.taking_at machine form (dispatch.loop_of opcode) memory.now r }
 {
@@ -54,5 +54,5 @@ pub fn execute_loop(
 {
     let form = form_of(opcode);
     let asked = loop_effect(machine, memory, r, form, opcode);
-    Ok(onward(form, commit_maybe(machine, memory, r, asked)?))
+    Ok(onward(form, commit(machine, memory, r, asked)?))
 }

@@ -12,7 +12,7 @@ use cell::{Address, Fault};
 use instruction::shape::{branch_operand, return_address};
 use instruction::{Instruction, OperandForm};
 use machine::places::{fetch, fetch_data, fetch_return};
-use machine::{Machine, NoStore, OneStore, Registers, Target, Then, Write};
+use machine::{CellStore, Machine, Registers, Request, Target, Then, Write};
 
 // 42h BRANCH, 43h BRANCHI ( -- )
 pub fn branch(
@@ -20,14 +20,15 @@ pub fn branch(
     memory: &[u8],
     r: Registers,
     form: OperandForm,
-) -> Result<NoStore, Fault>
+) -> Result<Request<()>, Fault>
     requires { places.Fits machine (length memory.now) }
     ensures { effects.asked effects.no_store result ≡ taking.taking_at machine form taking.branch memory.now r }
 {
     let to = branch_operand(machine, memory, r, form)?;
-    Ok(NoStore {
+    Ok(Request {
         sp: r.sp,
         rp: r.rp,
+        stores: (),
         then: Then::Jump(Address(to)),
     })
 }
@@ -38,58 +39,68 @@ pub fn question_branch(
     memory: &[u8],
     r: Registers,
     form: OperandForm,
-) -> Result<NoStore, Fault>
+) -> Result<Request<()>, Fault>
     requires { places.Fits machine (length memory.now) }
     ensures { effects.asked effects.no_store result ≡ taking.taking_at machine form taking.question_branch memory.now r }
 {
     let x = fetch_data(machine, memory, Address(r.sp))?;
     if x != 0 {
-        return Ok(NoStore {
+        return Ok(Request {
             sp: add(r.sp, 4),
             rp: r.rp,
+            stores: (),
             then: Then::GoOn,
         });
     }
     let to = branch_operand(machine, memory, r, form)?;
-    Ok(NoStore {
+    Ok(Request {
         sp: add(r.sp, 4),
         rp: r.rp,
+        stores: (),
         then: Then::Jump(Address(to)),
     })
 }
 
 // 46h EXECUTE ( xt -- ) R: ( -- a-addr )
-pub fn execute(machine: Machine, memory: &[u8], r: Registers) -> Result<OneStore, Fault>
+pub fn execute(machine: Machine, memory: &[u8], r: Registers) -> Result<Request<CellStore>, Fault>
     requires { places.Fits machine (length memory.now) }
     ensures { effects.asked effects.one_store result ≡ plain.plain_at machine Instruction.Execute memory.now r }
 {
     let to = fetch_data(machine, memory, Address(r.sp))?;
-    Ok(OneStore {
+    Ok(Request {
         sp: add(r.sp, 4),
         rp: subtract(r.rp, 4),
-        target: Target::Return,
-        write: Write {
-            at: Address(subtract(r.rp, 4)),
-            value: r.ep,
+        stores: CellStore {
+            target: Target::Return,
+            write: Write {
+                at: Address(subtract(r.rp, 4)),
+                value: r.ep,
+            },
         },
         then: Then::Jump(Address(to)),
     })
 }
 
 // 47h @EXECUTE ( a-addr1 -- ) R: ( -- a-addr2 )
-pub fn fetch_execute(machine: Machine, memory: &[u8], r: Registers) -> Result<OneStore, Fault>
+pub fn fetch_execute(
+    machine: Machine,
+    memory: &[u8],
+    r: Registers,
+) -> Result<Request<CellStore>, Fault>
     requires { places.Fits machine (length memory.now) }
     ensures { effects.asked effects.one_store result ≡ plain.plain_at machine Instruction.FetchExecute memory.now r }
 {
     let a = fetch_data(machine, memory, Address(r.sp))?;
     let to = fetch(machine, memory, Address(a))?;
-    Ok(OneStore {
+    Ok(Request {
         sp: add(r.sp, 4),
         rp: subtract(r.rp, 4),
-        target: Target::Return,
-        write: Write {
-            at: Address(subtract(r.rp, 4)),
-            value: r.ep,
+        stores: CellStore {
+            target: Target::Return,
+            write: Write {
+                at: Address(subtract(r.rp, 4)),
+                value: r.ep,
+            },
         },
         then: Then::Jump(Address(to)),
     })
@@ -101,33 +112,36 @@ pub fn call(
     memory: &[u8],
     r: Registers,
     form: OperandForm,
-) -> Result<OneStore, Fault>
+) -> Result<Request<CellStore>, Fault>
     requires { places.Fits machine (length memory.now) }
     ensures { effects.asked effects.one_store result ≡ taking.taking_at machine form taking.call memory.now r }
 {
     let to = branch_operand(machine, memory, r, form)?;
     let rp = subtract(r.rp, 4);
-    Ok(OneStore {
+    Ok(Request {
         sp: r.sp,
         rp,
-        target: Target::Return,
-        write: Write {
-            at: Address(rp),
-            value: return_address(r, form),
+        stores: CellStore {
+            target: Target::Return,
+            write: Write {
+                at: Address(rp),
+                value: return_address(r, form),
+            },
         },
         then: Then::Jump(Address(to)),
     })
 }
 
 // 4Ah EXIT ( -- ) R: ( a-addr -- )
-pub fn exit(machine: Machine, memory: &[u8], r: Registers) -> Result<NoStore, Fault>
+pub fn exit(machine: Machine, memory: &[u8], r: Registers) -> Result<Request<()>, Fault>
     requires { places.Fits machine (length memory.now) }
     ensures { effects.asked effects.no_store result ≡ plain.plain_at machine Instruction.Exit memory.now r }
 {
     let to = fetch_return(machine, memory, Address(r.rp))?;
-    Ok(NoStore {
+    Ok(Request {
         sp: r.sp,
         rp: add(r.rp, 4),
+        stores: (),
         then: Then::Jump(Address(to)),
     })
 }

@@ -9,7 +9,7 @@ ghost use Rattle.instruction.specs.Taking as taking;
 use cell::Fault;
 use instruction::OperandForm;
 use instruction::shape::{literal_operand, push};
-use machine::{Machine, OneStore, Registers};
+use machine::{CellStore, Machine, Registers, Request};
 
 // 52h (LITERAL), 53h (LITERAL)I ( -- x )
 pub fn literal(
@@ -17,7 +17,7 @@ pub fn literal(
     memory: &[u8],
     r: Registers,
     form: OperandForm,
-) -> Result<OneStore, Fault>
+) -> Result<Request<CellStore>, Fault>
     requires { places.Fits machine (length memory.now) }
     ensures { effects.asked effects.one_store result ≡ taking.taking_at machine form taking.literal memory.now r }
 {

@@ -12,87 +12,94 @@ use cell::number::{add, subtract};
 use cell::{Address, CellCount, Fault, Quotient};
 use machine::places::{fetch, fetch_data};
 use machine::{
-    Machine, MaybeStore, OneStore, Outcome, Registers, Step, Target, Then, TwoStores, Write,
+    CellStore, Machine, Outcome, Registers, Request, Step, Target, Then, TwoStores, Write,
 };
 
 // The top item of the data stack replaced.
-pub fn replace(r: Registers, x: u32) -> OneStore
-    ensures { effects.one_store result ≡ plain.replaces r.sp r.rp x }
+pub fn replace(r: Registers, x: u32) -> Request<CellStore>
+    ensures { effects.requested effects.one_store result ≡ plain.replaces r.sp r.rp x }
 {
-    OneStore {
+    Request {
         sp: r.sp,
         rp: r.rp,
-        target: Target::Data,
-        write: Write {
-            at: Address(r.sp),
-            value: x,
+        stores: CellStore {
+            target: Target::Data,
+            write: Write {
+                at: Address(r.sp),
+                value: x,
+            },
         },
         then: Then::GoOn,
     }
 }
 
 // The top two items replaced by one.
-pub fn reduce(r: Registers, x: u32) -> OneStore
-    ensures { effects.one_store result ≡ plain.reduces r.sp r.rp x }
+pub fn reduce(r: Registers, x: u32) -> Request<CellStore>
+    ensures { effects.requested effects.one_store result ≡ plain.reduces r.sp r.rp x }
 {
     let sp = add(r.sp, 4);
-    OneStore {
+    Request {
         sp,
         rp: r.rp,
-        target: Target::Data,
-        write: Write {
-            at: Address(sp),
-            value: x,
+        stores: CellStore {
+            target: Target::Data,
+            write: Write {
+                at: Address(sp),
+                value: x,
+            },
         },
         then: Then::GoOn,
     }
 }
 
 // One more item.
-pub fn push(r: Registers, x: u32) -> OneStore
-    ensures { effects.one_store result ≡ plain.pushes r.sp r.rp x }
+pub fn push(r: Registers, x: u32) -> Request<CellStore>
+    ensures { effects.requested effects.one_store result ≡ plain.pushes r.sp r.rp x }
 {
     let sp = subtract(r.sp, 4);
-    OneStore {
+    Request {
         sp,
         rp: r.rp,
-        target: Target::Data,
-        write: Write {
-            at: Address(sp),
-            value: x,
+        stores: CellStore {
+            target: Target::Data,
+            write: Write {
+                at: Address(sp),
+                value: x,
+            },
         },
         then: Then::GoOn,
     }
 }
 
 // Both results of a division, the remainder below the quotient.
-pub fn replace_both(r: Registers, q: Quotient) -> TwoStores
-    ensures { effects.two_stores result ≡ plain.divided_both r.sp r.rp q }
+pub fn replace_both(r: Registers, q: Quotient) -> Request<TwoStores>
+    ensures { effects.requested effects.two_stores result ≡ plain.divided_both r.sp r.rp q }
 {
-    TwoStores {
+    Request {
         sp: r.sp,
         rp: r.rp,
-        first: Write {
-            at: Address(add(r.sp, 4)),
-            value: q.remainder,
-        },
-        second: Write {
-            at: Address(r.sp),
-            value: q.quotient,
+        stores: TwoStores {
+            first: Write {
+                at: Address(add(r.sp, 4)),
+                value: q.remainder,
+            },
+            second: Write {
+                at: Address(r.sp),
+                value: q.quotient,
+            },
         },
         then: Then::GoOn,
     }
 }
 
 // The stack pointers alone.
-pub fn write_nothing(sp: u32, rp: u32) -> MaybeStore
-    ensures { effects.maybe_store result ≡ plain.moved sp rp }
+pub fn write_nothing(sp: u32, rp: u32) -> Request<Option<CellStore>>
+    ensures { effects.requested effects.maybe_store result ≡ plain.moved sp rp }
 {
-    MaybeStore {
+    Request {
         sp,
         rp,
-        target: Target::Data,
-        write: None,
+        stores: None,
         then: Then::GoOn,
     }
 }

@@ -1,6 +1,7 @@
 // The instructions that take an operand.
-ghost use Rattle.std.specs.Prelude.{length};
+ghost use Rattle.std.specs.Prelude.{◌≡◌, length};
 ghost use Rattle.machine.specs.Places as places;
+ghost use Rattle.machine.specs.Effects as effects;
 ghost use Rattle.instruction.specs.Taking as taking;
 ghost use Rattle.instruction.specs.declared.OperandForm.TheVariants as form;
 ghost use Rattle.list_shapes.specs.Shapes as shapes;
@@ -11,7 +12,8 @@ use flow::control::{branch, call, question_branch};
 use flow::literals::literal;
 use instruction::OperandForm;
 use list_shapes::Shape;
-use machine::{Machine, Registers};
+use list_shapes::shaping::shaped;
+use machine::{Machine, Registers, Request};
 
 // What an instruction with its operand in A would do, by its kind.
 pub fn propose_taking(
@@ -19,22 +21,22 @@ pub fn propose_taking(
     memory: &[u8],
     r: Registers,
     kind: u32,
-) -> Result<Shape, Fault>
+) -> Result<Request<Shape>, Fault>
     requires { places.Fits machine (length memory.now) }
-    ensures { shapes.Proposed machine memory.now result (taking.taking_at machine form.Immediate (shapes.taking_kind kind) memory.now r) }
+    ensures { effects.asked (shapes.shape_stores machine.order memory.now) result ≡ taking.taking_at machine form.Immediate (shapes.taking_kind kind) memory.now r }
 {
     match kind {
         // BRANCH
-        0x42 => Ok(Shape::None(branch(machine, memory, r, OperandForm::Immediate)?)),
+        0x42 => Ok(shaped(branch(machine, memory, r, OperandForm::Immediate)?)),
         // ?BRANCH
-        0x44 => Ok(Shape::None(question_branch(machine, memory, r, OperandForm::Immediate)?)),
+        0x44 => Ok(shaped(question_branch(machine, memory, r, OperandForm::Immediate)?)),
         // CALL
-        0x48 => Ok(Shape::One(call(machine, memory, r, OperandForm::Immediate)?)),
+        0x48 => Ok(shaped(call(machine, memory, r, OperandForm::Immediate)?)),
         // (LOOP)
-        0x4C => Ok(Shape::Maybe(propose_loop(machine, memory, r)?)),
+        0x4C => Ok(shaped(propose_loop(machine, memory, r)?)),
         // (+LOOP)
-        0x4E => Ok(Shape::Maybe(propose_plus_loop(machine, memory, r)?)),
+        0x4E => Ok(shaped(propose_plus_loop(machine, memory, r)?)),
         // (LITERAL)
-        _ => Ok(Shape::One(literal(machine, memory, r, OperandForm::Immediate)?)),
+        _ => Ok(shaped(literal(machine, memory, r, OperandForm::Immediate)?)),
     }
 }

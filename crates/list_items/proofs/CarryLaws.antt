@@ -13,7 +13,7 @@ use Rattle.instruction.specs.Dispatch.{decode_of, OperandClass, next, plain, tak
 use Rattle.pack_layout.specs.Listing.{Listing, listed}
 use Rattle.pack_layout.specs.Packing.{ep_value, behind}
 use Rattle.list_machine.specs.ListMachine.{Position, operand_at, effect_as, effect_at, carried_by, carry_out}
-use Rattle.list_shapes.specs.Shapes.{shape_effect, Asked}
+use Rattle.list_shapes.specs.Shapes.{shape_stores, Asked}
 use Rattle.list_effects.proofs.Alone.{Alone, raises, plain_alone, taking_alone}
 use Rattle.list_tables.specs.Tables.{immediate_in, rows, entry_below, Settled}
 use Rattle.list_tables.specs.declared.Image.{Image}
@@ -36,8 +36,8 @@ effect_alone machine base l p (taking f t) =
 
 module _ (kinds operands : List ℕ) (table : List ItemRow) (image : Image) (s : Settled kinds operands table image) (machine : Machine) (m : List ℕ)
     (st : Stand) (h : st.item.0 < length kinds) (n : Lent (length m)) (a : Asked)
-    (means : asked (shape_effect machine m) a ≡ effect_at machine image.base.0 (listed kinds operands) (position_of m st)) where
-  alone : Alone st.sp st.rp (asked (shape_effect machine m) a)
+    (means : asked (shape_stores machine.order m) a ≡ effect_at machine image.base.0 (listed kinds operands) (position_of m st)) where
+  alone : Alone st.sp st.rp (asked (shape_stores machine.order m) a)
   alone = rw means (effect_alone machine image.base.0 (listed kinds operands) (position_of m st) (operand_class (decode_of (get_or kinds st.item.0 0))))
 
   pub carry_is : (i : Intent)

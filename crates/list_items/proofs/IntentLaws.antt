@@ -14,6 +14,7 @@ use Rattle.exceptions.specs.Exceptions.{exception_of}
 use Rattle.machine.specs.Commits.{places_of, stored_of, commit_of, touches}
 use Rattle.throws.specs.Throws.{throwing_of}
 use Rattle.machine.specs.declared.Machine.{Machine}
+use Rattle.machine.specs.declared.Request.{Request}
 use Rattle.machine.specs.declared.Then.{Then}
 use Rattle.machine.specs.declared.Then.TheVariants.{GoOn, Jump, Halt, Throw}
 use Rattle.pack_layout.specs.Listing.{Listing}
@@ -22,7 +23,7 @@ use Rattle.pack_layout.specs.Packing.{layout, image_cells, entry_at, Entry}
 use Rattle.list_machine.specs.declared.Outside.TheVariants.{WritesImage, NoEntry, PastEnd}
 use Rattle.list_machine.specs.ListMachine.{Position, Carried, on, outside, is_immediate, acted_to, moved_to, registers_at, handled, ran_on, followed, acted, carried_by}
 use Rattle.list_effects.proofs.Alone.{Alone, bare}
-use Rattle.list_shapes.specs.Shapes.{shape_sp, shape_rp, shape_stores, shape_then, shape_effect, Asked}
+use Rattle.list_shapes.specs.Shapes.{shape_stores, shape_effect, Asked}
 use Rattle.list_shapes.specs.declared.Shape.{Shape}
 use Rattle.list_judging.specs.Ways.{to_entry, next_way, intent_then, if_good, judged, intent_by, along, stepped_to, performed}
 use Rattle.list_judging.specs.declared.Way.TheVariants as way
@@ -49,7 +50,7 @@ module _ (machine : Machine) (base : ℕ) (l : Listing) (find : ℕ → Entry) (
       (judged machine p.memory a)
 
   -- a choice that was made of what is meant
-  chosen : (s : Shape) (b : Bool) (i : Intent) (k : Carried) → performed machine p (registers_at machine base l p) i ≡ k
+  chosen : (s : Request Shape) (b : Bool) (i : Intent) (k : Carried) → performed machine p (registers_at machine base l p) i ≡ k
       → performed machine p (registers_at machine base l p) (if b (Act s (way.Outside WritesImage)) i) ≡ if b (outside WritesImage) k
   chosen s true i k h = refl
   chosen s false i k h = h
@@ -71,8 +72,8 @@ module _ (machine : Machine) (base : ℕ) (l : Listing) (find : ℕ → Entry) (
     unfolding stored_of
     stays c h = rw (h.0, h.1, h.2)
 
-    -- a shape with this effect, its places judged good
-    then_is : (s : Shape) (t : Then) → shape_effect machine p.memory s ≡ effect_of sp rp ss t → places_of machine (length p.memory) ss ≡ good
+    -- a request with this effect, its places judged good
+    then_is : (s : Request Shape) (t : Then) → shape_effect machine p.memory s ≡ effect_of sp rp ss t → places_of machine (length p.memory) ss ≡ good
         → Alone p.sp p.rp (effect_of sp rp ss t)
         → performed machine p (registers_at machine base l p)
         (intent_then machine p.memory find l.count p.item (is_immediate (form_at (layout l) p.item)) p.sp s t)
@@ -92,17 +93,17 @@ module _ (machine : Machine) (base : ℕ) (l : Listing) (find : ℕ → Entry) (
         given_is machine base l find finds p whole least
         ∙ ap (λ (q : Position). handled machine base l q (throwing_of machine q.memory (registers_at machine base l q))) (sym (stays throwing (bare o)))
 
-  shape_is : (s : Shape) (c : Checked) → places_of machine (length p.memory) (shape_stores machine p.memory s) ≡ c
+  shape_is : (s : Request Shape) (c : Checked) → places_of machine (length p.memory) (shape_stores machine.order p.memory s.stores) ≡ c
       → Alone p.sp p.rp (shape_effect machine p.memory s)
       → performed machine p (registers_at machine base l p)
       (intent_by machine p.memory find base (base + 4 * image_cells l) l.count p.item (is_immediate (form_at (layout l) p.item)) p.sp (if_good c s))
-      ≡ acted machine base l p (after (shape_sp s) (shape_rp s) (shape_stores machine p.memory s) (control_of (shape_then s))) c
+      ≡ acted machine base l p (after s.sp s.rp (shape_stores machine.order p.memory s.stores) (control_of s.then)) c
   shape_is s (Err f) e o = throw_is machine base l find finds p whole least (exception_of machine f)
   shape_is s (Ok _) e o =
-      chosen s (touches base (base + 4 * image_cells l) (shape_stores machine p.memory s)) _ _
-      (then_is (shape_sp s) (shape_rp s) (shape_stores machine p.memory s) s (shape_then s) refl e o)
+      chosen s (touches base (base + 4 * image_cells l) (shape_stores machine.order p.memory s.stores)) _ _
+      (then_is s.sp s.rp (shape_stores machine.order p.memory s.stores) s s.then refl e o)
 
-  pub intent_is : (a : Asked) → Alone p.sp p.rp (asked (shape_effect machine p.memory) a)
-      → performed machine p (registers_at machine base l p) (meant a) ≡ carried_by machine base l p (asked (shape_effect machine p.memory) a)
-  intent_is (Ok s) o = shape_is s (places_of machine (length p.memory) (shape_stores machine p.memory s)) refl o
+  pub intent_is : (a : Asked) → Alone p.sp p.rp (asked (shape_stores machine.order p.memory) a)
+      → performed machine p (registers_at machine base l p) (meant a) ≡ carried_by machine base l p (asked (shape_stores machine.order p.memory) a)
+  intent_is (Ok s) o = shape_is s (places_of machine (length p.memory) (shape_stores machine.order p.memory s.stores)) refl o
   intent_is (Err f) o = throw_is machine base l find finds p whole least (exception_of machine f)

@@ -14,6 +14,7 @@ ghost use Rattle.list_proposing.specs.Stands as stands;
 ghost use Rattle.list_judging.specs.Ways as ways;
 ghost use Rattle.list_counting.specs.Outcomes as outcomes;
 
+use commits::commit::commit;
 use exceptions::code_of;
 use exceptions::fixed::BAD_STACK;
 use list_counting::Carried;
@@ -22,9 +23,8 @@ use list_judging::{Cause, Intent, Way};
 use list_proposing::Stand;
 use list_proposing::proposing::{registers_at, shape_of};
 use list_shapes::Shape;
-use list_shapes::carrying::commit_shape;
 use list_tables::{Image, ItemRow};
-use machine::{CycleResult, Ended, Machine, Registers};
+use machine::{CycleResult, Ended, Machine, Registers, Request};
 use pack_layout::ItemNumber;
 use throws::ending::{handle, throw};
 
@@ -41,13 +41,12 @@ fn arrive(item: ItemNumber, ran: bool, r: Registers) -> Stand
 }
 
 // The writes of an item, and the registers that they leave.
-fn act(machine: Machine, memory: &mut [u8], r: Registers, shape: Shape) -> Registers
-    requires fits { places.Fits machine (length memory.old) }
-    requires fits_2 { shapes.Fits shape }
-    ensures memory_after { memory.new ≡ (commits.commit_of machine memory.old r (shapes.shape_effect machine memory.old shape)).memory }
-    ensures value { result ≡ (commits.commit_of machine memory.old r (shapes.shape_effect machine memory.old shape)).step.registers }
+fn act(machine: Machine, memory: &mut [u8], r: Registers, q: Request<Shape>) -> Registers
+    requires { places.Fits machine (length memory.old) }
+    ensures memory_after { memory.new ≡ (commits.commit_of machine memory.old r (shapes.shape_effect machine memory.old q)).memory }
+    ensures value { result ≡ (commits.commit_of machine memory.old r (shapes.shape_effect machine memory.old q)).step.registers }
 {
-    match commit_shape(machine, memory, r, shape) {
+    match commit(machine, memory, r, Ok(q)) {
         Ok(t) => t.registers,
         // never reached: the places of an item were judged before
         Err(_) => r,
@@ -60,20 +59,19 @@ fn act_along(
     memory: &mut [u8],
     s: Stand,
     r: Registers,
-    shape: Shape,
+    q: Request<Shape>,
     way: Way,
 ) -> Carried
-    requires fits { places.Fits machine (length memory.old) }
-    requires fits_2 { shapes.Fits shape }
-    ensures { outcomes.left memory.new result ≡ outcomes.leaves memory.old (ways.along way (ways.stepped_to (stands.position_of memory.old s) (commits.commit_of machine memory.old r (shapes.shape_effect machine memory.old shape)))) }
+    requires { places.Fits machine (length memory.old) }
+    ensures { outcomes.left memory.new result ≡ outcomes.leaves memory.old (ways.along way (ways.stepped_to (stands.position_of memory.old s) (commits.commit_of machine memory.old r (shapes.shape_effect machine memory.old q)))) }
 {
     match way {
         Way::To(i, ran) => {
-            let after = act(machine, memory, r, shape);
+            let after = act(machine, memory, r, q);
             Carried::On(arrive(i, ran, after))
         }
         Way::Halt(x) => {
-            let after = act(machine, memory, r, shape);
+            let after = act(machine, memory, r, q);
             Carried::Stopped(arrive(s.item, s.ran, after), x)
         }
         Way::Outside(why) => Carried::Outside(why),
@@ -129,11 +127,10 @@ fn end_along(
 fn perform(machine: Machine, memory: &mut [u8], s: Stand, r: Registers, intent: Intent) -> Carried
     requires fits { places.Fits machine (length memory.old) }
     requires in_bounds { 16 ≤ length memory.old }
-    requires fits_2 { ways.IntentFits intent }
     ensures { outcomes.left memory.new result ≡ outcomes.leaves memory.old (ways.performed machine (stands.position_of memory.old s) r intent) }
 {
     match intent {
-        Intent::Act(shape, way) => act_along(machine, memory, s, r, shape, way),
+        Intent::Act(q, way) => act_along(machine, memory, s, r, q, way),
         Intent::End(cause, way) => end_along(machine, memory, s, r, cause, way),
     }
 }

@@ -1,7 +1,6 @@
 -- Where an item leads, found before anything is written. Document 01, Listings: the four reasons for which the list machine stands outside, and the
 -- stops that it shares with the processor.
 use Rattle.std.specs.Prelude.{Bool, false, not, ◌&&◌, List, ℕ, ◌+◌, ◌%◌, ltb, eqb, length, Ok, Err, Some, None}
-use Prim.{Unit}
 use Rattle.cell.specs.Place.{Checked}
 use Rattle.cell.specs.Choice.{if}
 use Rattle.cell.specs.Memory.{cell_at}
@@ -14,13 +13,14 @@ use Rattle.throws.specs.Throws.{CycleState, throw_of, throwing_of}
 use Rattle.machine.specs.declared.Machine.{Machine}
 use Rattle.machine.specs.declared.Exception.{Exception}
 use Rattle.machine.specs.declared.Registers.{Registers}
+use Rattle.machine.specs.declared.Request.{Request}
 use Rattle.machine.specs.declared.Then.{Then}
 use Rattle.machine.specs.declared.Then.TheVariants as then
 use Rattle.machine.specs.declared.Access.TheVariants.{Push, Stream}
 use Rattle.list_machine.specs.declared.Outside.{Outside}
 use Rattle.list_machine.specs.declared.Outside.TheVariants.{WritesImage, NoEntry, NoHandler, PastEnd}
 use Rattle.list_machine.specs.ListMachine as lists
-use Rattle.list_shapes.specs.Shapes.{shape_stores, shape_then, shape_effect, shape_fault, Fits, Asked}
+use Rattle.list_shapes.specs.Shapes.{shape_stores, shape_effect, shape_fault, Asked}
 use Rattle.list_shapes.specs.declared.Shape.{Shape}
 use Rattle.list_judging.specs.declared.Way.{Way}
 use Rattle.list_judging.specs.declared.Way.TheVariants as way
@@ -45,12 +45,12 @@ handler_by e (Ok _) = to_entry NoHandler e
 handler_by e (Err f) = way.Halt bad_handler
 
 -- what was asked for, unless its reading failed or one of its places is bad
-abbrev pub if_good : Checked → Shape → Asked
-if_good (Ok _) s = Ok s
-if_good (Err f) s = Err f
+abbrev pub if_good : Checked → Request Shape → Asked
+if_good (Ok _) q = Ok q
+if_good (Err f) q = Err f
 
 abbrev pub judged : Machine → List ℕ → Asked → Asked
-judged machine m (Ok s) = if_good (shape_fault machine m s) s
+judged machine m (Ok q) = if_good (shape_fault machine m q.stores) q
 judged machine m (Err f) = Err f
 
 module _ (machine : Machine) (m : List ℕ) (find : ℕ → Entry) where
@@ -73,28 +73,23 @@ module _ (machine : Machine) (m : List ℕ) (find : ℕ → Entry) where
   abbrev pub given_way : ℕ → Way
   given_way sp = if (eqb (sp % 4) 0) (handler_way (cell_at machine.order m handler_cell)) (way.Halt bad_stack)
 
-  -- what follows the writes of a shape: n the number of items
-  abbrev pub intent_then : ℕ → ℕ → Bool → ℕ → Shape → Then → Intent
-  intent_then n item immediate sp s then.GoOn = Act s (next_way n item immediate)
-  intent_then n item immediate sp s (then.Jump a) = Act s (to_entry NoEntry (find a.0))
-  intent_then n item immediate sp s (then.Halt x) = Act s (way.Halt x)
-  intent_then n item immediate sp s then.Throw = End cause.Given (given_way sp)
+  -- what follows the stores of a request: n the number of items
+  abbrev pub intent_then : ℕ → ℕ → Bool → ℕ → Request Shape → Then → Intent
+  intent_then n item immediate sp q then.GoOn = Act q (next_way n item immediate)
+  intent_then n item immediate sp q (then.Jump a) = Act q (to_entry NoEntry (find a.0))
+  intent_then n item immediate sp q (then.Halt x) = Act q (way.Halt x)
+  intent_then n item immediate sp q then.Throw = End cause.Given (given_way sp)
 
   module _ (lo hi n item : ℕ) (immediate : Bool) (sp : ℕ) where
     -- an item whose reading and places were judged; its writes may meet the image
     abbrev pub intent_by : Asked → Intent
     intent_by (Err f) = End (cause.Raised (exception_of machine f)) (throw_way lo hi sp (exception_of machine f))
-    intent_by (Ok s) =
-        if (touches lo hi (shape_stores machine m s)) (Act s (way.Outside WritesImage))
-        (intent_then n item immediate sp s (shape_then s))
+    intent_by (Ok q) =
+        if (touches lo hi (shape_stores machine.order m q.stores)) (Act q (way.Outside WritesImage))
+        (intent_then n item immediate sp q q.then)
 
     unfoldable pub intent_of : Asked → Intent
     intent_of asked = intent_by (judged machine m asked)
-
--- every place of the shape that is meant is an address
-abbrev pub IntentFits : Intent → Type 0
-IntentFits (Act s way) = Fits s
-IntentFits (End c way) = Unit
 
 -- what an item with this way comes to, from the position after its writes
 abbrev pub along : Way → lists.Position → lists.Carried
@@ -120,5 +115,5 @@ end_of machine m r cause.Given = throwing_of machine m r
 
 -- an item carried out as it was meant to be
 abbrev pub performed : Machine → lists.Position → Registers → Intent → lists.Carried
-performed machine p r (Act s way) = along way (stepped_to p (commit_of machine p.memory r (shape_effect machine p.memory s)))
+performed machine p r (Act q way) = along way (stepped_to p (commit_of machine p.memory r (shape_effect machine p.memory q)))
 performed machine p r (End c way) = along way (lists.thrown_to p (end_of machine p.memory r c))

@@ -6,7 +6,7 @@ pub mod judging;
 
 use list_machine::Outside;
 use list_shapes::Shape;
-use machine::Exception;
+use machine::{Exception, Request};
 use pack_layout::ItemNumber;
 
 // Where an item leads: to an item, with whether it is run on into; to a stop; or outside.
@@ -24,9 +24,9 @@ pub enum Cause {
     Given,
 }
 
-// How an item is to be carried out: by the writes of a shape, or by a throw.
+// How an item is to be carried out: by what it asked for, or by a throw.
 #[derive(Clone, Copy)]
 pub enum Intent {
-    Act(Shape, Way),
+    Act(Request<Shape>, Way),
     End(Cause, Way),
 }

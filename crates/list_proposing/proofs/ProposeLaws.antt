@@ -8,6 +8,7 @@ use Rattle.cell.specs.Memory.{cell_count}
 use Rattle.cell.specs.Place.{address}
 use Rattle.cell.specs.declared.Address.{Address}
 use Rattle.cell.specs.declared.CellCount.{CellCount}
+use Rattle.machine.specs.Effects.{asked}
 use Rattle.machine.specs.declared.Machine.{Machine}
 use Rattle.machine.specs.declared.Registers.{Registers}
 use Rattle.instruction.specs.Plain.{plain_at}
@@ -19,7 +20,7 @@ use Rattle.pack_layout.specs.declared.Class.TheVariants as class
 use Rattle.pack_layout.specs.Listing.{listed}
 use Rattle.pack_layout.specs.Packing.{distance, address_of, behind}
 use Rattle.list_machine.specs.ListMachine.{registers_at, effect_at}
-use Rattle.list_shapes.specs.Shapes.{taking_kind, Asked, Proposed}
+use Rattle.list_shapes.specs.Shapes.{shape_stores, taking_kind, Asked}
 use Rattle.list_tables.specs.Tables.{place_in, next_in, behind_in, Settled}
 use Rattle.list_tables.specs.declared.Image.{Image}
 use Rattle.list_tables.specs.declared.ItemRow.{ItemRow}
@@ -51,17 +52,16 @@ module _ (kinds operands : List ℕ) (table : List ItemRow) (image : Image) (s :
 
   -- what the item asks for, by the class of its kind
   abbrev Asks : Asked → Type 0
-  Asks asked = Proposed machine m asked (effect_at machine image.base.0 (listed kinds operands) (position_of m st))
+  Asks a = asked (shape_stores machine.order m) a ≡ effect_at machine image.base.0 (listed kinds operands) (position_of m st)
 
-  pub asks_plain : (asked : Asked) (r : Registers) → r ≡ regs → sorts.class_of (get_or kinds st.item.0 0) ≡ class.Plain
-      → Proposed machine m asked (plain_at machine (decode_of (get_or kinds st.item.0 0)) m r) → Asks asked
-  asks_plain asked r e q p =
-      record { effect = p.effect ∙ plain_effect machine image.base.0 (listed kinds operands) (position_of m st) r (e ∙ regs_is) q; fits = p.fits }
+  pub asks_plain : (a : Asked) (r : Registers) → r ≡ regs → sorts.class_of (get_or kinds st.item.0 0) ≡ class.Plain
+      → asked (shape_stores machine.order m) a ≡ plain_at machine (decode_of (get_or kinds st.item.0 0)) m r → Asks a
+  asks_plain a r e q p = p ∙ plain_effect machine image.base.0 (listed kinds operands) (position_of m st) r (e ∙ regs_is) q
 
   -- an item that takes an operand: the registers r, at the address behind it, with x in A
-  module _ (asked : Asked) (r : Registers) (ep : Address) (x : ℕ) (back : CellCount) (made : r ≡ registers_for ep.0 x st)
+  module _ (a : Asked) (r : Registers) (ep : Address) (x : ℕ) (back : CellCount) (made : r ≡ registers_for ep.0 x st)
       (there : ep ≡ address (image.base.0 + 4 * back.0)) (follows : back ≡ cell_count (behind_in table st.item.0))
-      (p : Proposed machine m asked (taking_at machine form.Immediate (taking_kind (get_or kinds st.item.0 0)) m r)) where
+      (p : asked (shape_stores machine.order m) a ≡ taking_at machine form.Immediate (taking_kind (get_or kinds st.item.0 0)) m r) where
     ep_is : r.ep ≡ image.base.0 + 4 * behind_in table st.item.0
     ep_is = rw (made, there, follows)
 
@@ -77,24 +77,16 @@ module _ (kinds operands : List ℕ) (table : List ItemRow) (image : Image) (s :
     behind_it : r.ep ≡ behind image.base.0 (listed kinds operands) st.item.0
     behind_it = ep_is ∙ behind_is kinds operands table image s st.item.0 h
 
-    pub asks_literal : sorts.class_of (get_or kinds st.item.0 0) ≡ class.Literal → x ≡ get_or operands st.item.0 0 → Asks asked
+    pub asks_literal : sorts.class_of (get_or kinds st.item.0 0) ≡ class.Literal → x ≡ get_or operands st.item.0 0 → Asks a
     asks_literal q e =
-        record {
-          effect =
-              p.effect
-              ∙ literal_effect machine image.base.0 (listed kinds operands) (position_of m st) r sp_is rp_is behind_it
-              (get_or kinds st.item.0 0) q (a_is ∙ e);
-          fits = p.fits;
-        }
+        p
+        ∙ literal_effect machine image.base.0 (listed kinds operands) (position_of m st) r sp_is rp_is behind_it
+        (get_or kinds st.item.0 0) q (a_is ∙ e)
 
     pub asks_branch : sorts.class_of (get_or kinds st.item.0 0) ≡ class.Branch → (to : CellCount) → x ≡ distance back.0 to.0
-        → to ≡ cell_count (place_in table (get_or operands st.item.0 0)) → Asks asked
+        → to ≡ cell_count (place_in table (get_or operands st.item.0 0)) → Asks a
     asks_branch q to e f =
         let g : r.a ≡ distance (behind_in table st.item.0) (place_in table (get_or operands st.item.0 0)) = a_is ∙ e ∙ rw (follows, f) in
-        record {
-          effect =
-              p.effect
-              ∙ branch_effect machine image.base.0 (listed kinds operands) (position_of m st) r sp_is rp_is behind_it
-              (get_or kinds st.item.0 0) q (branch_reaches q r.ep r.a ep_is g);
-          fits = p.fits;
-        }
+        p
+        ∙ branch_effect machine image.base.0 (listed kinds operands) (position_of m st) r sp_is rp_is behind_it
+        (get_or kinds st.item.0 0) q (branch_reaches q r.ep r.a ep_is g)

@@ -3,6 +3,7 @@
 
 ghost use Rattle.std.specs.Prelude.{◌≡◌, ◌+◌, ◌*◌, ◌≤◌, ◌<◌, ◌^◌, length};
 ghost use Rattle.machine.specs.Places as places;
+ghost use Rattle.machine.specs.Effects as effects;
 ghost use Rattle.cell.specs.Refusals.{Lent};
 ghost use Rattle.pack_layout.specs.Listing.{listed};
 ghost use Rattle.list_machine.specs.ListMachine as lists;
@@ -18,7 +19,7 @@ use list_effects::taking::propose_taking;
 use list_shapes::Shape;
 use list_tables::tables::row_of;
 use list_tables::{Image, ItemRow};
-use machine::{Machine, Registers};
+use machine::{Machine, Registers, Request};
 use pack_judging::kinds::class_of;
 use pack_layout::{Class, ItemNumber};
 use pack_rounds::measure::distance_of;
@@ -54,11 +55,11 @@ pub fn shape_of(
     table: &[ItemRow],
     image: Image,
     s: Stand,
-) -> Result<Shape, Fault>
+) -> Result<Request<Shape>, Fault>
     requires lent { (Lent (length memory.now)) × (places.Fits machine (length memory.now)) }
     requires settled { tables.Settled kinds.now operands.now table.now image }
     requires item_in_bounds { s.item.0 < length kinds.now }
-    ensures { shapes.Proposed machine memory.now result (lists.effect_at machine image.base.0 (listed kinds.now operands.now) (stands.position_of memory.now s)) }
+    ensures { effects.asked (shapes.shape_stores machine.order memory.now) result ≡ lists.effect_at machine image.base.0 (listed kinds.now operands.now) (stands.position_of memory.now s) }
 {
     let item = s.item;
     let i = item.0 as usize;

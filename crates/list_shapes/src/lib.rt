@@ -1,22 +1,20 @@
-// What an instruction asks for, as a value: what it would write, whether it may, and its commit.
+// What an instruction asks for, as one type: the stores that it would make, whether they meet a range, and how they are made.
 #![tactic(auto)]
 
 pub mod carrying;
 pub mod judging;
+pub mod shaping;
 
-use machine::{
-    ByteStore, MaybeStore, NoStore, OneStore, RollStores, ThreeStores, TwoReturns, TwoStores,
-};
+use machine::{ByteStore, CellStore, RollStores, ThreeStores, TwoReturns, TwoStores};
 
-// What an instruction asks for, by the places that it writes.
+// The stores of any instruction.
 #[derive(Clone, Copy)]
 pub enum Shape {
-    None(NoStore),
-    One(OneStore),
-    Maybe(MaybeStore),
+    // a cell, or none
+    One(Option<CellStore>),
     Two(TwoStores),
+    TwoReturns(TwoReturns),
     Three(ThreeStores),
     Byte(ByteStore),
     Roll(RollStores),
-    TwoReturns(TwoReturns),
 }

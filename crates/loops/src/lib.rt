@@ -13,25 +13,31 @@ use counting::plus_ends;
 use instruction::shape::{branch_operand, push, write_nothing};
 use instruction::{Instruction, OperandForm};
 use machine::places::{fetch_data, fetch_return};
-use machine::{Machine, MaybeStore, NoStore, OneStore, Registers, Target, Then, TwoReturns, Write};
+use machine::{CellStore, Machine, Registers, Request, Target, Then, TwoReturns, Write};
 
 // 4Bh (DO) ( x1 x2 -- ) R: ( -- x1 x2 )
-pub fn start_loop(machine: Machine, memory: &[u8], r: Registers) -> Result<TwoReturns, Fault>
+pub fn start_loop(
+    machine: Machine,
+    memory: &[u8],
+    r: Registers,
+) -> Result<Request<TwoReturns>, Fault>
     requires { places.Fits machine (length memory.now) }
     ensures { effects.asked effects.two_returns result ≡ plain.plain_at machine Instruction.Do memory.now r }
 {
     let x2 = fetch_data(machine, memory, Address(r.sp))?;
     let x1 = fetch_data(machine, memory, Address(add(r.sp, 4)))?;
-    Ok(TwoReturns {
+    Ok(Request {
         sp: add(r.sp, 8),
         rp: subtract(r.rp, 8),
-        first: Write {
-            at: Address(subtract(r.rp, 4)),
-            value: x1,
-        },
-        second: Write {
-            at: Address(subtract(r.rp, 8)),
-            value: x2,
+        stores: TwoReturns {
+            first: Write {
+                at: Address(subtract(r.rp, 4)),
+                value: x1,
+            },
+            second: Write {
+                at: Address(subtract(r.rp, 8)),
+                value: x2,
+            },
         },
         then: Then::GoOn,
     })
@@ -43,7 +49,7 @@ pub fn step_loop(
     memory: &[u8],
     r: Registers,
     form: OperandForm,
-) -> Result<MaybeStore, Fault>
+) -> Result<Request<Option<CellStore>>, Fault>
     requires { places.Fits machine (length memory.now) }
     ensures { effects.asked effects.maybe_store result ≡ taking.taking_at machine form taking.loop memory.now r }
 {
@@ -54,13 +60,15 @@ pub fn step_loop(
         return Ok(write_nothing(r.sp, add(r.rp, 8)));
     }
     let to = branch_operand(machine, memory, r, form)?;
-    Ok(MaybeStore {
+    Ok(Request {
         sp: r.sp,
         rp: r.rp,
-        target: Target::Return,
-        write: Some(Write {
-            at: Address(r.rp),
-            value: next,
+        stores: Some(CellStore {
+            target: Target::Return,
+            write: Write {
+                at: Address(r.rp),
+                value: next,
+            },
         }),
         then: Then::Jump(Address(to)),
     })
@@ -72,7 +80,7 @@ pub fn step_plus_loop(
     memory: &[u8],
     r: Registers,
     form: OperandForm,
-) -> Result<MaybeStore, Fault>
+) -> Result<Request<Option<CellStore>>, Fault>
     requires { places.Fits machine (length memory.now) }
     ensures { effects.asked effects.maybe_store result ≡ taking.taking_at machine form taking.plus_loop memory.now r }
 {
@@ -84,34 +92,41 @@ pub fn step_plus_loop(
         return Ok(write_nothing(add(r.sp, 4), add(r.rp, 8)));
     }
     let to = branch_operand(machine, memory, r, form)?;
-    Ok(MaybeStore {
+    Ok(Request {
         sp: add(r.sp, 4),
         rp: r.rp,
-        target: Target::Return,
-        write: Some(Write {
-            at: Address(r.rp),
-            value: next,
+        stores: Some(CellStore {
+            target: Target::Return,
+            write: Write {
+                at: Address(r.rp),
+                value: next,
+            },
         }),
         then: Then::Jump(Address(to)),
     })
 }
 
 // 50h UNLOOP R: ( x1 x2 -- )
-pub fn unloop(machine: Machine, memory: &[u8], r: Registers) -> Result<NoStore, Fault>
+pub fn unloop(machine: Machine, memory: &[u8], r: Registers) -> Result<Request<()>, Fault>
     requires { places.Fits machine (length memory.now) }
     ensures { effects.asked effects.no_store result ≡ plain.plain_at machine Instruction.Unloop memory.now r }
 {
     fetch_return(machine, memory, Address(r.rp))?;
     fetch_return(machine, memory, Address(add(r.rp, 4)))?;
-    Ok(NoStore {
+    Ok(Request {
         sp: r.sp,
         rp: add(r.rp, 8),
+        stores: (),
         then: Then::GoOn,
     })
 }
 
 // 51h J ( -- x1 ) R: ( x1 x2 x3 -- x1 x2 x3 )
-pub fn outer_index(machine: Machine, memory: &[u8], r: Registers) -> Result<OneStore, Fault>
+pub fn outer_index(
+    machine: Machine,
+    memory: &[u8],
+    r: Registers,
+) -> Result<Request<CellStore>, Fault>
     requires { places.Fits machine (length memory.now) }
     ensures { effects.asked effects.one_store result ≡ plain.plain_at machine Instruction.J memory.now r }
 {

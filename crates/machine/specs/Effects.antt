@@ -1,6 +1,7 @@
 -- What an instruction asks for, before anything is written. Document 01, The processor: an instruction reads its operands, and
 -- then has the places that it writes judged; whichever fails first is its fault.
-use Rattle.std.specs.Prelude.{List, [], ◌∷◌, ℕ, zero, suc, ◌+◌, ◌*◌, ◌<◌, ◌^◌, Option, Some, None, Result, Ok, Err}
+use Rattle.std.specs.Prelude.{List, [], ◌∷◌, ℕ, zero, suc, ◌+◌, ◌*◌, Option, Some, None, Result, Ok, Err}
+use Prim.{Unit}
 use Rattle.cell.specs.Memory.{cell_at, byte0}
 use Rattle.cell.specs.declared.Fault.{Fault}
 use Rattle.cell.specs.Place.{Fetched}
@@ -10,9 +11,8 @@ use Rattle.machine.specs.declared.Access.TheVariants.{DataWrite, ReturnWrite, Na
 use Rattle.machine.specs.declared.Write.{Write}
 use Rattle.machine.specs.declared.Then.{Then}
 use Rattle.machine.specs.declared.Then.TheVariants.{GoOn, Jump, Halt, Throw}
-use Rattle.machine.specs.declared.NoStore.{NoStore}
-use Rattle.machine.specs.declared.OneStore.{OneStore}
-use Rattle.machine.specs.declared.MaybeStore.{MaybeStore}
+use Rattle.machine.specs.declared.Request.{Request}
+use Rattle.machine.specs.declared.CellStore.{CellStore}
 use Rattle.machine.specs.declared.TwoStores.{TwoStores}
 use Rattle.machine.specs.declared.TwoReturns.{TwoReturns}
 use Rattle.machine.specs.declared.ThreeStores.{ThreeStores}
@@ -71,52 +71,43 @@ control_of (Jump a) = jump a.0
 control_of (Halt x) = halt x
 control_of Throw = throwing
 
--- the effect that a value of the code stands for
 abbrev pub effect_of : ℕ → ℕ → List Store → Then → Effect
 effect_of sp rp stores then = act (record { sp = sp; rp = rp; stores = stores; control = control_of then })
 
--- what the code of an instruction answers: an effect's value, or the fault of its reading
-abbrev pub asked : {A : Type 0} → (A → Effect) → Result A Fault → Effect
-asked effect (Ok e) = effect e
-asked effect (Err f) = raise f
+-- the effect that a request of the code stands for, by what its stores stand for
+abbrev pub requested : {S : Type 0} → (S → List Store) → Request S → Effect
+requested listed q = effect_of q.sp q.rp (listed q.stores) q.then
+
+-- what the code of an instruction answers: a request, or the fault of its reading
+abbrev pub asked : {S : Type 0} → (S → List Store) → Result (Request S) Fault → Effect
+asked listed (Ok q) = requested listed q
+asked listed (Err f) = raise f
 
 abbrev pub store_of : Access → Write → Store
 store_of access w = cell_store access w.at.0 w.value
 
-abbrev pub no_store : NoStore → Effect
-no_store e = effect_of e.sp e.rp [] e.then
+abbrev pub no_store : Unit {0} → List Store
+no_store s = []
 
-abbrev pub one_store : OneStore → Effect
-one_store e = effect_of e.sp e.rp (store_of (access_to e.target) e.write ∷ []) e.then
+abbrev pub one_store : CellStore → List Store
+one_store s = store_of (access_to s.target) s.write ∷ []
 
-abbrev pub maybe_stores : Access → Option Write → List Store
-maybe_stores access (Some w) = store_of access w ∷ []
-maybe_stores access None = []
+abbrev pub maybe_store : Option CellStore → List Store
+maybe_store (Some s) = one_store s
+maybe_store None = []
 
-abbrev pub maybe_store : MaybeStore → Effect
-maybe_store e = effect_of e.sp e.rp (maybe_stores (access_to e.target) e.write) e.then
+abbrev pub two_stores : TwoStores → List Store
+two_stores s = store_of DataWrite s.first ∷ store_of DataWrite s.second ∷ []
 
-abbrev pub two_stores : TwoStores → Effect
-two_stores e = effect_of e.sp e.rp (store_of DataWrite e.first ∷ store_of DataWrite e.second ∷ []) e.then
+abbrev pub two_returns : TwoReturns → List Store
+two_returns s = store_of ReturnWrite s.first ∷ store_of ReturnWrite s.second ∷ []
 
-abbrev pub two_returns : TwoReturns → Effect
-two_returns e = effect_of e.sp e.rp (store_of ReturnWrite e.first ∷ store_of ReturnWrite e.second ∷ []) e.then
+abbrev pub three_stores : ThreeStores → List Store
+three_stores s = store_of DataWrite s.first ∷ store_of DataWrite s.second ∷ store_of DataWrite s.third ∷ []
 
-abbrev pub three_stores : ThreeStores → Effect
-three_stores e =
-    effect_of e.sp e.rp (store_of DataWrite e.first ∷ store_of DataWrite e.second ∷ store_of DataWrite e.third ∷ [])
-    e.then
-
-abbrev pub byte_stores : ByteStore → List Store
-byte_stores e = record { width = one_byte; access = NamedWrite; at = e.at.0; value = byte0 e.value } ∷ []
-
-abbrev pub byte_store : ByteStore → Effect
-byte_store e = effect_of e.sp e.rp (byte_stores e) e.then
+abbrev pub byte_store : ByteStore → List Store
+byte_store s = record { width = one_byte; access = NamedWrite; at = s.at.0; value = byte0 s.value } ∷ []
 
 -- ROLL's values are those of the memory m, before its stores
-abbrev pub roll_effect : ℕ → List ℕ → RollStores → Effect
-roll_effect order m e = effect_of e.sp e.rp (rolled order m e.top.0 e.depth.0) e.then
-
--- the deepest place of ROLL is an address: its item was read there
-abbrev pub Reached : RollStores → Type 0
-Reached e = e.top.0 + 4 * e.depth.0 < 2 ^ 32
+abbrev pub rolled_stores : ℕ → List ℕ → RollStores → List Store
+rolled_stores order m s = rolled order m s.top.0 s.depth.0

@@ -3,6 +3,8 @@
 
 pub mod places;
 
+ghost use Rattle.std.specs.Prelude.{◌+◌, ◌*◌, ◌<◌, ◌^◌};
+
 use cell::{Address, CellCount, Fault};
 
 // The cells that a stack may have: so many of them, the highest at `last`.
@@ -94,82 +96,59 @@ pub enum Then {
     Throw,
 }
 
-// What an instruction asks for, by the number of cells that it writes: the new stack pointers, the writes in order, and what follows.
+// What an instruction asks for: the new stack pointers, the stores in order, and what follows. `S` says how many cells are written, and where: one of the types
+// below, `()` for no store, or an `Option` of one.
 #[derive(Clone, Copy)]
-pub struct NoStore {
+pub struct Request<S> {
     pub sp: u32,
     pub rp: u32,
+    pub stores: S,
     pub then: Then,
 }
 
+// One cell.
 #[derive(Clone, Copy)]
-pub struct OneStore {
-    pub sp: u32,
-    pub rp: u32,
+pub struct CellStore {
     pub target: Target,
     pub write: Write,
-    pub then: Then,
 }
 
-// One write, or none.
-#[derive(Clone, Copy)]
-pub struct MaybeStore {
-    pub sp: u32,
-    pub rp: u32,
-    pub target: Target,
-    pub write: Option<Write>,
-    pub then: Then,
-}
-
-// On the data stack.
+// Two cells of the data stack.
 #[derive(Clone, Copy)]
 pub struct TwoStores {
-    pub sp: u32,
-    pub rp: u32,
     pub first: Write,
     pub second: Write,
-    pub then: Then,
 }
 
-// On the return stack.
+// Two cells of the return stack.
 #[derive(Clone, Copy)]
 pub struct TwoReturns {
-    pub sp: u32,
-    pub rp: u32,
     pub first: Write,
     pub second: Write,
-    pub then: Then,
 }
 
-// On the data stack.
+// Three cells of the data stack.
 #[derive(Clone, Copy)]
 pub struct ThreeStores {
-    pub sp: u32,
-    pub rp: u32,
     pub first: Write,
     pub second: Write,
     pub third: Write,
-    pub then: Then,
 }
 
 // The low byte of `value`, at a byte's address.
 #[derive(Clone, Copy)]
 pub struct ByteStore {
-    pub sp: u32,
-    pub rp: u32,
     pub at: Address,
     pub value: u32,
-    pub then: Then,
 }
 
-// ROLL: the item `depth` below the top one comes to the top, which lies at `top` once the operand is popped.
+// ROLL: the item `depth` below the top one comes to the top, which lies at `top` once the operand is popped. The deepest place is an address: its item was
+// read there.
 #[derive(Clone, Copy)]
 pub struct RollStores {
-    pub sp: u32,
-    pub rp: u32,
     pub top: Address,
     pub depth: CellCount,
-    pub then: Then,
+    ghost reached: { top.0 + 4 * depth.0 < 2 ^ 32 },
 }
 
 // How an instruction left the machine, before NEXT, a throw or a stop is carried out.

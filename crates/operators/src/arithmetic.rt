@@ -12,10 +12,10 @@ use cell::{Address, Fault, number};
 use instruction::Instruction;
 use instruction::shape::{reduce, replace, replace_both};
 use machine::places::fetch_data;
-use machine::{Machine, OneStore, Registers, TwoStores};
+use machine::{CellStore, Machine, Registers, Request, TwoStores};
 
 // 1Eh + ( n1 n2 -- n3 )
-pub fn plus(machine: Machine, memory: &[u8], r: Registers) -> Result<OneStore, Fault>
+pub fn plus(machine: Machine, memory: &[u8], r: Registers) -> Result<Request<CellStore>, Fault>
     requires { places.Fits machine (length memory.now) }
     ensures { effects.asked effects.one_store result ≡ plain.plain_at machine Instruction.Plus memory.now r }
 {
@@ -25,7 +25,7 @@ pub fn plus(machine: Machine, memory: &[u8], r: Registers) -> Result<OneStore, F
 }
 
 // 1Fh - ( n1 n2 -- n3 )
-pub fn minus(machine: Machine, memory: &[u8], r: Registers) -> Result<OneStore, Fault>
+pub fn minus(machine: Machine, memory: &[u8], r: Registers) -> Result<Request<CellStore>, Fault>
     requires { places.Fits machine (length memory.now) }
     ensures { effects.asked effects.one_store result ≡ plain.plain_at machine Instruction.Minus memory.now r }
 {
@@ -35,7 +35,11 @@ pub fn minus(machine: Machine, memory: &[u8], r: Registers) -> Result<OneStore, 
 }
 
 // 20h >-< ( n1 n2 -- n3 )
-pub fn swap_minus(machine: Machine, memory: &[u8], r: Registers) -> Result<OneStore, Fault>
+pub fn swap_minus(
+    machine: Machine,
+    memory: &[u8],
+    r: Registers,
+) -> Result<Request<CellStore>, Fault>
     requires { places.Fits machine (length memory.now) }
     ensures { effects.asked effects.one_store result ≡ plain.plain_at machine Instruction.SwapMinus memory.now r }
 {
@@ -45,7 +49,7 @@ pub fn swap_minus(machine: Machine, memory: &[u8], r: Registers) -> Result<OneSt
 }
 
 // 21h 1+ ( n1 -- n2 )
-pub fn one_plus(machine: Machine, memory: &[u8], r: Registers) -> Result<OneStore, Fault>
+pub fn one_plus(machine: Machine, memory: &[u8], r: Registers) -> Result<Request<CellStore>, Fault>
     requires { places.Fits machine (length memory.now) }
     ensures { effects.asked effects.one_store result ≡ plain.plain_at machine Instruction.OnePlus memory.now r }
 {
@@ -54,7 +58,7 @@ pub fn one_plus(machine: Machine, memory: &[u8], r: Registers) -> Result<OneStor
 }
 
 // 22h 1- ( n1 -- n2 )
-pub fn one_minus(machine: Machine, memory: &[u8], r: Registers) -> Result<OneStore, Fault>
+pub fn one_minus(machine: Machine, memory: &[u8], r: Registers) -> Result<Request<CellStore>, Fault>
     requires { places.Fits machine (length memory.now) }
     ensures { effects.asked effects.one_store result ≡ plain.plain_at machine Instruction.OneMinus memory.now r }
 {
@@ -63,7 +67,7 @@ pub fn one_minus(machine: Machine, memory: &[u8], r: Registers) -> Result<OneSto
 }
 
 // 23h CELL+ ( n1 -- n2 )
-pub fn cell_plus(machine: Machine, memory: &[u8], r: Registers) -> Result<OneStore, Fault>
+pub fn cell_plus(machine: Machine, memory: &[u8], r: Registers) -> Result<Request<CellStore>, Fault>
     requires { places.Fits machine (length memory.now) }
     ensures { effects.asked effects.one_store result ≡ plain.plain_at machine Instruction.CellPlus memory.now r }
 {
@@ -72,7 +76,11 @@ pub fn cell_plus(machine: Machine, memory: &[u8], r: Registers) -> Result<OneSto
 }
 
 // 24h CELL- ( n1 -- n2 )
-pub fn cell_minus(machine: Machine, memory: &[u8], r: Registers) -> Result<OneStore, Fault>
+pub fn cell_minus(
+    machine: Machine,
+    memory: &[u8],
+    r: Registers,
+) -> Result<Request<CellStore>, Fault>
     requires { places.Fits machine (length memory.now) }
     ensures { effects.asked effects.one_store result ≡ plain.plain_at machine Instruction.CellMinus memory.now r }
 {
@@ -81,7 +89,7 @@ pub fn cell_minus(machine: Machine, memory: &[u8], r: Registers) -> Result<OneSt
 }
 
 // 25h * ( n1 n2 -- n3 )
-pub fn star(machine: Machine, memory: &[u8], r: Registers) -> Result<OneStore, Fault>
+pub fn star(machine: Machine, memory: &[u8], r: Registers) -> Result<Request<CellStore>, Fault>
     requires { places.Fits machine (length memory.now) }
     ensures { effects.asked effects.one_store result ≡ plain.plain_at machine Instruction.Star memory.now r }
 {
@@ -91,7 +99,7 @@ pub fn star(machine: Machine, memory: &[u8], r: Registers) -> Result<OneStore, F
 }
 
 // 26h / ( n1 n2 -- n3 )
-pub fn slash(machine: Machine, memory: &[u8], r: Registers) -> Result<OneStore, Fault>
+pub fn slash(machine: Machine, memory: &[u8], r: Registers) -> Result<Request<CellStore>, Fault>
     requires { places.Fits machine (length memory.now) }
     ensures { effects.asked effects.one_store result ≡ plain.plain_at machine Instruction.Slash memory.now r }
 {
@@ -105,7 +113,7 @@ pub fn slash(machine: Machine, memory: &[u8], r: Registers) -> Result<OneStore, 
 }
 
 // 27h MOD ( n1 n2 -- n3 )
-pub fn modulo(machine: Machine, memory: &[u8], r: Registers) -> Result<OneStore, Fault>
+pub fn modulo(machine: Machine, memory: &[u8], r: Registers) -> Result<Request<CellStore>, Fault>
     requires { places.Fits machine (length memory.now) }
     ensures { effects.asked effects.one_store result ≡ plain.plain_at machine Instruction.Mod memory.now r }
 {
@@ -119,7 +127,7 @@ pub fn modulo(machine: Machine, memory: &[u8], r: Registers) -> Result<OneStore,
 }
 
 // 28h /MOD ( n1 n2 -- n3 n4 )
-pub fn slash_mod(machine: Machine, memory: &[u8], r: Registers) -> Result<TwoStores, Fault>
+pub fn slash_mod(machine: Machine, memory: &[u8], r: Registers) -> Result<Request<TwoStores>, Fault>
     requires { places.Fits machine (length memory.now) }
     ensures { effects.asked effects.two_stores result ≡ plain.plain_at machine Instruction.SlashMod memory.now r }
 {
@@ -132,7 +140,11 @@ pub fn slash_mod(machine: Machine, memory: &[u8], r: Registers) -> Result<TwoSto
 }
 
 // 29h U/MOD ( u1 u2 -- u3 u4 )
-pub fn u_slash_mod(machine: Machine, memory: &[u8], r: Registers) -> Result<TwoStores, Fault>
+pub fn u_slash_mod(
+    machine: Machine,
+    memory: &[u8],
+    r: Registers,
+) -> Result<Request<TwoStores>, Fault>
     requires { places.Fits machine (length memory.now) }
     ensures { effects.asked effects.two_stores result ≡ plain.plain_at machine Instruction.USlashMod memory.now r }
 {
@@ -145,7 +157,11 @@ pub fn u_slash_mod(machine: Machine, memory: &[u8], r: Registers) -> Result<TwoS
 }
 
 // 2Ah S/REM ( n1 n2 -- n3 n4 )
-pub fn s_slash_rem(machine: Machine, memory: &[u8], r: Registers) -> Result<TwoStores, Fault>
+pub fn s_slash_rem(
+    machine: Machine,
+    memory: &[u8],
+    r: Registers,
+) -> Result<Request<TwoStores>, Fault>
     requires { places.Fits machine (length memory.now) }
     ensures { effects.asked effects.two_stores result ≡ plain.plain_at machine Instruction.SSlashRem memory.now r }
 {
@@ -158,7 +174,7 @@ pub fn s_slash_rem(machine: Machine, memory: &[u8], r: Registers) -> Result<TwoS
 }
 
 // 2Bh 2/ ( x1 -- x2 )
-pub fn two_slash(machine: Machine, memory: &[u8], r: Registers) -> Result<OneStore, Fault>
+pub fn two_slash(machine: Machine, memory: &[u8], r: Registers) -> Result<Request<CellStore>, Fault>
     requires { places.Fits machine (length memory.now) }
     ensures { effects.asked effects.one_store result ≡ plain.plain_at machine Instruction.TwoSlash memory.now r }
 {
@@ -167,7 +183,7 @@ pub fn two_slash(machine: Machine, memory: &[u8], r: Registers) -> Result<OneSto
 }
 
 // 2Ch CELLS ( n1 -- n2 )
-pub fn cells(machine: Machine, memory: &[u8], r: Registers) -> Result<OneStore, Fault>
+pub fn cells(machine: Machine, memory: &[u8], r: Registers) -> Result<Request<CellStore>, Fault>
     requires { places.Fits machine (length memory.now) }
     ensures { effects.asked effects.one_store result ≡ plain.plain_at machine Instruction.Cells memory.now r }
 {
@@ -176,7 +192,7 @@ pub fn cells(machine: Machine, memory: &[u8], r: Registers) -> Result<OneStore, 
 }
 
 // 2Dh ABS ( n -- u )
-pub fn abs(machine: Machine, memory: &[u8], r: Registers) -> Result<OneStore, Fault>
+pub fn abs(machine: Machine, memory: &[u8], r: Registers) -> Result<Request<CellStore>, Fault>
     requires { places.Fits machine (length memory.now) }
     ensures { effects.asked effects.one_store result ≡ plain.plain_at machine Instruction.Abs memory.now r }
 {
@@ -185,7 +201,7 @@ pub fn abs(machine: Machine, memory: &[u8], r: Registers) -> Result<OneStore, Fa
 }
 
 // 2Eh NEGATE ( n1 -- n2 )
-pub fn negate(machine: Machine, memory: &[u8], r: Registers) -> Result<OneStore, Fault>
+pub fn negate(machine: Machine, memory: &[u8], r: Registers) -> Result<Request<CellStore>, Fault>
     requires { places.Fits machine (length memory.now) }
     ensures { effects.asked effects.one_store result ≡ plain.plain_at machine Instruction.Negate memory.now r }
 {
@@ -194,7 +210,7 @@ pub fn negate(machine: Machine, memory: &[u8], r: Registers) -> Result<OneStore,
 }
 
 // 2Fh MAX ( n1 n2 -- n3 )
-pub fn max(machine: Machine, memory: &[u8], r: Registers) -> Result<OneStore, Fault>
+pub fn max(machine: Machine, memory: &[u8], r: Registers) -> Result<Request<CellStore>, Fault>
     requires { places.Fits machine (length memory.now) }
     ensures { effects.asked effects.one_store result ≡ plain.plain_at machine Instruction.Max memory.now r }
 {
@@ -204,7 +220,7 @@ pub fn max(machine: Machine, memory: &[u8], r: Registers) -> Result<OneStore, Fa
 }
 
 // 30h MIN ( n1 n2 -- n3 )
-pub fn min(machine: Machine, memory: &[u8], r: Registers) -> Result<OneStore, Fault>
+pub fn min(machine: Machine, memory: &[u8], r: Registers) -> Result<Request<CellStore>, Fault>
     requires { places.Fits machine (length memory.now) }
     ensures { effects.asked effects.one_store result ≡ plain.plain_at machine Instruction.Min memory.now r }
 {

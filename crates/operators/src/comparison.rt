@@ -11,10 +11,10 @@ use cell::{Address, Fault};
 use instruction::Instruction;
 use instruction::shape::{reduce, replace};
 use machine::places::fetch_data;
-use machine::{Machine, OneStore, Registers};
+use machine::{CellStore, Machine, Registers, Request};
 
 // 0Fh < ( n1 n2 -- flag )
-pub fn less(machine: Machine, memory: &[u8], r: Registers) -> Result<OneStore, Fault>
+pub fn less(machine: Machine, memory: &[u8], r: Registers) -> Result<Request<CellStore>, Fault>
     requires { places.Fits machine (length memory.now) }
     ensures { effects.asked effects.one_store result ≡ plain.plain_at machine Instruction.Less memory.now r }
 {
@@ -24,7 +24,7 @@ pub fn less(machine: Machine, memory: &[u8], r: Registers) -> Result<OneStore, F
 }
 
 // 10h > ( n1 n2 -- flag )
-pub fn greater(machine: Machine, memory: &[u8], r: Registers) -> Result<OneStore, Fault>
+pub fn greater(machine: Machine, memory: &[u8], r: Registers) -> Result<Request<CellStore>, Fault>
     requires { places.Fits machine (length memory.now) }
     ensures { effects.asked effects.one_store result ≡ plain.plain_at machine Instruction.Greater memory.now r }
 {
@@ -34,7 +34,7 @@ pub fn greater(machine: Machine, memory: &[u8], r: Registers) -> Result<OneStore
 }
 
 // 11h = ( x1 x2 -- flag )
-pub fn equal(machine: Machine, memory: &[u8], r: Registers) -> Result<OneStore, Fault>
+pub fn equal(machine: Machine, memory: &[u8], r: Registers) -> Result<Request<CellStore>, Fault>
     requires { places.Fits machine (length memory.now) }
     ensures { effects.asked effects.one_store result ≡ plain.plain_at machine Instruction.Equal memory.now r }
 {
@@ -44,7 +44,7 @@ pub fn equal(machine: Machine, memory: &[u8], r: Registers) -> Result<OneStore, 
 }
 
 // 12h <> ( x1 x2 -- flag )
-pub fn not_equal(machine: Machine, memory: &[u8], r: Registers) -> Result<OneStore, Fault>
+pub fn not_equal(machine: Machine, memory: &[u8], r: Registers) -> Result<Request<CellStore>, Fault>
     requires { places.Fits machine (length memory.now) }
     ensures { effects.asked effects.one_store result ≡ plain.plain_at machine Instruction.NotEqual memory.now r }
 {
@@ -54,7 +54,7 @@ pub fn not_equal(machine: Machine, memory: &[u8], r: Registers) -> Result<OneSto
 }
 
 // 13h 0< ( n -- flag )
-pub fn zero_less(machine: Machine, memory: &[u8], r: Registers) -> Result<OneStore, Fault>
+pub fn zero_less(machine: Machine, memory: &[u8], r: Registers) -> Result<Request<CellStore>, Fault>
     requires { places.Fits machine (length memory.now) }
     ensures { effects.asked effects.one_store result ≡ plain.plain_at machine Instruction.ZeroLess memory.now r }
 {
@@ -63,7 +63,11 @@ pub fn zero_less(machine: Machine, memory: &[u8], r: Registers) -> Result<OneSto
 }
 
 // 14h 0> ( n -- flag )
-pub fn zero_greater(machine: Machine, memory: &[u8], r: Registers) -> Result<OneStore, Fault>
+pub fn zero_greater(
+    machine: Machine,
+    memory: &[u8],
+    r: Registers,
+) -> Result<Request<CellStore>, Fault>
     requires { places.Fits machine (length memory.now) }
     ensures { effects.asked effects.one_store result ≡ plain.plain_at machine Instruction.ZeroGreater memory.now r }
 {
@@ -72,7 +76,11 @@ pub fn zero_greater(machine: Machine, memory: &[u8], r: Registers) -> Result<One
 }
 
 // 15h 0= ( x -- flag )
-pub fn zero_equal(machine: Machine, memory: &[u8], r: Registers) -> Result<OneStore, Fault>
+pub fn zero_equal(
+    machine: Machine,
+    memory: &[u8],
+    r: Registers,
+) -> Result<Request<CellStore>, Fault>
     requires { places.Fits machine (length memory.now) }
     ensures { effects.asked effects.one_store result ≡ plain.plain_at machine Instruction.ZeroEqual memory.now r }
 {
@@ -81,7 +89,11 @@ pub fn zero_equal(machine: Machine, memory: &[u8], r: Registers) -> Result<OneSt
 }
 
 // 16h 0<> ( x -- flag )
-pub fn zero_not_equal(machine: Machine, memory: &[u8], r: Registers) -> Result<OneStore, Fault>
+pub fn zero_not_equal(
+    machine: Machine,
+    memory: &[u8],
+    r: Registers,
+) -> Result<Request<CellStore>, Fault>
     requires { places.Fits machine (length memory.now) }
     ensures { effects.asked effects.one_store result ≡ plain.plain_at machine Instruction.ZeroNotEqual memory.now r }
 {
@@ -90,7 +102,7 @@ pub fn zero_not_equal(machine: Machine, memory: &[u8], r: Registers) -> Result<O
 }
 
 // 17h U< ( u1 u2 -- flag )
-pub fn u_less(machine: Machine, memory: &[u8], r: Registers) -> Result<OneStore, Fault>
+pub fn u_less(machine: Machine, memory: &[u8], r: Registers) -> Result<Request<CellStore>, Fault>
     requires { places.Fits machine (length memory.now) }
     ensures { effects.asked effects.one_store result ≡ plain.plain_at machine Instruction.ULess memory.now r }
 {
@@ -100,7 +112,7 @@ pub fn u_less(machine: Machine, memory: &[u8], r: Registers) -> Result<OneStore,
 }
 
 // 18h U> ( u1 u2 -- flag )
-pub fn u_greater(machine: Machine, memory: &[u8], r: Registers) -> Result<OneStore, Fault>
+pub fn u_greater(machine: Machine, memory: &[u8], r: Registers) -> Result<Request<CellStore>, Fault>
     requires { places.Fits machine (length memory.now) }
     ensures { effects.asked effects.one_store result ≡ plain.plain_at machine Instruction.UGreater memory.now r }
 {

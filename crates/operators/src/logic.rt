@@ -11,10 +11,10 @@ use cell::{Address, Fault};
 use instruction::Instruction;
 use instruction::shape::{reduce, replace};
 use machine::places::fetch_data;
-use machine::{Machine, OneStore, Registers};
+use machine::{CellStore, Machine, Registers, Request};
 
 // 31h INVERT ( x1 -- x2 )
-pub fn invert(machine: Machine, memory: &[u8], r: Registers) -> Result<OneStore, Fault>
+pub fn invert(machine: Machine, memory: &[u8], r: Registers) -> Result<Request<CellStore>, Fault>
     requires { places.Fits machine (length memory.now) }
     ensures { effects.asked effects.one_store result ≡ plain.plain_at machine Instruction.Invert memory.now r }
 {
@@ -23,7 +23,7 @@ pub fn invert(machine: Machine, memory: &[u8], r: Registers) -> Result<OneStore,
 }
 
 // 32h AND ( x1 x2 -- x3 )
-pub fn and(machine: Machine, memory: &[u8], r: Registers) -> Result<OneStore, Fault>
+pub fn and(machine: Machine, memory: &[u8], r: Registers) -> Result<Request<CellStore>, Fault>
     requires { places.Fits machine (length memory.now) }
     ensures { effects.asked effects.one_store result ≡ plain.plain_at machine Instruction.And memory.now r }
 {
@@ -33,7 +33,7 @@ pub fn and(machine: Machine, memory: &[u8], r: Registers) -> Result<OneStore, Fa
 }
 
 // 33h OR ( x1 x2 -- x3 )
-pub fn or(machine: Machine, memory: &[u8], r: Registers) -> Result<OneStore, Fault>
+pub fn or(machine: Machine, memory: &[u8], r: Registers) -> Result<Request<CellStore>, Fault>
     requires { places.Fits machine (length memory.now) }
     ensures { effects.asked effects.one_store result ≡ plain.plain_at machine Instruction.Or memory.now r }
 {
@@ -43,7 +43,7 @@ pub fn or(machine: Machine, memory: &[u8], r: Registers) -> Result<OneStore, Fau
 }
 
 // 34h XOR ( x1 x2 -- x3 )
-pub fn xor(machine: Machine, memory: &[u8], r: Registers) -> Result<OneStore, Fault>
+pub fn xor(machine: Machine, memory: &[u8], r: Registers) -> Result<Request<CellStore>, Fault>
     requires { places.Fits machine (length memory.now) }
     ensures { effects.asked effects.one_store result ≡ plain.plain_at machine Instruction.Xor memory.now r }
 {
@@ -53,7 +53,7 @@ pub fn xor(machine: Machine, memory: &[u8], r: Registers) -> Result<OneStore, Fa
 }
 
 // 35h LSHIFT ( x1 u -- x2 )
-pub fn l_shift(machine: Machine, memory: &[u8], r: Registers) -> Result<OneStore, Fault>
+pub fn l_shift(machine: Machine, memory: &[u8], r: Registers) -> Result<Request<CellStore>, Fault>
     requires { places.Fits machine (length memory.now) }
     ensures { effects.asked effects.one_store result ≡ plain.plain_at machine Instruction.LShift memory.now r }
 {
@@ -63,7 +63,7 @@ pub fn l_shift(machine: Machine, memory: &[u8], r: Registers) -> Result<OneStore
 }
 
 // 36h RSHIFT ( x1 u -- x2 )
-pub fn r_shift(machine: Machine, memory: &[u8], r: Registers) -> Result<OneStore, Fault>
+pub fn r_shift(machine: Machine, memory: &[u8], r: Registers) -> Result<Request<CellStore>, Fault>
     requires { places.Fits machine (length memory.now) }
     ensures { effects.asked effects.one_store result ≡ plain.plain_at machine Instruction.RShift memory.now r }
 {
@@ -73,7 +73,11 @@ pub fn r_shift(machine: Machine, memory: &[u8], r: Registers) -> Result<OneStore
 }
 
 // 37h 1LSHIFT ( x1 -- x2 )
-pub fn one_l_shift(machine: Machine, memory: &[u8], r: Registers) -> Result<OneStore, Fault>
+pub fn one_l_shift(
+    machine: Machine,
+    memory: &[u8],
+    r: Registers,
+) -> Result<Request<CellStore>, Fault>
     requires { places.Fits machine (length memory.now) }
     ensures { effects.asked effects.one_store result ≡ plain.plain_at machine Instruction.OneLShift memory.now r }
 {
@@ -82,7 +86,11 @@ pub fn one_l_shift(machine: Machine, memory: &[u8], r: Registers) -> Result<OneS
 }
 
 // 38h 1RSHIFT ( x1 -- x2 )
-pub fn one_r_shift(machine: Machine, memory: &[u8], r: Registers) -> Result<OneStore, Fault>
+pub fn one_r_shift(
+    machine: Machine,
+    memory: &[u8],
+    r: Registers,
+) -> Result<Request<CellStore>, Fault>
     requires { places.Fits machine (length memory.now) }
     ensures { effects.asked effects.one_store result ≡ plain.plain_at machine Instruction.OneRShift memory.now r }
 {

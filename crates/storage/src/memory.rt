@@ -11,10 +11,14 @@ use cell::{Address, Fault};
 use instruction::Instruction;
 use instruction::shape::replace;
 use machine::places::{fetch, fetch_byte, fetch_data};
-use machine::{ByteStore, Machine, OneStore, Registers, Target, Then, Write};
+use machine::{ByteStore, CellStore, Machine, Registers, Request, Target, Then, Write};
 
 // 39h @ ( a-addr -- x )
-pub fn fetch_named(machine: Machine, memory: &[u8], r: Registers) -> Result<OneStore, Fault>
+pub fn fetch_named(
+    machine: Machine,
+    memory: &[u8],
+    r: Registers,
+) -> Result<Request<CellStore>, Fault>
     requires { places.Fits machine (length memory.now) }
     ensures { effects.asked effects.one_store result ≡ plain.plain_at machine Instruction.FetchCell memory.now r }
 {
@@ -24,26 +28,32 @@ pub fn fetch_named(machine: Machine, memory: &[u8], r: Registers) -> Result<OneS
 }
 
 // 3Ah ! ( x a-addr -- )
-pub fn store_named(machine: Machine, memory: &[u8], r: Registers) -> Result<OneStore, Fault>
+pub fn store_named(
+    machine: Machine,
+    memory: &[u8],
+    r: Registers,
+) -> Result<Request<CellStore>, Fault>
     requires { places.Fits machine (length memory.now) }
     ensures { effects.asked effects.one_store result ≡ plain.plain_at machine Instruction.StoreCell memory.now r }
 {
     let a = fetch_data(machine, memory, Address(r.sp))?;
     let x = fetch_data(machine, memory, Address(add(r.sp, 4)))?;
-    Ok(OneStore {
+    Ok(Request {
         sp: add(r.sp, 8),
         rp: r.rp,
-        target: Target::Named,
-        write: Write {
-            at: Address(a),
-            value: x,
+        stores: CellStore {
+            target: Target::Named,
+            write: Write {
+                at: Address(a),
+                value: x,
+            },
         },
         then: Then::GoOn,
     })
 }
 
 // 3Bh C@ ( c-addr -- char )
-pub fn c_fetch(machine: Machine, memory: &[u8], r: Registers) -> Result<OneStore, Fault>
+pub fn c_fetch(machine: Machine, memory: &[u8], r: Registers) -> Result<Request<CellStore>, Fault>
     requires { places.Fits machine (length memory.now) }
     ensures { effects.asked effects.one_store result ≡ plain.plain_at machine Instruction.CFetch memory.now r }
 {
@@ -53,36 +63,44 @@ pub fn c_fetch(machine: Machine, memory: &[u8], r: Registers) -> Result<OneStore
 }
 
 // 3Ch C! ( char c-addr -- )
-pub fn c_store(machine: Machine, memory: &[u8], r: Registers) -> Result<ByteStore, Fault>
+pub fn c_store(machine: Machine, memory: &[u8], r: Registers) -> Result<Request<ByteStore>, Fault>
     requires { places.Fits machine (length memory.now) }
     ensures { effects.asked effects.byte_store result ≡ plain.plain_at machine Instruction.CStore memory.now r }
 {
     let a = fetch_data(machine, memory, Address(r.sp))?;
     let x = fetch_data(machine, memory, Address(add(r.sp, 4)))?;
-    Ok(ByteStore {
+    Ok(Request {
         sp: add(r.sp, 8),
         rp: r.rp,
-        at: Address(byte_address(machine.order, a)),
-        value: x,
+        stores: ByteStore {
+            at: Address(byte_address(machine.order, a)),
+            value: x,
+        },
         then: Then::GoOn,
     })
 }
 
 // 3Dh +! ( n a-addr -- )
-pub fn plus_store(machine: Machine, memory: &[u8], r: Registers) -> Result<OneStore, Fault>
+pub fn plus_store(
+    machine: Machine,
+    memory: &[u8],
+    r: Registers,
+) -> Result<Request<CellStore>, Fault>
     requires { places.Fits machine (length memory.now) }
     ensures { effects.asked effects.one_store result ≡ plain.plain_at machine Instruction.PlusStore memory.now r }
 {
     let a = fetch_data(machine, memory, Address(r.sp))?;
     let n = fetch_data(machine, memory, Address(add(r.sp, 4)))?;
     let x = fetch(machine, memory, Address(a))?;
-    Ok(OneStore {
+    Ok(Request {
         sp: add(r.sp, 8),
         rp: r.rp,
-        target: Target::Named,
-        write: Write {
-            at: Address(a),
-            value: add(x, n),
+        stores: CellStore {
+            target: Target::Named,
+            write: Write {
+                at: Address(a),
+                value: add(x, n),
+            },
         },
         then: Then::GoOn,
     })

@@ -10,18 +10,19 @@ use cell::number::add;
 use cell::{Address, Fault};
 use instruction::Instruction;
 use machine::places::fetch_data;
-use machine::{Machine, NoStore, Registers, Then};
+use machine::{Machine, Registers, Request, Then};
 
 // 3Fh SP! ( a-addr -- )
-pub fn sp_store(machine: Machine, memory: &[u8], r: Registers) -> Result<NoStore, Fault>
+pub fn sp_store(machine: Machine, memory: &[u8], r: Registers) -> Result<Request<()>, Fault>
     requires { places.Fits machine (length memory.now) }
     ensures { effects.asked effects.no_store result ≡ plain.plain_at machine Instruction.SpStore memory.now r }
 {
     let x = fetch_data(machine, memory, Address(r.sp))?;
     if x % 4 == 0 {
-        return Ok(NoStore {
+        return Ok(Request {
             sp: x,
             rp: r.rp,
+            stores: (),
             then: Then::GoOn,
         });
     }
@@ -29,15 +30,16 @@ pub fn sp_store(machine: Machine, memory: &[u8], r: Registers) -> Result<NoStore
 }
 
 // 41h RP! ( a-addr -- )
-pub fn rp_store(machine: Machine, memory: &[u8], r: Registers) -> Result<NoStore, Fault>
+pub fn rp_store(machine: Machine, memory: &[u8], r: Registers) -> Result<Request<()>, Fault>
     requires { places.Fits machine (length memory.now) }
     ensures { effects.asked effects.no_store result ≡ plain.plain_at machine Instruction.RpStore memory.now r }
 {
     let x = fetch_data(machine, memory, Address(r.sp))?;
     if x % 4 == 0 {
-        return Ok(NoStore {
+        return Ok(Request {
             sp: add(r.sp, 4),
             rp: x,
+            stores: (),
             then: Then::GoOn,
         });
     }

@@ -1,10 +1,10 @@
 -- `roll_cells` meets its contract. The invariant is `Rolling`.
 use Rattle.machine.specs.Commits as commits
-use Rattle.commits_roll.proofs.RollLaws.{roll_begins, roll_again, roll_done}
+use Rattle.commits.proofs.RollLaws.{roll_begins, roll_again, roll_done}
 use Prim.Native.Nat.{◌+◌, ◌-◌}
 use native.Mathlib.Omega.{arith}
 use mathlib.Core.Path.{◌≡◌}
-use Rattle.commits_roll.proofs.roll_cells.Goals as goal
+use Rattle.commits.proofs.rolling.roll_cells.Goals as goal
 
 pub returns-then-depth-eq0 : goal.returns-then-depth-eq0
 unfolding commits.stored_of

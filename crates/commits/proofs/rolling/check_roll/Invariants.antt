@@ -1,5 +1,5 @@
-use Rattle.commits_roll.proofs.RollLaws.{Judging}
-use Rattle.commits_roll.proofs.check_roll.Given as goal
+use Rattle.commits.proofs.RollLaws.{Judging}
+use Rattle.commits.proofs.rolling.check_roll.Given as goal
 
 abbrev pub invariant-loop-k : goal.invariant-loop-k
 invariant-loop-k l = Judging l.machine l.memory l.top.0 l.initial.k l.k

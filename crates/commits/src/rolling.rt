@@ -1,25 +1,20 @@
-// ROLL: its places judged, its cells moved, its commit.
+// ROLL: its places judged, its cells moved.
 #![tactic(auto, using(crate::proofs::RollLaws::rolled_room), unfolding(machine::specs::Commits::commit_of, machine::specs::Commits::places_of))]
 
-ghost use Rattle.std.specs.Prelude.{◌≡◌, ◌+◌, ◌*◌, ◌<◌, ◌≤◌, ◌^◌, length, IfOk};
+ghost use Rattle.std.specs.Prelude.{◌≡◌, ◌+◌, ◌*◌, ◌<◌, ◌≤◌, ◌^◌, length};
 ghost use Rattle.machine.specs.Places as places;
 ghost use Rattle.machine.specs.Effects as effects;
 ghost use Rattle.machine.specs.Commits as commits;
 
+use crate::stores::Stores;
 use cell::memory::{load, store};
 use cell::place::address_at;
 use cell::{Address, CellCount, Fault};
-use commits::commit::settle;
 use machine::places::check_data_write;
-use machine::{Machine, Registers, RollStores, Step};
+use machine::{Machine, RollStores};
 
 // The places that ROLL writes, deepest first: the first bad one.
-pub fn check_roll(
-    machine: Machine,
-    memory: &[u8],
-    top: Address,
-    depth: CellCount,
-) -> Result<(), Fault>
+fn check_roll(machine: Machine, memory: &[u8], top: Address, depth: CellCount) -> Result<(), Fault>
     requires depth_bound { top.0 + 4 * depth.0 < 2 ^ 32 }
     requires fits { places.Fits machine (length memory.now) }
     ensures { result ≡ commits.places_of machine (length memory.now) (effects.rolled machine.order memory.now top.0 depth.0) }
@@ -50,18 +45,14 @@ fn roll_cells(machine: Machine, memory: &mut [u8], top: Address, depth: CellCoun
     store(machine.order, memory, top, last)
 }
 
-pub fn commit_roll(
-    machine: Machine,
-    memory: &mut [u8],
-    r: Registers,
-    asked: Result<RollStores, Fault>,
-) -> Result<Step, Fault>
-    requires fits { places.Fits machine (length memory.old) }
-    requires reached { IfOk asked effects.Reached }
-    ensures { commits.stepped memory.new (commits.step_of r result) ≡ commits.commit_of machine memory.old r (effects.asked (effects.roll_effect machine.order memory.old) asked) }
-{
-    let e = asked?;
-    check_roll(machine, memory, e.top, e.depth)?;
-    roll_cells(machine, memory, e.top, e.depth);
-    Ok(settle(r.ep, r.a, e.sp, e.rp, e.then))
+impl Stores for RollStores {
+    ghost listed = { λ order m. effects.rolled_stores order m };
+
+    fn check(self, machine: Machine, memory: &[u8]) -> Result<(), Fault> {
+        check_roll(machine, memory, self.top, self.depth)
+    }
+
+    fn write(self, machine: Machine, memory: &mut [u8]) {
+        roll_cells(machine, memory, self.top, self.depth)
+    }
 }

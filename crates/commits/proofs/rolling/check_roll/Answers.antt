@@ -3,8 +3,8 @@ use Rattle.std.proofs.lemmas.Result.{err_from_is_err_and}
 use Prim.Native.Nat.{◌+◌, ◌-◌}
 use native.Mathlib.Omega.{arith}
 use mathlib.Core.Path.{◌≡◌, sym, ◌∙◌}
-use Rattle.commits_roll.proofs.RollLaws.{judge_bad, judge_again, judge_done}
-use Rattle.commits_roll.proofs.check_roll.Goals as goal
+use Rattle.commits.proofs.RollLaws.{judge_bad, judge_again, judge_done}
+use Rattle.commits.proofs.rolling.check_roll.Goals as goal
 
 pub loop-k-preserved : goal.loop-k-preserved
 loop-k-preserved c = let n : c.loop-k.k - 1 + 1 ≡ c.loop-k.k = omega (arith, c.loop-k-test.true) in
