@@ -8,6 +8,8 @@ use borrow.Author.Tests.{ltb-true, ltb-false, leb-true, leb-false, eqb-true, eqb
 use Rattle.cell.specs.Number.{difference}
 use Rattle.cell.specs.Place.{Checked, good, address}
 use Rattle.std.specs.Prelude.{Ok, Err}
+use Rattle.std.specs.Int.{w32, rotate_right}
+use Rattle.std.specs.Int.Bits.{or_shifted_r}
 use Rattle.cell.specs.declared.Fault.TheVariants as fault
 use Rattle.cell.proofs.BooleanLaws.{both_true}
 use Rattle.machine.specs.Places.{Width, end_in, span_at, within, in_table, allowed, table_allows, aligned_as, fault_at, open_to, place_of}
@@ -16,9 +18,14 @@ use Rattle.machine.specs.declared.Guarded.{Guarded}
 use Rattle.machine.specs.declared.Machine.{Machine}
 use Rattle.machine.specs.declared.Access.{Access}
 
--- a distance, rotated right by two bits out of 64
+-- a distance, rotated right by two bits
 abbrev turned : ℕ → ℕ
-turned d = d / 4 + d % 4 * 0x4000000000000000
+turned d = d / 4 + d % 4 * 2 ^ 30
+
+rotated : (d : ℕ) → d < 2 ^ 32 → rotate_right w32 d 2 ≡ turned d
+rotated d h =
+    let high : d * 2 ^ 30 % 2 ^ 32 ≡ d % 4 * 2 ^ 30 = omega arith in
+    rw high (or_shifted_r (d % 4) 30 (d / 4) (omega (arith, h)) ∙ omega arith)
 
 turned_below : (d cells : ℕ) → d % 4 ≡ 0 → d < 4 * cells → turned d < cells
 turned_below d cells w h = omega (arith, w, h)
@@ -26,7 +33,7 @@ turned_below d cells w h = omega (arith, w, h)
 turned_beyond : (d cells : ℕ) → 4 * cells ≤ d → cells ≤ turned d
 turned_beyond d cells h = omega (arith, h)
 
-turned_past : (d cells : ℕ) → (d % 4 ≡ 0 → ⊥) → cells ≤ 2 ^ 32 → cells ≤ turned d
+turned_past : (d cells : ℕ) → (d % 4 ≡ 0 → ⊥) → cells ≤ 2 ^ 30 → cells ≤ turned d
 turned_past d cells n h = omega (arith, n, h)
 
 -- the distance between two numbers, in 32 bits
@@ -37,6 +44,10 @@ distance_down from to l h = omega (arith, l, h)
 distance_round : (from to : ℕ) → from < to → to < 2 ^ 32 → difference from to ≡ from + 2 ^ 32 - to
 unfolding difference
 distance_round from to l h = omega (arith, l, h)
+
+difference_below : (from to : ℕ) → difference from to < 2 ^ 32
+unfolding difference
+difference_below from to = omega arith
 
 -- the distance from the highest cell, turned, is below the count just for the addresses of the cells
 module _ (last cells a : ℕ) (w : last % 4 ≡ 0) (b : 4 * cells ≤ last + 4) (h : last < 2 ^ 32) (k : a < 2 ^ 32) where
@@ -50,7 +61,7 @@ module _ (last cells a : ℕ) (w : last % 4 ≡ 0) (b : 4 * cells ≤ last + 4) 
       go : (u : Bool) → eqb (a % 4) 0 ≡ u → cells ≤ turned (last + 2 ^ 32 - a)
       go true r = turned_beyond (last + 2 ^ 32 - a) cells (omega (arith, w, b, g, k, eqb-true (a % 4) 0 r))
       go false r =
-          turned_past (last + 2 ^ 32 - a) cells (λ z. eqb-false (a % 4) 0 r (omega (arith, w, g, k, z))) (omega (arith, b, h))
+          turned_past (last + 2 ^ 32 - a) cells (λ z. eqb-false (a % 4) 0 r (omega (arith, w, g, k, z))) (omega (arith, w, b, h))
 
   -- and one below the lowest
   below : a ≤ last → a + 4 * cells < last + 4 → cells ≤ turned (difference last a)
@@ -58,10 +69,10 @@ module _ (last cells a : ℕ) (w : last % 4 ≡ 0) (b : 4 * cells ≤ last + 4) 
     where
       go : (u : Bool) → eqb (a % 4) 0 ≡ u → cells ≤ turned (last - a)
       go true r = turned_beyond (last - a) cells (omega (arith, w, l, g, eqb-true (a % 4) 0 r))
-      go false r = turned_past (last - a) cells (λ z. eqb-false (a % 4) 0 r (omega (arith, w, l, z))) (omega (arith, b, h))
+      go false r = turned_past (last - a) cells (λ z. eqb-false (a % 4) 0 r (omega (arith, w, l, z))) (omega (arith, w, b, h))
 
-  pub rotated_within : ltb (turned (difference last a)) cells ≡ (within (span_at last cells) a && eqb (a % 4) 0)
-  rotated_within = go (leb (last + 4) (a + 4 * cells)) (ltb a (last + 4)) (eqb (a % 4) 0) (leb a last) refl refl refl refl
+  turned_within : ltb (turned (difference last a)) cells ≡ (within (span_at last cells) a && eqb (a % 4) 0)
+  turned_within = go (leb (last + 4) (a + 4 * cells)) (ltb a (last + 4)) (eqb (a % 4) 0) (leb a last) refl refl refl refl
     where
       go : (s t u v : Bool) → leb (last + 4) (a + 4 * cells) ≡ s → ltb a (last + 4) ≡ t → eqb (a % 4) 0 ≡ u → leb a last ≡ v
           → ltb (turned (difference last a)) cells ≡ ((s && t) && u)
@@ -74,12 +85,15 @@ module _ (last cells a : ℕ) (w : last % 4 ≡ 0) (b : 4 * cells ≤ last + 4) 
       go true true false true p q r v =
           rw (distance_down last a (leb-true a last v) h)
           (le-ltb _ _
-          (turned_past (last - a) cells (λ z. eqb-false (a % 4) 0 r (omega (arith, w, leb-true a last v, z))) (omega (arith, b, h))))
+          (turned_past (last - a) cells (λ z. eqb-false (a % 4) 0 r (omega (arith, w, leb-true a last v, z))) (omega (arith, w, b, h))))
       go true true false false p q r v = le-ltb _ _ (above (leb-false a last v))
       go true false u true p q r v = absurd (let l = ltb-false a (last + 4) q in omega (arith, l, leb-true a last v))
       go true false u false p q r v = le-ltb _ _ (above (leb-false a last v))
       go false t u true p q r v = le-ltb _ _ (below (leb-true a last v) (leb-false (last + 4) (a + 4 * cells) p))
       go false t u false p q r v = le-ltb _ _ (above (leb-false a last v))
+
+  pub rotated_within : ltb (rotate_right w32 (difference last a) 2) cells ≡ (within (span_at last cells) a && eqb (a % 4) 0)
+  rotated_within = rw (rotated (difference last a) (difference_below last a)) turned_within
 
 -- the distance from a table's first byte is below its number of bytes just for its bytes
 pub guards_byte : (table : Guarded) (a : ℕ) → table.first.0 + table.bytes ≤ 2 ^ 32 → table.first.0 < 2 ^ 32 → a < 2 ^ 32

@@ -57,8 +57,7 @@ fn is_within(last: Address, cells: CellCount, address: Address) -> bool
     requires { (last.0 % 4 ≡ 0) × (4 * cells.0 ≤ last.0 + 4) }
     ensures { result ≡ (places.within (places.span_at last.0 cells.0) address.0 && eqb (address.0 % 4) 0) }
 {
-    let distance = subtract(last.0, address.0) as usize;
-    distance / 4 + distance % 4 * 0x4000000000000000 < cells.0 as usize
+    subtract(last.0, address.0).rotate_right(2) < cells.0
 }
 
 // Whether a byte lies in the table.
