@@ -8,6 +8,15 @@ use std::process::{Command, Output, Stdio};
 /// A folder for the files of one test.
 pub struct Folder(PathBuf);
 
+/// A test that passes leaves nothing behind: the gate takes no link in the tree. One that fails leaves its files to be looked at.
+impl Drop for Folder {
+    fn drop(&mut self) {
+        if !std::thread::panicking() {
+            let _ = fs::remove_dir_all(&self.0);
+        }
+    }
+}
+
 impl Folder {
     /// An empty one, whatever an earlier run left there.
     pub fn new(test: &str) -> Self {
