@@ -34,7 +34,7 @@ fn ep_of(then: Then, ep: u32) -> u32
 }
 
 // What follows the writes.
-fn settle(ep: u32, a: u32, sp: u32, rp: u32, then: Then) -> Step
+pub fn settle(ep: u32, a: u32, sp: u32, rp: u32, then: Then) -> Step
     ensures { result ≡ commits.settled_of ep a sp rp then }
 {
     Step {
@@ -46,6 +46,21 @@ fn settle(ep: u32, a: u32, sp: u32, rp: u32, then: Then) -> Step
         },
         outcome: outcome_of(then),
     }
+}
+
+// The commit of a request with no store. It needs no more of memory than to read it, and nothing of the machine.
+#[inline]
+#[tactic(auto, using(machine::proofs::CommitLaws::commit_raising), unfolding(machine::specs::Commits::places_of, machine::specs::Commits::stored_of, machine::specs::Commits::commit_of))]
+pub fn commit_none(
+    machine: Machine,
+    memory: &[u8],
+    r: Registers,
+    asked: Result<Request<()>, Fault>,
+) -> Result<Step, Fault>
+    ensures { commits.stepped memory.now (commits.step_of r result) ≡ commits.commit_of machine memory.now r (effects.asked effects.no_store asked) }
+{
+    let Request { sp, rp, then, .. } = asked?;
+    Ok(settle(r.ep, r.a, sp, rp, then))
 }
 
 #[inline]

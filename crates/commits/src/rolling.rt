@@ -14,7 +14,12 @@ use machine::places::check_data_write;
 use machine::{Machine, RollStores};
 
 // The places that ROLL writes, deepest first: the first bad one.
-fn check_roll(machine: Machine, memory: &[u8], top: Address, depth: CellCount) -> Result<(), Fault>
+pub fn check_roll(
+    machine: Machine,
+    memory: &[u8],
+    top: Address,
+    depth: CellCount,
+) -> Result<(), Fault>
     requires depth_bound { top.0 + 4 * depth.0 < 2 ^ 32 }
     requires fits { places.Fits machine (length memory.now) }
     ensures { result ≡ commits.places_of machine (length memory.now) (effects.rolled machine.order memory.now top.0 depth.0) }

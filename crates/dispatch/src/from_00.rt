@@ -8,7 +8,7 @@ ghost use Rattle.instruction.specs.Dispatch as dispatch;
 
 use crate::from_16::execute_from_16;
 use cell::Fault;
-use commits::commit::commit;
+use commits::commit::{commit, commit_none};
 use machine::{Machine, Outcome, Registers, Step};
 use operators::comparison::{equal, greater, less, not_equal, zero_equal, zero_greater, zero_less};
 use stack_order::{minus_rot, rot, swap, tuck};
@@ -34,7 +34,7 @@ pub fn execute_from_00(
         // DUP
         0x01 => commit(machine, memory, r, dup(machine, memory, r)),
         // DROP
-        0x02 => commit(machine, memory, r, drop(machine, memory, r)),
+        0x02 => commit_none(machine, memory, r, drop(machine, memory, r)),
         // SWAP
         0x03 => commit(machine, memory, r, swap(machine, memory, r)),
         // OVER

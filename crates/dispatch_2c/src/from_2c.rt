@@ -7,7 +7,7 @@ ghost use Rattle.machine.specs.Commits as commits;
 ghost use Rattle.instruction.specs.Dispatch as dispatch;
 
 use cell::Fault;
-use commits::commit::commit;
+use commits::commit::{commit, commit_none};
 use dispatch_42::from_42::execute_from_42;
 use instruction::shape::push;
 use machine::{Machine, Registers, Step};
@@ -66,11 +66,11 @@ pub fn execute_from_2c(
         // SP@
         0x3E => commit(machine, memory, r, Ok(push(r, r.sp))),
         // SP!
-        0x3F => commit(machine, memory, r, sp_store(machine, memory, r)),
+        0x3F => commit_none(machine, memory, r, sp_store(machine, memory, r)),
         // RP@
         0x40 => commit(machine, memory, r, Ok(push(r, r.rp))),
         // RP!
-        0x41 => commit(machine, memory, r, rp_store(machine, memory, r)),
+        0x41 => commit_none(machine, memory, r, rp_store(machine, memory, r)),
         _ => execute_from_42(machine, memory, r, opcode),
     }
 }

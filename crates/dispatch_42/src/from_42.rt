@@ -8,7 +8,7 @@ ghost use Rattle.instruction.specs.Dispatch as dispatch;
 
 use crate::looping::execute_loop;
 use cell::Fault;
-use commits::commit::commit;
+use commits::commit::{commit, commit_none};
 use flow::control::{branch, call, execute, exit, fetch_execute, question_branch};
 use flow::halting::{halt, lib};
 use flow::literals::literal;
@@ -31,7 +31,7 @@ pub fn execute_from_42(
         // BRANCH
         0x42 => Ok(onward(
             OperandForm::InCell,
-            commit(
+            commit_none(
                 machine,
                 memory,
                 r,
@@ -41,7 +41,7 @@ pub fn execute_from_42(
         // BRANCHI
         0x43 => Ok(onward(
             OperandForm::Immediate,
-            commit(
+            commit_none(
                 machine,
                 memory,
                 r,
@@ -51,7 +51,7 @@ pub fn execute_from_42(
         // ?BRANCH
         0x44 => Ok(onward(
             OperandForm::InCell,
-            commit(
+            commit_none(
                 machine,
                 memory,
                 r,
@@ -61,7 +61,7 @@ pub fn execute_from_42(
         // ?BRANCHI
         0x45 => Ok(onward(
             OperandForm::Immediate,
-            commit(
+            commit_none(
                 machine,
                 memory,
                 r,
@@ -93,13 +93,13 @@ pub fn execute_from_42(
             )?,
         )),
         // EXIT
-        0x4A => commit(machine, memory, r, exit(machine, memory, r)),
+        0x4A => commit_none(machine, memory, r, exit(machine, memory, r)),
         // (DO)
         0x4B => commit(machine, memory, r, start_loop(machine, memory, r)),
         // (LOOP), (LOOP)I, (+LOOP), (+LOOP)I
         0x4C | 0x4D | 0x4E | 0x4F => execute_loop(machine, memory, r, opcode),
         // UNLOOP
-        0x50 => commit(machine, memory, r, unloop(machine, memory, r)),
+        0x50 => commit_none(machine, memory, r, unloop(machine, memory, r)),
         // J
         0x51 => commit(machine, memory, r, outer_index(machine, memory, r)),
         // (LITERAL)
@@ -130,12 +130,12 @@ pub fn execute_from_42(
                 stores: (),
                 then: Then::Throw,
             };
-            commit(machine, memory, r, Ok(throwing))
+            commit_none(machine, memory, r, Ok(throwing))
         }
         // HALT
-        0x55 => commit(machine, memory, r, halt(machine, memory, r)),
+        0x55 => commit_none(machine, memory, r, halt(machine, memory, r)),
         // LIB
-        0x57 => commit(machine, memory, r, lib(machine, memory, r)),
+        0x57 => commit_none(machine, memory, r, lib(machine, memory, r)),
         // NEXT at FFh, tested here so that the table of jumps ends at 57h; the other opcodes raise -256
         _ => {
             if opcode != 0xFF {
