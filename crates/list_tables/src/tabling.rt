@@ -40,7 +40,8 @@ pub fn tabulate(kinds: &[u8], operands: &[u32], placed: &[PlacedItem], table: &m
 {
     for i in 0..kinds.len() {
         let item = placed[i];
-        let form = form_of(class_of(kinds[i]), item.marked, operands[i], item.left);
+        let left = item.left as u32;
+        let form = form_of(class_of(kinds[i]), item.marked, operands[i], left);
         let extra = extra_of(form);
         let behind = item.next.0 + extra.0;
         table[i] = ItemRow {

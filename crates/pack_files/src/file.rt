@@ -23,7 +23,8 @@ fn judge_header(order: u8, file: &[u8]) -> Result<(), Refusal>
     Ok(())
 }
 
-// The operands, in front of an array of as many as a file may have.
+// The operands, in front of an array of as many as a file may have. What it needs of the stack goes before they are packed.
+#[inline(never)]
 fn operands_of(file: &[u8]) -> [u32; MOST_ITEMS]
     requires { files.Header file.now }
     ensures { (4096 ≡ length result) × (take (file_count file.now) result ≡ file_operands file.now) }
@@ -34,6 +35,8 @@ fn operands_of(file: &[u8]) -> [u32; MOST_ITEMS]
     operands
 }
 
+// Neither this nor its judgement is laid into a caller, where the operands of both would lie side by side.
+#[inline(never)]
 #[tactic(auto, using(crate::proofs::Filing::header_good, crate::proofs::Filing::pack_file_refused))]
 pub fn pack_file(order: u8, file: &[u8], output: &mut [u8]) -> Result<CellCount, Refusal>
     ensures { answers.packed_to output.new result ≡ files.pack_file_of order file.now output.old }
@@ -47,6 +50,7 @@ pub fn pack_file(order: u8, file: &[u8], output: &mut [u8]) -> Result<CellCount,
 }
 
 // A packing of a file into an output of some size.
+#[inline(never)]
 #[tactic(auto, using(crate::proofs::Filing::header_good, crate::proofs::Filing::header_refused))]
 pub fn judge_pack_file(order: u8, file: &[u8], size: usize) -> Result<(), Refusal>
     ensures { result ≡ files.judge_pack_file order file.now size }

@@ -156,12 +156,12 @@ module _ (order base : ℕ) (l : Listing) (placed : List PlacedItem) (o : List �
             ap (λ (a : ℕ). from order a (cells p l.kind (value base l) (l.count - suc j) (suc j)) o (drop (4 * image_cells l) o)) (next_after p j)
 
     -- what the code reads at the item
-    form_is : form_of (class_of (l.kind j)) item.marked (l.operand j) item.left ≡ form_at p j
+    pub form_is : form_of (class_of (l.kind j)) item.marked (l.operand j) item.left ≡ form_at p j
     unfolding marked_in
     form_is =
         rw (source.laid.left j h) (ap (λ (m : ℕ → Bool). form_of (class_of (l.kind j)) (m j) (l.operand j) (left p j)) source.marked)
 
-    value_is : (g : ItemForm) → g ≡ form_at p j
+    pub value_is : (g : ItemForm) → g ≡ form_at p j
         → value_of (class_of (l.kind j)) g (l.operand j) item.next.0
         (if (is_branch (class_of (l.kind j))) (placed_at placed (l.operand j)).at.0 0) base
         ≡ value base l j
@@ -176,7 +176,7 @@ module _ (order base : ℕ) (l : Listing) (placed : List PlacedItem) (o : List �
     left_low : item.left ≤ 3
     left_low = rw (source.laid.left j h) (left_le p j)
 
-    target_inside : is_branch (class_of (l.kind j)) ≡ true
+    pub target_inside : is_branch (class_of (l.kind j)) ≡ true
         → (l.operand j < length placed) × ((placed_at placed (l.operand j)).at.0 ≤ 8192)
     target_inside q =
         let k = target_below l source.ok j h (is_branch_lem (class_of (l.kind j)) q) in (
@@ -185,19 +185,19 @@ module _ (order base : ℕ) (l : Listing) (placed : List PlacedItem) (o : List �
               (omega (arith, at_before p (l.operand j), reach p (l.operand j) l.count k, at_most p l.count, few)),
         )
 
-    open_room : (item.at.0 ≤ 8192) × (4 * (item.at.0 + bit (eqb item.left 3)) ≤ length out)
+    pub open_room : (item.at.0 ≤ 8192) × (4 * (item.at.0 + bit (eqb item.left 3)) ≤ length out)
     open_room = (
       omega (arith, source.laid.at j h, at_before p j, ends_inside, at_most p l.count, few),
       omega (arith, source.laid.at j h, at_before p j, ends_inside, t.size, source.room, bit_most (eqb item.left 3)),
     )
 
     module _ (g : ItemForm) (form : g ≡ form_of (class_of (l.kind j)) item.marked (l.operand j) item.left) where
-      operand_room : (item.next.0 ≤ 8192) × (4 * (item.next.0 + extra g) ≤ length out)
+      pub operand_room : (item.next.0 ≤ 8192) × (4 * (item.next.0 + extra g) ≤ length out)
       operand_room =
           rw (source.laid.next j h, form, form_is)
           (omega (arith, ends_inside, at_most p l.count, few), omega (arith, ends_inside, t.size, source.room))
 
-      write_step : (v w r : ℕ) (out1 out2 : List ℕ)
+      pub write_step : (v w r : ℕ) (out1 out2 : List ℕ)
           → v ≡ value_of (class_of (l.kind j)) g (l.operand j) item.next.0
           (if (is_branch (class_of (l.kind j))) (placed_at placed (l.operand j)).at.0 0) base
           → w ≡ pack (byte_of g (l.kind j)) (above g false v rest) → r ≡ if (eqb item.left 3) 0 w

@@ -113,7 +113,7 @@ fn pack_item(kind: u8, x: u32, item: PlacedItem, placed: &[PlacedItem], base: Ad
     ensures { (result.form ≡ form_of (class_of kind) item.marked x item.left) × (result.value ≡ value_of (class_of kind) result.form x item.next.0 (if (is_branch (class_of kind)) (placed_at placed.now x).at.0 0) base.0) }
 {
     let c = class_of(kind);
-    let g = form_of(c, item.marked, x, item.left);
+    let g = form_of(c, item.marked, x, item.left as u32);
     let to = target_of(kind, x, placed);
     let v = value_of(c, g, x, item.next, to, base);
     PackedItem { form: g, value: v }

@@ -14,7 +14,7 @@ use lib.ListN.{length, get_or, set, length-set}
 use lib.Seq.{get_or-set_same, get_or-set_other}
 use Rattle.pack_layout.specs.declared.PlacedItem.{PlacedItem}
 use Rattle.pack_layout.specs.Kinds.{is_branch, class_of}
-use Rattle.pack_layout.specs.Placed.{unplaced, placed_at, Entered}
+use Rattle.pack_layout.specs.Placed.{unplaced, placed_at, Entered, with_entry, EntriesAlone}
 use Rattle.pack_layout.specs.Listing.{Listing, listed, any, targets, after_call, Checked}
 use Rattle.pack_layout.proofs.Listing.{is_branch_lem, target_below}
 
@@ -60,6 +60,15 @@ module _ (R : ℕ → PlacedItem → PlacedItem → Type 0) (before : List Place
           done = split placed t.done (rw pass_here r);
           rest = λ j k. t.rest j (omega arith);
         }
+
+-- an entry written leaves the rest of each item
+pub entry_alone : (b s : List PlacedItem) (i : ℕ) (v : PlacedItem) → i < length s
+    → with_entry false v ≡ with_entry false (placed_at s i) → EntriesAlone b s → EntriesAlone b (set s i v)
+entry_alone b s i v h w f j = go (ℕ_discrete j i)
+  where
+    go : Dec (j ≡ i) → with_entry false (placed_at (set s i v) j) ≡ with_entry false (placed_at b j)
+    go (yes e) = rw e (ap (with_entry false) (get_or-set_same s i v unplaced h) ∙ w ∙ f i)
+    go (no e) = ap (with_entry false) (get_or-set_other s i j v unplaced e) ∙ f j
 
 -- the target of a branch is an item
 pub target_inside : (kinds operands : List ℕ) (j : ℕ) → Checked kinds operands → j < length kinds

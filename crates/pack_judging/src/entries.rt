@@ -1,7 +1,7 @@
 // The entries of a listing.
 ghost use Rattle.std.specs.Prelude.{◌≡◌, ◌<◌, length, get_or};
 ghost use Rattle.pack_layout.specs.Kinds.{class_of, is_branch};
-ghost use Rattle.pack_layout.specs.Placed.{Entered};
+ghost use Rattle.pack_layout.specs.Placed.{Entered, EntriesAlone};
 ghost use Rattle.pack_layout.specs.Listing.{listed, calls, after_call, entry, Checked};
 
 use crate::kinds::class_of;
@@ -23,7 +23,8 @@ pub fn is_branch(kind: u8) -> bool
 // Item 0, and each item after a call.
 fn after_calls(kinds: &[u8], placed: &mut [PlacedItem])
     requires { (0 < length kinds.now) × (length placed.old ≡ length kinds.now) }
-    ensures { Entered placed.new (after_call (λ i. get_or kinds.now i 0)) (length kinds.now) }
+    ensures entered { Entered placed.new (after_call (λ i. get_or kinds.now i 0)) (length kinds.now) }
+    ensures rest { EntriesAlone placed.old placed.new }
 {
     let n = kinds.len();
     placed[0].entry = true;
@@ -37,7 +38,8 @@ fn after_calls(kinds: &[u8], placed: &mut [PlacedItem])
 fn add_targets(kinds: &[u8], operands: &[u32], placed: &mut [PlacedItem])
     requires checked { Checked kinds.now operands.now }
     requires placed_len { (length placed.old ≡ length kinds.now) × Entered placed.old (after_call (λ i. get_or kinds.now i 0)) (length kinds.now) }
-    ensures { Entered placed.new (entry (listed kinds.now operands.now)) (length kinds.now) }
+    ensures entered { Entered placed.new (entry (listed kinds.now operands.now)) (length kinds.now) }
+    ensures rest { EntriesAlone placed.old placed.new }
 {
     let n = kinds.len();
     for j in 0..n {
@@ -53,7 +55,8 @@ fn add_targets(kinds: &[u8], operands: &[u32], placed: &mut [PlacedItem])
 pub fn find_entries(kinds: &[u8], operands: &[u32], placed: &mut [PlacedItem])
     requires checked { Checked kinds.now operands.now }
     requires placed_len { length placed.old ≡ length kinds.now }
-    ensures { Entered placed.new (entry (listed kinds.now operands.now)) (length kinds.now) }
+    ensures entered { Entered placed.new (entry (listed kinds.now operands.now)) (length kinds.now) }
+    ensures rest { EntriesAlone placed.old placed.new }
 {
     after_calls(kinds, placed);
     add_targets(kinds, operands, placed);

@@ -21,3 +21,11 @@ marked_in placed i = (placed_at placed i).marked
 -- an item with its mark written, and the rest as it was
 abbrev pub with_mark : Bool → PlacedItem → PlacedItem
 with_mark mark item = record { at = item.at; next = item.next; left = item.left; entry = item.entry; marked = mark }
+
+-- an item with what says that it is an entry written, and the rest as it was
+abbrev pub with_entry : Bool → PlacedItem → PlacedItem
+with_entry opens item = record { at = item.at; next = item.next; left = item.left; entry = opens; marked = item.marked }
+
+-- of each item all but what says that it is an entry is as before
+abbrev pub EntriesAlone : List PlacedItem → List PlacedItem → Type 0
+EntriesAlone before after = (j : ℕ) → with_entry false (placed_at after j) ≡ with_entry false (placed_at before j)

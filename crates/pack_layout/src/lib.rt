@@ -39,7 +39,7 @@ pub enum Class {
 pub struct PlacedItem {
     pub at: CellCount,
     pub next: CellCount,
-    pub left: u32,
+    pub left: u8,
     pub entry: bool,
     pub marked: bool,
 }

@@ -23,7 +23,8 @@ pub fn prepare(kinds: &[u8], operands: &[u32], placed: &mut [PlacedItem]) -> Cel
     settle_marks(kinds, operands, placed)
 }
 
-// The number of cells of the image.
+// The number of cells of the image. Its working array goes with it before `pack` has its own: neither is laid into a caller, which would hold both.
+#[inline(never)]
 pub fn count_cells(kinds: &[u8], operands: &[u32]) -> CellCount
     requires { Checked kinds.now operands.now }
     ensures { result ≡ cell_count (image_cells (listed kinds.now operands.now)) }

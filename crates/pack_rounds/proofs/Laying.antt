@@ -62,7 +62,7 @@ module _ (l : Listing) (before placed : List PlacedItem) (c : Spot) (i : ℕ) (t
     item = placed_at placed i
 
     module _ (d : Cursor) (s : spot_of d ≡ begin (fresh c.free item.entry) c) where
-      mid_is : spot_of d ≡ mid p i
+      pub mid_is : spot_of d ≡ mid p i
       mid_is = s ∙ rw (t.item, pass_here _ before l.count placed i t.pass h, t.entered i h)
 
       pub lay_left : d.free - 1 ≤ 3
@@ -72,7 +72,7 @@ module _ (l : Listing) (before placed : List PlacedItem) (c : Spot) (i : ℕ) (t
       lay_more =
           (omega (arith, ap (λ (x : Spot). x.free) mid_is, mid_free p i), omega (arith, ap (λ (x : Spot). x.next) mid_is, mid_most p i, t.few))
 
-      next_is : (k : Class) (g : ItemForm) (r : Spot) → k ≡ class_of (l.kind i) → g ≡ form_of k item.marked (l.operand i) (d.free - 1)
+      pub next_is : (k : Class) (g : ItemForm) (r : Spot) → k ≡ class_of (l.kind i) → g ≡ form_of k item.marked (l.operand i) (d.free - 1)
           → r ≡ finish g (d.free - 1) (spot_of d) → r ≡ cur p (i + 1)
       unfolding cur marked_in
       next_is k g r y w z =

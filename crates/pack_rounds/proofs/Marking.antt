@@ -42,7 +42,7 @@ module _ (l : Listing) (ok : judged_listing l ≡ passed) (m : ℕ → Bool) (pl
   pub left_small : item.left ≤ 3
   left_small = rw (laid.left i h) (left_le (plan l m) i)
 
-  new_at : tested (m i) ≡ new l m i
+  pub new_at : tested (m i) ≡ new l m i
   new_at =
       rw (laid.left i h, laid.next i h)
       (new_same (class_of (l.kind i)) _ _ _

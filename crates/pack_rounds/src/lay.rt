@@ -35,7 +35,7 @@ pub fn lay_out(kinds: &[u8], operands: &[u32], placed: &mut [PlacedItem]) -> Cel
         let g = form_of(class_of(kinds[i]), item.marked, operands[i], f);
         item.at = d.at;
         item.next = d.next;
-        item.left = f;
+        item.left = f as u8;
         c = finished(d, g);
     }
     c.next

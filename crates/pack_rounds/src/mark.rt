@@ -32,13 +32,14 @@ fn newly(kind: u8, x: u32, item: PlacedItem, placed: &[PlacedItem]) -> bool
         Class::Plain => false,
         Class::Literal => false,
         Class::Branch => {
-            let g = taken(item.marked, item.left);
+            let left = item.left as u32;
+            let g = taken(item.marked, left);
             match g {
                 // never reached: `taken` gives one of the other two
                 ItemForm::Alone => false,
                 ItemForm::Immediate => {
                     let to = place_of(placed, ItemNumber(x));
-                    let fit = fits_in(item.left, distance_of(item.next, to));
+                    let fit = fits_in(left, distance_of(item.next, to));
                     !fit
                 }
                 ItemForm::InCell => false,

@@ -31,6 +31,7 @@ fn pack_checked(
     Ok(cells)
 }
 
+#[inline(never)]
 #[tactic(auto, using(pack_prepare::proofs::Checking::items_most, pack_refusals::proofs::Judging::input_checked, crate::proofs::Answering::pack_refused, crate::proofs::Answering::pack_packed))]
 pub fn pack(
     order: u8,
