@@ -1,6 +1,7 @@
 // What the calls tell in `out`.
 ghost use Rattle.std.specs.Prelude.{◌≡◌, ◌≤◌, length};
 ghost use Rattle.calls.specs.Modules as modules;
+ghost use Rattle.calls.specs.Listings as listings;
 
 use cell::judgement::answer_number;
 use cell::{CellCount, Refusal};
@@ -23,4 +24,12 @@ pub fn note_cells(answer: Result<CellCount, Refusal>, out: &mut [u32]) -> u32
     ensures { modules.noted out.new result ≡ modules.load_noted out.old answer }
 {
     note_count(answer.map(|l| l.0), out)
+}
+
+// The same of a packing.
+pub fn note_packed(answer: Result<CellCount, Refusal>, out: &mut [u32]) -> u32
+    requires { 1 ≤ length out.old }
+    ensures { modules.noted out.new result ≡ listings.pack_noted out.old answer }
+{
+    note_cells(answer, out)
 }

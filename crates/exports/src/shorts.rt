@@ -3,7 +3,7 @@ ghost use Rattle.std.specs.Prelude.{◌≡◌};
 ghost use Rattle.calls.specs.Modules as modules;
 ghost use Rattle.short_calls.specs.Shorts as shorts;
 
-use calls::notes::note_cells;
+use calls::notes::note_packed;
 use lengthening::{judge_lengthen, lengthen};
 use lent_arrays::lending::no_place;
 use short_calls::notes::note_converted;
@@ -42,5 +42,5 @@ pub extern "C" fn beetle_pack_short(
     if out.len() < 1 {
         return no_place(judge_pack_short(order, file, output.len()));
     }
-    note_cells(pack_short(order, file, output), out)
+    note_packed(pack_short(order, file, output), out)
 }

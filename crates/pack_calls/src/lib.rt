@@ -5,7 +5,7 @@ ghost use Rattle.std.specs.Prelude.{◌≡◌};
 ghost use Rattle.calls.specs.Modules as modules;
 ghost use Rattle.calls.specs.Listings as listings;
 
-use calls::notes::note_cells;
+use calls::notes::note_packed;
 use cell::Address;
 use lent_arrays::lending::with_room;
 use pack_files::file::{judge_pack_file, pack_file};
@@ -25,7 +25,7 @@ pub fn call_pack(
     let judged = judge_pack(order, kinds, operands, Address(base), output.len());
     match with_room(judged, out.len(), 1) {
         Err(r) => u32::from(r),
-        Ok(()) => note_cells(pack(order, kinds, operands, Address(base), output), out),
+        Ok(()) => note_packed(pack(order, kinds, operands, Address(base), output), out),
     }
 }
 
@@ -35,6 +35,6 @@ pub fn call_pack_file(order: u8, file: &[u8], output: &mut [u8], out: &mut [u32]
     let judged = judge_pack_file(order, file, output.len());
     match with_room(judged, out.len(), 1) {
         Err(r) => u32::from(r),
-        Ok(()) => note_cells(pack_file(order, file, output), out),
+        Ok(()) => note_packed(pack_file(order, file, output), out),
     }
 }
